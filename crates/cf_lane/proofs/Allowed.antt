@@ -14,7 +14,7 @@ use Rattle.cf_dnptrans.specs.declared.assembly.SegmentAnswer.{SegmentAnswer}
 use Rattle.cf_dnplink.specs.UserOctets.{user_of}
 use Rattle.cf_lane.proofs.Commands.{admits_what_is_allowed, from_allowed, never_carried, to_allowed}
 use Rattle.cf_lane.specs.Acts.{act_of_code, by_refusal, fate_of_acts, used_by}
-use Rattle.cf_lane.specs.Dnp3.{answer_now, fate_of_frame, fate_of_fragment, fate_of_read, fate_of_segment, fate_of_whole, fragment_frames, fragment_in, frame_output, is_data, is_none, segments_of, stray_of, whole_now}
+use Rattle.cf_lane.specs.Dnp3.{answer_now, fate_of_frame, fate_of_fragment, fate_of_read, fate_of_segment, fragment_frames, fragment_in, frame_output, is_data, is_none, segments_of, stray_of, whole_now}
 use Rattle.cf_lane.specs.Fate.{HasItemFate, HaveFates}
 use Rattle.cf_lane.specs.Iec104.{ack_octets, ack_output, apdu_output, asdu_in, asdu_refused, fate_by_form, fate_of_apdu, fate_of_asdu, or_cut, stamped}
 use Rattle.cf_lane.specs.Item.{Item, Took}
@@ -32,7 +32,7 @@ use Rattle.cf_policy.specs.declared.Asset.{Asset}
 use Rattle.cf_policy.specs.declared.Decider.{Decider}
 use Rattle.cf_renumber.specs.Counts.{admitted_stamp, owed_ack}
 use Rattle.cf_view.specs.declared.Reason.{Reason}
-use Rattle.std.proofs.Common.{Bool, Err, List, None, Ok, Option, Some, [], ap, arith, false, inl, inr, length, refl, subst, sym, true, ℕ, ◌++◌, ◌∙◌, ◌∷◌, ◌≡◌, ◌⊎◌}
+use Rattle.std.proofs.Common.{Bool, Err, List, None, Ok, Option, Some, [], ap, arith, false, inl, inr, length, refl, subst, sym, true, ℕ, ◌++◌, ◌∙◌, ◌∷◌, ◌≡◌}
 use Rattle.std.proofs.lemmas.Bool.{cond_both, eq-eqb, eqb-true, ltb-false, ltb-true}
 use Rattle.std.proofs.lemmas.List.{append-nil}
 use Rattle.std.specs.List.{flat_map}
@@ -113,16 +113,10 @@ module _ (asset : Asset) (says : Says) where
     one_ack receive None = (more, refl, r)
     one_ack receive (Some because) = (more, refl, r)
 
-    one_apdu : (a : ApduValue) (f : Fate) → f ≡ fate_of_apdu asset says side.Client earlier a → ApduGoes asset says earlier a Rest (apdu_output side.Controller earlier f side.Client a ++ more)
-    one_apdu (Info send receive asdu) f is =
-        subst (λ f. ApduGoes asset says earlier (Info send receive asdu) Rest (apdu_output side.Controller earlier f side.Client (Info send receive asdu) ++ more)) (sym is)
-        (one_info earlier receive asdu more Rest r (info_cut side.Client earlier send receive))
-    one_apdu (Ack receive) f is =
-        subst (λ f. ApduGoes asset says earlier (Ack receive) Rest (apdu_output side.Controller earlier f side.Client (Ack receive) ++ more)) (sym is)
-        (one_ack receive (ack_cut side.Client earlier receive))
-    one_apdu (Control octet) f is =
-        subst (λ f. ApduGoes asset says earlier (Control octet) Rest (apdu_output side.Controller earlier f side.Client (Control octet) ++ more)) (sym is)
-        (more, refl, r)
+    one_apdu : (a : ApduValue) → ApduGoes asset says earlier a Rest (apdu_output side.Controller earlier (fate_of_apdu asset says side.Client earlier a) side.Client a ++ more)
+    one_apdu (Info send receive asdu) = one_info earlier receive asdu more Rest r (info_cut side.Client earlier send receive)
+    one_apdu (Ack receive) = one_ack receive (ack_cut side.Client earlier receive)
+    one_apdu (Control octet) = (more, refl, r)
 
     -- DNP3
     abbrev frames : List ℕ → List ℕ
@@ -130,10 +124,6 @@ module _ (asset : Asset) (says : Says) where
 
     abbrev out : Fate → List (List ℕ) → List ℕ
     out f whole = flat_map frames (if goes_on f then whole else [])
-
-    -- nothing goes on of what does not go
-    no_frames : (whole : List (List ℕ)) (f : Fate) → goes_on f ≡ false → out f whole ≡ []
-    no_frames whole f e = ap (λ (b : Bool). flat_map frames (if b then whole else [])) e
 
     by_fragment_acts : (octets : List ℕ) (v : FragmentValue) → read_octets octets ≡ Ok v → (used : List Bool) (x : Option Refusal) → (is_admitted (by_refusal used x) ≡ true → AreAllowed says (fragments.acts v)) →
         (AreAllowed says (fragments.acts v) → is_admitted (by_refusal used x) ≡ true) →
@@ -163,18 +153,9 @@ module _ (asset : Asset) (says : Says) where
     by_short octets true = (more, refl, r)
     by_short octets false = by_read octets (slice_index octets 1) (read_octets octets) refl
 
-    by_whole : (whole : List (List ℕ)) → ((whole ≡ []) ⊎ ((octets : List ℕ) × (whole ≡ octets ∷ []))) →
-        WholeGoes whole asset says earlier Rest (out (fate_of_whole asset says side.Client whole) whole ++ more)
-    by_whole whole (inl none) =
-        subst (λ whole. WholeGoes whole asset says earlier Rest (out (fate_of_whole asset says side.Client whole) whole ++ more)) (sym none) (more, refl, r)
-    by_whole whole (inr one) =
-        subst (λ whole. WholeGoes whole asset says earlier Rest (out (fate_of_whole asset says side.Client whole) whole ++ more)) (sym one.1)
-        (by_short one.0 (nat_lt (length one.0) 2))
-
     by_segment : (answer : SegmentAnswer) (last : Option (List ℕ)) →
         WholeGoes (completed answer last) asset says earlier Rest (out (fate_of_segment asset says side.Client answer (completed answer last)) (completed answer last) ++ more)
-    by_segment answers.Whole None = by_whole [] (inl refl)
-    by_segment answers.Whole (Some octets) = by_whole (octets ∷ []) (inr (octets, refl))
+    by_segment answers.Whole (Some octets) = by_short octets (nat_lt (length octets) 2)
     by_segment answer last = (more, refl, r)
 
     module _ (x : FrameValue) where
@@ -210,7 +191,8 @@ module _ (asset : Asset) (says : Says) where
       ItemGoes asset says earlier i Rest (item_output asset side.Controller earlier j i ++ more)
   one_item earlier j (Took side.Client (Adu a)) more Rest is has r = one_command a j.fate more Rest has r
   one_item earlier j (Took side.Client (Frame x)) more Rest is has r = one_frame earlier more Rest r x j is has
-  one_item earlier j (Took side.Client (Apdu a)) more Rest is has r = one_apdu earlier more Rest r a j.fate has
+  one_item earlier j (Took side.Client (Apdu a)) more Rest is has r =
+      subst (λ f. ApduGoes asset says earlier a Rest (apdu_output side.Controller earlier f side.Client a ++ more)) (sym has) (one_apdu earlier more Rest r a)
   one_item earlier j (Took side.Controller (Frame x)) more Rest is has r =
       let none : item_output asset side.Controller earlier j (Took side.Controller (Frame x)) ≡ [] =
       ap (λ i. if is_data x then flat_map (fragment_frames asset side.Controller earlier) (fragment_in asset side.Controller earlier j i) else []) is ∙ nothing_put (fragment_frames asset side.Controller earlier) (is_data x) in

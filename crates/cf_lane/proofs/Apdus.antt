@@ -6,27 +6,26 @@ use Rattle.cf_lane.specs.Rings.{IsRulesOf, RulesGoOn, says_by}
 use Rattle.cf_apci.specs.Apdu.{ApduValue, SpellsApdu, spelling}
 use Rattle.cf_audit.specs.declared.line.CutReason.{CutReason}
 use Rattle.cf_lane.proofs.Earlier.{cut_of-append, events_of-more, first_none}
-use Rattle.cf_lane.proofs.Handling.{count-more, ended-more}
+use Rattle.cf_lane.proofs.Handling.{unit_handled}
 use Rattle.cf_lane.proofs.Taking.{grows_more}
 use Rattle.cf_lane.proofs.Units.{apdus, begins_by}
-use Rattle.cf_lane.specs.Handled.{Does, FrontsOf, Grows, Handled, Knows, MissesOf, Outlets, State, judged, lane_at, letters_in, outlets, state, step_by}
+use Rattle.cf_lane.specs.Handled.{FrontsOf, Grows, Handled, MissesOf, Outlets, State, judged, lane_at, letters_in, outlets, state, step_by}
 use Rattle.cf_lane.specs.Iec104.{apdu_output, fate_of_apdu}
 use Rattle.cf_lane.specs.Item.{Took}
-use Rattle.cf_lane.specs.Judged.{Judged, fate_cut, cut_of, is_admitted, is_refused, one_if}
+use Rattle.cf_lane.specs.Judged.{Judged, fate_cut, is_admitted, is_refused, one_if}
 use Rattle.cf_lane.specs.Kept.{KnowsWire}
-use Rattle.cf_lane.specs.Log.{unit_lines, is_some_bytes, with_lines}
-use Rattle.cf_lane.specs.Numbers.{events_of}
+use Rattle.cf_lane.specs.Log.{unit_lines, is_some_bytes}
 use Rattle.cf_lane.specs.Renumbered.{MissesApdu, Numbered, TakesApdu, numbered, unless_cut, unless_cut_by}
 use Rattle.cf_lane.specs.Unit.{Apdu}
 use Rattle.cf_lane.specs.declared.fate.Fate.{Fate}
 use Rattle.cf_lane.specs.declared.rules.Rules.{Rules}
-use Rattle.cf_outq.specs.SendQueue.{Queue, after_push}
+use Rattle.cf_outq.specs.SendQueue.{Queue}
 use Rattle.cf_policy.specs.declared.Asset.{Asset}
 use Rattle.cf_renumber.specs.Numbers.{IsNumbersOf, NumbersValue}
 use Rattle.cf_view.specs.Framing.{Begins}
 use Rattle.cf_view.specs.declared.Endpoint.{Endpoint}
 use Rattle.cf_view.specs.declared.Side.{Side}
-use Rattle.std.proofs.Common.{List, None, Option, Some, [], ap, arith, length, refl, subst, sym, take, ℕ, ◌*◌, ◌++◌, ◌+◌, ◌<◌, ◌∙◌, ◌∷◌, ◌≡◌, ◌≤◌}
+use Rattle.std.proofs.Common.{List, None, Option, Some, [], ap, arith, length, refl, subst, sym, ℕ, ◌*◌, ◌++◌, ◌+◌, ◌<◌, ◌∙◌, ◌∷◌, ◌≡◌, ◌≤◌}
 use Rattle.std.proofs.lemmas.List.{append-nil, length-take}
 use Rattle.cf_lane.specs.declared.wire.Wire.TheVariants as wire
 use Rattle.cf_policy.specs.declared.Protocol.TheVariants as protocol
@@ -42,41 +41,25 @@ module _ (asset : Asset) (moment : ℕ) (s : Side) (a : ApduValue) (f : Fate) (o
     (admitted : new.lane.admitted ≡ old.lane.admitted + one_if (is_admitted f)) (refused : new.lane.refused ≡ old.lane.refused + one_if (is_refused f))
     (of : IsRulesOf asset old.lane.client.address old.lane.rules) (rules : RulesGoOn f moment old.lane.rules new.lane.rules)
     (takes : TakesApdu asset (says_by asset old.lane.client.address old.lane.rules moment) old.lane.client moment s a f (numbers_of before old) (numbers_of after new)) where
-  apdu_does : (earlier : List Judged) → cut_of earlier ≡ None → Knows asset old earlier → Does asset earlier (judged moment (Took s (Apdu a)) f ∷ []) old new
-  apdu_does earlier uncut knows =
-      let j : Judged = judged moment (Took s (Apdu a)) f in
-      let known : IsNumbersOf before (events_of earlier) = subst (λ w. KnowsWire asset w earlier) was (knows.wire uncut) in
-      let does = takes earlier known knows.client_ended in
-      let nil = λ (to : Side). sym (append-nil (apdu_output to earlier f s a)) in
-      let text = unit_lines asset old.lane.client moment (is_some_bytes (apdu_output side.Client earlier f s a)) s (spelling a) f in
-      record {
-        knows = record {
-          admitted = admitted ∙ ap (λ n. n + one_if (is_admitted f)) knows.admitted ∙ sym (count-more (λ i. is_admitted i.fate) earlier j);
-          refused = refused ∙ ap (λ n. n + one_if (is_refused f)) knows.refused ∙ sym (count-more (λ i. is_refused i.fate) earlier j);
-          client_ended = ap (λ (q : Queue). q.ended) does.of_client ∙ knows.client_ended ∙ sym (ended-more side.Controller earlier j refl);
-          controller_ended = ap (λ (q : Queue). q.ended) does.of_controller ∙ knows.controller_ended ∙ sym (ended-more side.Client earlier j refl);
-          rules = rules.know earlier j refl refl knows.rules;
-          wire = λ goes. subst (λ w. KnowsWire asset w (earlier ++ j ∷ [])) (sym is)
-              (subst (IsNumbersOf after) (sym (events_of-more earlier j)) (does.numbers ((first_none (fate_cut f) None (sym (cut_of-append earlier (j ∷ []) uncut) ∙ goes)).0)));
-        };
-        fates = (subst (λ (says : Says). f ≡ fate_of_apdu asset says s earlier a) (says_same asset old.lane.client.address old.lane.rules earlier moment of knows.rules) does.fate, tt);
-        of_client = does.of_client ∙ ap (after_push old.to_client) (nil side.Client);
-        of_controller = does.of_controller ∙ ap (after_push old.to_controller) (nil side.Controller);
-        of_lines = does.of_lines ∙ ap (with_lines old.lines) (sym (append-nil text));
-        client_quiet = λ e. sym (nil side.Client) ∙ does.client_quiet e;
-        controller_quiet = λ e. sym (nil side.Controller) ∙ does.controller_quiet e;
-      }
-
   -- one APDU was handled
   pub apdu_handled : Handled asset (judged moment (Took s (Apdu a)) f ∷ []) old new
-  apdu_handled = record { client = client; does = apdu_does }
+  apdu_handled = unit_handled asset moment s (Apdu a) f old new client admitted refused rules (λ earlier uncut knows.
+      (let j : Judged = judged moment (Took s (Apdu a)) f in
+      let does = takes earlier (subst (λ w. KnowsWire asset w earlier) was (knows.wire uncut)) knows.client_ended in
+      record {
+        fate = subst (λ (says : Says). f ≡ fate_of_apdu asset says s earlier a) (says_same asset old.lane.client.address old.lane.rules earlier moment of knows.rules) does.fate;
+        of_client = does.of_client;
+        of_controller = does.of_controller;
+        of_lines = does.of_lines;
+        client_quiet = does.client_quiet;
+        controller_quiet = does.controller_quiet;
+        wire = λ goes. subst (λ w. KnowsWire asset w (earlier ++ j ∷ [])) (sym is)
+            (subst (IsNumbersOf after) (sym (events_of-more earlier j)) (does.numbers ((first_none (fate_cut f) None (sym (cut_of-append earlier (j ∷ []) uncut) ∙ goes)).0)));
+      }))
 
 module _ (bytes : List ℕ) (a : ApduValue) (n : ℕ) (begins : Begins SpellsApdu bytes a n) where
-  apdu_octets_is : spelling a ≡ take n bytes
-  apdu_octets_is = sym begins.spells.spelled
-
   pub apdu_length : length (spelling a) ≡ n
-  apdu_length = ap length apdu_octets_is ∙ omega (arith, length-take n bytes, begins.inside)
+  apdu_length = ap length (sym begins.spells.spelled) ∙ omega (arith, length-take n bytes, begins.inside)
 
   pub apdu_some : 0 < n
   apdu_some = omega (arith, apdu_length)

@@ -31,6 +31,4 @@ module _ (asset : Asset) (says : Says) (octets : List ℕ) (long : 9 ≤ length 
   -- where none is, its form is refused
   pub fate_of_unread : (refusal : AsduRefusal) → Reads (Err refusal) octets → asdu_refused decider.Form (refusal_reason refusal) octets 0 ≡ fate_of_asdu asset says octets
   fate_of_unread refusals.Short reads = absurd (omega (arith, reads, long))
-  fate_of_unread refusals.Kind reads = by_test reads.0 refusals.Kind reads.1.0 reads.1.2
-  fate_of_unread refusals.Shape reads = by_test reads.0 refusals.Shape reads.1.0 reads.1.2
-  fate_of_unread refusals.Cause reads = by_test reads.0 refusals.Cause reads.1.0 reads.1.2
+  fate_of_unread refusal reads = by_test reads.0 refusal reads.1.0 reads.1.2

@@ -5,7 +5,7 @@ use Rattle.cf_dnptrans.specs.Transport.{added, answer_of, answer_to, continued, 
 use Rattle.cf_dnptrans.specs.declared.assembly.SegmentAnswer.{SegmentAnswer}
 use Rattle.cf_lane.specs.Kept.{owed_octets}
 use Rattle.std.proofs.Common.{Bool, List, None, Option, Some, [], ap, arith, drop, false, inl, inr, length, refl, sym, true, ℕ, ◌*◌, ◌++◌, ◌+◌, ◌%◌, ◌-◌, ◌/◌, ◌<◌, ◌==◌, ◌∙◌, ◌∷◌, ◌≡◌, ◌≤◌}
-use Rattle.std.proofs.lemmas.Bool.{cases_Bool}
+use Rattle.std.proofs.lemmas.Bool.{cases_Bool, cond_both}
 use Rattle.std.proofs.lemmas.List.{length-append, length-drop}
 use Rattle.std.specs.Prelude.{if◌then◌else◌, nat_le}
 use Rattle.cf_dnptrans.specs.declared.assembly.SegmentAnswer.TheVariants as answers
@@ -23,8 +23,7 @@ pub owed_is : (v : AssemblyValue) → owed_octets v ≡ 5 * size (open_of v) / 4
 owed_is v = owed_by_cases v.begun v.octets
 
 size_if : (b : Bool) (x y : Option (List ℕ)) (n : ℕ) → size x ≤ n → size y ≤ n → size (if b then x else y) ≤ n
-size_if true x y n h k = h
-size_if false x y n h k = k
+size_if b x y n h k = cond_both b x y (λ o. size o ≤ n) (λ _. h) (λ _. k)
 
 fitting_size : (xs : List ℕ) → size (fitting xs) ≤ length xs
 fitting_size xs = size_if (nat_le (length xs) 2048) (Some xs) None (length xs) (omega arith) (omega arith)

@@ -1,10 +1,7 @@
 -- Laws of the fate of a command.
-use Rattle.std.proofs.Math.Bool.{or_comm}
-use Rattle.std.proofs.lemmas.Option.{get_or_from_slice_get, slice_get_within}
 use Rattle.std.proofs.lemmas.List.FromFn.{get_or-map-range_with_len, length-map-range_with_len}
-use Rattle.std.proofs.lemmas.List.Folds.{list_any_more}
 use Rattle.cf_lane.specs.Judged.{is_admitted}
-use Rattle.cf_lane.specs.Rates.{Says, is_place, rated, rated_place}
+use Rattle.cf_lane.specs.Rates.{Says, rated}
 use Rattle.cf_lane.specs.Acts.{by_refusal, fate_of_acts, first_refusal, is_by, refusal_or, used_by}
 use Rattle.cf_lane.specs.Passes.{IsAllowedCommand}
 use Rattle.cf_lane.specs.Modbus.{HasCommandFate, of_its_acts, of_no_form, of_other_station}
@@ -21,7 +18,7 @@ use Rattle.cf_policy.specs.declared.Decider.{Decider}
 use Rattle.cf_policy.specs.declared.Verdict.{Verdict}
 use Rattle.cf_view.specs.declared.Act.{Act}
 use Rattle.cf_view.specs.declared.Reason.{Reason}
-use Rattle.std.proofs.Common.{Bool, Err, List, None, Ok, Option, Some, [], add-one, ap, arith, drop, false, get_or, length, refl, replicate, slice_get, subst, suc, sym, take, true, ℕ, ◌+◌, ◌||◌, ◌↔◌, ◌∙◌, ◌∷◌, ◌≡◌, ◌≤◌}
+use Rattle.std.proofs.Common.{Bool, Err, List, None, Ok, Option, Some, [], add-one, ap, arith, drop, false, get_or, length, refl, replicate, slice_get, subst, suc, sym, take, true, ℕ, ◌+◌, ◌↔◌, ◌∙◌, ◌∷◌, ◌≡◌, ◌≤◌}
 use Rattle.std.proofs.lemmas.List.{drop_all, ext_get_or, take_all}
 use Rattle.std.specs.List.{AllByRecursion, list_any}
 use Rattle.cf_lane.specs.declared.fate.Fate.TheVariants as fate
@@ -62,21 +59,6 @@ none_marked n place = refl
 pub none_used : (all : List (ℕ × Rate)) (says : Says) (list : List Act) (used : List Bool) → used ≡ replicate 16 false → (place : ℕ) →
     get_or used place false ≡ list_any (λ act. is_by all place (says act)) (take 0 list)
 none_used all says list used is place = ap (λ u. get_or u place false) is ∙ none_marked 16 place
-
--- one that allowed an act is
-pub one_used : (all rings : List (ℕ × Rate)) (says : Says) (list : List Act) (i : ℕ) (act : Act) (used now : List Bool) (number : ℕ) → rings ≡ all → slice_get list i ≡ Some act →
-    verdict.Allow number ≡ says act →
-    ((place : ℕ) → get_or now place false ≡ (is_place place (rated_place rings number) || get_or used place false)) →
-    ((place : ℕ) → get_or used place false ≡ list_any (λ act. is_by all place (says act)) (take i list)) →
-    (place : ℕ) → get_or now place false ≡ list_any (λ act. is_by all place (says act)) (take (i + 1) list)
-one_used all rings says list i act used now number same here allows marks before place =
-    let p : Act → Bool = λ act. is_by all place (says act) in
-    let at : get_or list i act ≡ act = get_or_from_slice_get list i act act here in
-    let own : is_place place (rated_place rings number) ≡ p (get_or list i act) =
-    ap (λ ps. is_place place (rated_place ps number)) same ∙ ap (is_by all place) allows ∙ ap p (sym at) in
-    marks place ∙ ap (λ b. b || get_or used place false) own ∙ ap (λ b. p (get_or list i act) || b) (before place)
-    ∙ or_comm (p (get_or list i act)) (list_any p (take i list))
-    ∙ sym (list_any_more p list i act (slice_get_within list i act here))
 
 -- at the end those that are were used
 pub all_used : (all : List (ℕ × Rate)) (says : Says) (list : List Act) (i : ℕ) (used : List Bool) → length list ≤ i → length used ≡ 16 →

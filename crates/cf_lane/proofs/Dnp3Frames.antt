@@ -8,7 +8,7 @@ use Rattle.cf_dnptrans.specs.Segments.{count_of}
 use Rattle.cf_dnptrans.specs.Transport.{last_fragment}
 use Rattle.cf_dnptrans.specs.declared.assembly.SegmentAnswer.{SegmentAnswer}
 use Rattle.cf_audit.specs.declared.line.Why.{Why}
-use Rattle.cf_lane.proofs.Earlier.{segments_into-more, segments_of-more}
+use Rattle.cf_lane.proofs.Earlier.{fragments_stay, segments_into-more, segments_of-more}
 use Rattle.cf_lane.proofs.Dnp3Segments.{stray_fragment}
 use Rattle.cf_lane.proofs.Handling.{push-nothing, with_lines-nothing}
 use Rattle.cf_lane.proofs.Sides.{at_both, if_none, other_side, same_side, side_known}
@@ -43,24 +43,6 @@ use Rattle.cf_lane.specs.declared.fate.Fate.TheVariants as fate
 use Rattle.cf_dnptrans.specs.Segments as pieces
 use Rattle.cf_audit.specs.declared.line.Why.TheVariants as why
 use Rattle.cf_view.specs.declared.Side.TheVariants as side
-
-module _ (asset : Asset) (earlier : List Judged) (j : Judged) where
-  -- an item without segment and fragment leaves what is known
-  module _ (f : Fragments) (knows : KnowsFragments asset f earlier)
-      (no_segment : (t : Side) → segment_in asset t j.item ≡ []) (none : (t : Side) → fragment_in asset t earlier j j.item ≡ []) where
-    same_segments : (t : Side) → segments_of asset t (earlier ++ j ∷ []) ≡ segments_of asset t earlier
-    same_segments t = segments_of-more asset t earlier j ∙ ap (λ xs. xs ++ segments_of asset t earlier) (no_segment t)
-
-    same_into : (t : Side) → segments_into asset t earlier % 64 ≡ segments_into asset t (earlier ++ j ∷ []) % 64
-    same_into t = ap (λ n. n % 64) (sym (segments_into-more asset t earlier j ∙ ap (λ xs. segments_into asset t earlier + counted xs) (none t) ∙ omega arith))
-
-    pub still_known : KnowsFragments asset f (earlier ++ j ∷ [])
-    still_known = record {
-      client = subst (IsAssemblyOf f.client) (sym (same_segments side.Client)) knows.client;
-      controller = subst (IsAssemblyOf f.controller) (sym (same_segments side.Controller)) knows.controller;
-      to_client = knows.to_client ∙ same_into side.Client;
-      to_controller = knows.to_controller ∙ same_into side.Controller;
-    }
 
 -- the fate of a data frame that is served
 fate_of_data : (asset : Asset) (says : Says) (s : Side) (earlier : List Judged) (x : FrameValue) → stray_of asset s x ≡ None → is_data x ≡ true →
@@ -102,7 +84,7 @@ module _ (asset : Asset) (says : Says) (client : Endpoint) (moment : ℕ) (s : S
     lines = text;
     does = λ earlier knows ended. record {
       fragments = subst (λ f. KnowsFragments asset f (earlier ++ stray_item ∷ [])) (sym fragments)
-          (still_known asset earlier stray_item old.fragments knows (no_segment earlier) (nothing_in earlier));
+          (fragments_stay asset earlier stray_item (no_segment earlier) (nothing_in earlier) old.fragments knows);
       fate = rw stray refl;
       of_client = c ∙ sym (push-nothing old.to_client) ∙ ap (after_push old.to_client) (sym (nothing_out earlier side.Client));
       of_controller = k ∙ sym (push-nothing old.to_controller) ∙ ap (after_push old.to_controller) (sym (nothing_out earlier side.Controller));
@@ -273,20 +255,15 @@ module _ (asset : Asset) (says : Says) (client : Endpoint) (moment : ℕ) (s : S
         ap (λ o. unit_lines asset client moment (is_some_bytes o) s (frame_octets asset earlier s x) f) (sym (output_is side.Client old.fragments.to_client client_sequence))
         ∙ ap (λ w. unit_lines asset client moment (frames_exist asset side.Client old.fragments.to_client (frame_fragment side.Client old.to_client.ended s f whole)) s (flat_map (λ octets. octets) w) f) (sym whole_is)
 
--- a data frame that is served
-pub takes_data : (asset : Asset) (says : Says) (client : Endpoint) (moment : ℕ) (s : Side) (x : FrameValue) → stray_of asset s x ≡ None → is_data x ≡ true →
-    (answer : SegmentAnswer) (f : Fate) (was : Fragments) (old new : Parts) → AddsSegment s (user_of x.blocks) answer was old.fragments →
-    TakesSegment asset says client moment s answer (completed_by answer (of_side s old.fragments)) f old new →
-    TakesFrame asset says client moment s x f (parts was old.to_client old.to_controller old.lines) new
-takes_data asset says client moment s x served data_ answer f was old new adds takes =
-    let whole = completed_by answer (of_side s old.fragments) in
-    record {
-      uncut = ap fate_cut takes.fate ∙ no_cut asset says s answer whole;
-      more = data_lines asset client moment s f whole old.fragments.to_client old.to_client;
-      lines = takes.lines;
-      does = does_data asset says client moment s x served data_ answer f was old new adds takes;
-      are_more = lines_are asset says client moment s x served data_ answer f was old new adds takes;
-    }
+  -- a data frame that is served
+  pub takes_data : TakesFrame asset says client moment s x f (parts was old.to_client old.to_controller old.lines) new
+  takes_data = record {
+    uncut = ap fate_cut takes.fate ∙ no_cut asset says s answer whole;
+    more = data_lines asset client moment s f whole old.fragments.to_client old.to_client;
+    lines = takes.lines;
+    does = does_data;
+    are_more = lines_are;
+  }
 
 pub misses_data : (asset : Asset) (says : Says) (client : Endpoint) (moment : ℕ) (s : Side) (x : FrameValue) → stray_of asset s x ≡ None → is_data x ≡ true →
     (answer : SegmentAnswer) (was : Fragments) (old : Parts) (log : Option (List (List ℕ))) (part : List ℕ) → AddsSegment s (user_of x.blocks) answer was old.fragments →
@@ -335,7 +312,7 @@ module _ (asset : Asset) (says : Says) (client : Endpoint) (moment : ℕ) (s : S
     lines = text ∙ sym (with_lines-nothing old.lines);
     does = λ earlier knows ended. record {
       fragments = subst (λ f. KnowsFragments asset f (earlier ++ status_item ∷ [])) (sym fragments)
-          (still_known asset earlier status_item old.fragments knows status_segment (λ to. status_in to earlier));
+          (fragments_stay asset earlier status_item status_segment (λ to. status_in to earlier) old.fragments knows);
       fate = rw (served, other_) refl;
       of_client = c ∙ ap (after_push old.to_client) (sym (status_out side.Client earlier));
       of_controller = k ∙ ap (after_push old.to_controller) (sym (status_out side.Controller earlier));

@@ -46,12 +46,6 @@ module _ (s : Side) (x : FrameValue) (answer : SegmentAnswer) (was mid : Fragmen
 
   -- what goes out, and what is owed then, was owed or is paid by the frame
   pub data_paid : (r : SegmentAnswer) → answer ≡ r → sent_most r (of_side s mid) + owed_by mid ≤ owed_by was + 2 * length (frame_spelling x)
-  data_paid answers.More is =
-      let step = owed_step (of_side s was) (of_side s mid) segments (user_of x.blocks) a b (length (frame_spelling x)) (omega (arith, frame_size x)) in
-      omega (arith, step, owed_sides s was, owed_sides s mid, ap owed_octets adds.other)
-  data_paid (answers.Dropped because) is =
-      let step = owed_step (of_side s was) (of_side s mid) segments (user_of x.blocks) a b (length (frame_spelling x)) (omega (arith, frame_size x)) in
-      omega (arith, step, owed_sides s was, owed_sides s mid, ap owed_octets adds.other)
   data_paid answers.Whole is =
       let w = adds.completes is in
       let read = adds.answered segments a in
@@ -59,6 +53,9 @@ module _ (s : Side) (x : FrameValue) (answer : SegmentAnswer) (was mid : Fragmen
       let some = (final (of_side s was) (of_side s mid) segments (user_of x.blocks) answer a b read is w).1 in
       let paid = whole_paid (of_side s was) (of_side s mid) segments (user_of x.blocks) answer a b read is w (length (frame_spelling x)) (some_size x some) in
       omega (arith, none, paid, owed_sides s was, owed_sides s mid, ap owed_octets adds.other)
+  data_paid r is =
+      let step = owed_step (of_side s was) (of_side s mid) segments (user_of x.blocks) a b (length (frame_spelling x)) (omega (arith, frame_size x)) in
+      omega (arith, step, owed_sides s was, owed_sides s mid, ap owed_octets adds.other)
 
   pub data_room : (q : Queue) → HasRoom (owed_by was + 2 * length (frame_spelling x)) q → HasRoom (sent_most answer (of_side s mid)) q
   data_room q room = room_less _ _ q (omega (arith, data_paid answer refl)) room

@@ -25,16 +25,14 @@ use Rattle.cf_policy.specs.declared.Asset.{Asset}
 use Rattle.cf_view.specs.declared.Endpoint.{Endpoint}
 use Rattle.cf_view.specs.declared.Reason.{Reason}
 use Rattle.cf_view.specs.declared.Side.{Side}
-use Rattle.std.proofs.Common.{Bool, List, Option, [], ap, arith, false, inl, inr, length, refl, slice_index, subst, sym, true, ℕ, ◌%◌, ◌+◌, ◌<◌, ◌∙◌, ◌∷◌, ◌≡◌, ◌≤◌}
-use Rattle.std.proofs.lemmas.Bool.{cases_Bool}
+use Rattle.std.proofs.Common.{Bool, List, Option, [], ap, arith, false, length, refl, slice_index, subst, sym, true, ℕ, ◌%◌, ◌+◌, ◌<◌, ◌∙◌, ◌∷◌, ◌≡◌, ◌≤◌}
+use Rattle.std.proofs.lemmas.Bool.{le-ltb, lt-ltb}
 use Rattle.std.proofs.lemmas.List.{append-nil}
 use Rattle.std.specs.List.{flat_map}
-use Rattle.std.specs.Prelude.{nat_lt}
 use Rattle.cf_dnptrans.specs.declared.assembly.SegmentAnswer.TheVariants as answers
 use Rattle.cf_lane.specs.declared.fate.Fate.TheVariants as fate
 use Rattle.cf_view.specs.declared.Side.TheVariants as side
 use Rattle.cf_audit.specs.declared.line.Why.TheVariants as why
-use Rattle.std.proofs.lemmas.Bool.Decides.{nat_tests}
 
 -- nothing goes into a stream
 pub sends_nothing : (asset : Asset) (to : Side) (fragments : List (List ℕ)) (sequence : ℕ) (q : Queue) → sequence < 64 → fragments ≡ [] → Sends asset to fragments sequence q sequence q
@@ -42,15 +40,6 @@ sends_nothing asset to fragments sequence q h e = record {
   put = sym (push-nothing q) ∙ ap (λ xs. after_push q (flat_map (frames_at asset to sequence) xs)) (sym e);
   next_is = (let n : sequence ≡ (sequence + 0) % 64 = omega (arith, h) in n) ∙ ap (λ xs. (sequence + counted xs) % 64) (sym e);
   quiet = λ _. e;
-}
-
--- a fragment goes into a stream
-pub sends_one : (asset : Asset) (to : Side) (octets : List ℕ) (sequence : ℕ) (q : Queue) (fragments : List (List ℕ)) → q.ended ≡ false → fragments ≡ octets ∷ [] → (next : ℕ) (new : Queue) →
-    next ≡ (sequence + counted (octets ∷ [])) % 64 → new ≡ after_push q (frames_at asset to sequence octets) → Sends asset to fragments sequence q next new
-sends_one asset to octets sequence q fragments goes e next new n is = record {
-  put = is ∙ ap (after_push q) (sym (append-nil (frames_at asset to sequence octets))) ∙ ap (λ xs. after_push q (flat_map (frames_at asset to sequence) xs)) (sym e);
-  next_is = n ∙ ap (λ xs. (sequence + counted xs) % 64) (sym e);
-  quiet = λ ended. cc (ended, goes);
 }
 
 -- a stray segment or fragment, and a segment that lengthens, put out nothing
@@ -84,14 +73,10 @@ module _ (asset : Asset) (says : Says) (client : Endpoint) (moment : ℕ) (s : S
 
 -- the fate of a fragment by its length
 pub fate_short : (asset : Asset) (says : Says) (s : Side) (octets : List ℕ) → length octets < 2 → fate.Stray why.Short ≡ fate_of_segment asset says s answers.Whole (octets ∷ [])
-fate_short asset says s octets h = elim (cases_Bool (nat_lt (length octets) 2)) [ inl v ↦ rw v refl | inr v ↦ absurd (lt_true (length octets) h v) ] where
-  lt_true : (n : ℕ) → n < 2 → nat_lt n 2 ≡ false → ⊥
-  lt_true n h e = grind (arith, nat_tests)
+fate_short asset says s octets h = rw (lt-ltb (length octets) 2 h) refl
 
 pub fate_long : (asset : Asset) (says : Says) (s : Side) (octets : List ℕ) → 2 ≤ length octets → fate_of_fragment asset says s octets ≡ fate_of_segment asset says s answers.Whole (octets ∷ [])
-fate_long asset says s octets h = elim (cases_Bool (nat_lt (length octets) 2)) [ inl v ↦ absurd (lt_false (length octets) h v) | inr v ↦ rw v refl ] where
-  lt_false : (n : ℕ) → 2 ≤ n → nat_lt n 2 ≡ true → ⊥
-  lt_false n h e = grind (arith, nat_tests)
+fate_long asset says s octets h = rw (le-ltb (length octets) 2 h) refl
 
 -- a reply goes out where one is wanted
 pub reply_put : (ended : Bool) (octets : List ℕ) (r : Refusal) → ended ≡ false → wants_reply (slice_index octets 1) ≡ true → fragment_reply ended (fate.Refused r) (octets ∷ []) ≡ reply octets r.reason ∷ []

@@ -7,25 +7,24 @@ use Rattle.cf_lane.specs.Rings.{IsRulesOf, RulesGoOn, says_by}
 use Rattle.cf_dnplink.proofs.Reading.{user_again}
 use Rattle.cf_dnplink.specs.LinkFrame.{FrameValue, SpellsFrame}
 use Rattle.cf_dnplink.specs.UserOctets.{user_of}
-use Rattle.cf_lane.proofs.Handling.{count-more, ended-more}
+use Rattle.cf_lane.proofs.Handling.{unit_handled}
 use Rattle.cf_lane.proofs.Recutting.{length-spelling}
 use Rattle.cf_lane.proofs.Units.{begins_by, frames}
 use Rattle.cf_lane.specs.Dnp3.{fate_of_frame, frame_octets, frame_output, stray_of}
-use Rattle.cf_lane.specs.Fragments.{DoesFrame, MissesFrame, TakesFrame, parts}
-use Rattle.cf_lane.specs.Handled.{Does, FrontsOf, Handled, Knows, MissesOf, Outlets, State, judged, lane_at, outlets, state}
+use Rattle.cf_lane.specs.Fragments.{MissesFrame, TakesFrame, parts}
+use Rattle.cf_lane.specs.Handled.{FrontsOf, Handled, MissesOf, Outlets, State, judged, lane_at, outlets, state}
 use Rattle.cf_lane.specs.Item.{Took}
-use Rattle.cf_lane.specs.Judged.{Judged, cut_of, is_admitted, is_refused, one_if}
+use Rattle.cf_lane.specs.Judged.{is_admitted, is_refused, one_if}
 use Rattle.cf_lane.specs.Kept.{KnowsFragments, KnowsWire}
 use Rattle.cf_lane.specs.Log.{is_some_bytes, lines, unit_lines, with_lines}
 use Rattle.cf_lane.specs.Unit.{Frame, frame_spelling}
 use Rattle.cf_lane.specs.declared.fate.Fate.{Fate}
 use Rattle.cf_lane.specs.declared.wire.Fragments.{Fragments}
-use Rattle.cf_outq.specs.SendQueue.{Queue, after_push}
 use Rattle.cf_policy.specs.declared.Asset.{Asset}
 use Rattle.cf_view.specs.Framing.{Begins}
 use Rattle.cf_view.specs.declared.Endpoint.{Endpoint}
 use Rattle.cf_view.specs.declared.Side.{Side}
-use Rattle.std.proofs.Common.{List, None, Option, [], ap, arith, length, refl, subst, sym, take, ℕ, ◌++◌, ◌+◌, ◌∙◌, ◌∷◌, ◌≡◌, ◌≤◌}
+use Rattle.std.proofs.Common.{List, Option, [], ap, arith, length, refl, subst, sym, take, ℕ, ◌++◌, ◌+◌, ◌∙◌, ◌∷◌, ◌≡◌, ◌≤◌}
 use Rattle.std.proofs.lemmas.List.{append-nil, length-take}
 use Rattle.cf_dnplink.specs.LinkFrame as link
 use Rattle.cf_policy.specs.declared.Protocol.TheVariants as protocol
@@ -46,50 +45,21 @@ module _ (asset : Asset) (moment : ℕ) (s : Side) (x : FrameValue) (f : Fate) (
     (of : IsRulesOf asset old.lane.client.address old.lane.rules) (rules : RulesGoOn f moment old.lane.rules new.lane.rules)
     (t : TakesFrame asset (says_by asset old.lane.client.address old.lane.rules moment) old.lane.client moment s x f
     (parts before old.to_client old.to_controller old.lines) (parts after new.to_client new.to_controller new.lines)) where
-  abbrev j : Judged
-  j = judged moment (Took s (Frame x)) f
-
-  module _ (earlier : List Judged) (uncut : cut_of earlier ≡ None) (knows : Knows asset old earlier) where
-    known : KnowsFragments asset before earlier
-    known = subst (λ w. KnowsWire asset w earlier) was (knows.wire uncut)
-
-    frame_does : DoesFrame asset (says_by asset old.lane.client.address old.lane.rules moment) old.lane.client earlier j s x
-        (parts before old.to_client old.to_controller old.lines) (parts after new.to_client new.to_controller new.lines)
-    frame_does = t.does earlier known knows.client_ended
-
-    pub lines_of : lines asset old.lane.client earlier (j ∷ []) ≡ t.more
-    lines_of =
-        append-nil (unit_lines asset old.lane.client moment (is_some_bytes (frame_output asset side.Client earlier j s x)) s (frame_octets asset earlier s x) f)
-        ∙ t.are_more earlier known knows.client_ended
-
-    nil : (to : Side) → frame_output asset to earlier j s x ≡ frame_output asset to earlier j s x ++ []
-    nil to = sym (append-nil (frame_output asset to earlier j s x))
-
-    unit_does : Does asset earlier (j ∷ []) old new
-    unit_does = record {
-      knows = record {
-        admitted = admitted ∙ ap (λ n. n + one_if (is_admitted f)) knows.admitted ∙ sym (count-more (λ i. is_admitted i.fate) earlier j);
-        refused = refused ∙ ap (λ n. n + one_if (is_refused f)) knows.refused ∙ sym (count-more (λ i. is_refused i.fate) earlier j);
-        client_ended = ap (λ (q : Queue). q.ended) frame_does.of_client ∙ knows.client_ended ∙ sym (ended-more side.Controller earlier j refl);
-        controller_ended = ap (λ (q : Queue). q.ended) frame_does.of_controller ∙ knows.controller_ended ∙ sym (ended-more side.Client earlier j refl);
-        rules = rules.know earlier j refl refl knows.rules;
-        wire = λ _. subst (λ w. KnowsWire asset w (earlier ++ j ∷ [])) (sym is) frame_does.fragments;
-      };
-      fates = (
-        subst (λ (says : Says). f ≡ fate_of_frame asset says s earlier x (stray_of asset s x))
-            (says_same asset old.lane.client.address old.lane.rules earlier moment of knows.rules) frame_does.fate,
-        tt,
-      );
-      of_client = frame_does.of_client ∙ ap (after_push old.to_client) (nil side.Client);
-      of_controller = frame_does.of_controller ∙ ap (after_push old.to_controller) (nil side.Controller);
-      of_lines = t.lines ∙ ap (with_lines old.lines) (sym lines_of);
-      client_quiet = λ e. sym (nil side.Client) ∙ frame_does.client_quiet e;
-      controller_quiet = λ e. sym (nil side.Controller) ∙ frame_does.controller_quiet e;
-    }
-
   -- one frame was handled
-  pub frame_handled : Handled asset (j ∷ []) old new
-  frame_handled = record { client = client; does = unit_does }
+  pub frame_handled : Handled asset (judged moment (Took s (Frame x)) f ∷ []) old new
+  frame_handled = unit_handled asset moment s (Frame x) f old new client admitted refused rules (λ earlier uncut knows.
+      (let known : KnowsFragments asset before earlier = subst (λ w. KnowsWire asset w earlier) was (knows.wire uncut) in
+      let does = t.does earlier known knows.client_ended in
+      record {
+        fate = subst (λ (says : Says). f ≡ fate_of_frame asset says s earlier x (stray_of asset s x))
+            (says_same asset old.lane.client.address old.lane.rules earlier moment of knows.rules) does.fate;
+        of_client = does.of_client;
+        of_controller = does.of_controller;
+        of_lines = t.lines ∙ ap (with_lines old.lines) (sym (t.are_more earlier known knows.client_ended));
+        client_quiet = does.client_quiet;
+        controller_quiet = does.controller_quiet;
+        wire = λ _. subst (λ w. KnowsWire asset w (earlier ++ judged moment (Took s (Frame x)) f ∷ [])) (sym is) does.fragments;
+      }))
 
 -- a frame is ten octets at least
 pub some_octets : (x : FrameValue) (xs : List ℕ) (n : ℕ) → Begins SpellsFrame xs x n → 10 ≤ n

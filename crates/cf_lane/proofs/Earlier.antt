@@ -68,7 +68,7 @@ segments_into-more asset to earlier j =
     ∙ sum_by-append (λ octets. count_of (length octets)) (in_turn (λ before i. fragment_in asset to before i i.item) [] earlier) (fragment_in asset to earlier j j.item)
 
 module _ (asset : Asset) (earlier : List Judged) (j : Judged) (no_segment : (s : Side) → segment_in asset s j.item ≡ [])
-    (no_fragment : (to : Side) → fragment_in asset to earlier j j.item ≡ []) (no_event : item_event earlier j.fate j.item ≡ []) where
+    (no_fragment : (to : Side) → fragment_in asset to earlier j j.item ≡ []) where
   same_segments : (s : Side) → segments_of asset s earlier ≡ segments_of asset s (earlier ++ j ∷ [])
   same_segments s = sym (segments_of-more asset s earlier j ∙ ap (λ xs. xs ++ segments_of asset s earlier) (no_segment s))
 
@@ -76,19 +76,21 @@ module _ (asset : Asset) (earlier : List Judged) (j : Judged) (no_segment : (s :
   same_count to =
       sym (segments_into-more asset to earlier j ∙ ap (λ xs. segments_into asset to earlier + sum_by (λ (octets : List ℕ). count_of (length octets)) xs) (no_fragment to) ∙ omega arith)
 
-  same_events : events_of earlier ≡ events_of (earlier ++ j ∷ [])
-  same_events = sym (events_of-more earlier j ∙ ap (λ xs. reverse xs ++ events_of earlier) no_event)
-
-  -- an item that is no segment, no fragment and no event changes nothing of what is kept
-  pub wire_stays : (w : Wire) → KnowsWire asset w earlier → KnowsWire asset w (earlier ++ j ∷ [])
-  wire_stays wire.Modbus k = tt
-  wire_stays (wire.Dnp3 f) k = record {
+  -- an item that is no segment and no fragment changes nothing of the fragments
+  pub fragments_stay : (f : Fragments) → KnowsFragments asset f earlier → KnowsFragments asset f (earlier ++ j ∷ [])
+  fragments_stay f k = record {
     client = subst (IsAssemblyOf f.client) (same_segments side.Client) k.client;
     controller = subst (IsAssemblyOf f.controller) (same_segments side.Controller) k.controller;
     to_client = k.to_client ∙ ap (λ n. n % 64) (same_count side.Client);
     to_controller = k.to_controller ∙ ap (λ n. n % 64) (same_count side.Controller);
   }
-  wire_stays (wire.Iec104 numbers) k = subst (IsNumbersOf numbers) same_events k
+
+  -- and one that is no event either changes nothing of what is kept
+  pub wire_stays : item_event earlier j.fate j.item ≡ [] → (w : Wire) → KnowsWire asset w earlier → KnowsWire asset w (earlier ++ j ∷ [])
+  wire_stays no_event wire.Modbus k = tt
+  wire_stays no_event (wire.Dnp3 f) k = fragments_stay f k
+  wire_stays no_event (wire.Iec104 numbers) k =
+      subst (IsNumbersOf numbers) (sym (events_of-more earlier j ∙ ap (λ xs. reverse xs ++ events_of earlier) no_event)) k
 
 -- a fragment that is put together has at most 2,048 octets
 if_some : (b : Bool) (o : Option (List ℕ)) (x : List ℕ) → (if b then o else None) ≡ Some x → (b ≡ true) × (o ≡ Some x)

@@ -63,25 +63,6 @@ room_for_rest bytes rest used d e p q is inside r g =
     let size : length rest + used ≡ length bytes = omega (arith, ap length is, length-drop used bytes, inside) in
     room_left (2 * used) (2 * length rest) d e p q (room_less (d + 2 * length bytes) (d + (2 * used + 2 * length rest)) p (omega (arith, size)) r) g
 
-module _ (asset : Asset) (h : List Element) (rests : Rests) (first own : Option (List (List ℕ))) (moment : ℕ) (s : Side) (piece bytes rest : List ℕ) (used : ℕ) (old mid new : State)
-    (is : bytes ≡ rest_of s rests ++ piece) (f : Follows asset h rests None first (over own old)) (a : Along asset moment s bytes used old mid)
-    (left : rest ≡ drop used bytes) where
-  pub ends_more : Steps asset moment s rest mid new step.More →
-      AddsTo asset (h ++ bytes_at moment s piece ∷ []) (with_rest s rests (drop used bytes)) None first own old.lines new
-  ends_more steps =
-      subst (λ (n : State). AddsTo asset (h ++ bytes_at moment s piece ∷ []) (with_rest s rests (drop used bytes)) None first own old.lines n) (sym steps.1)
-      (fed_whole asset h rests first own moment s piece bytes used old mid is f a (subst (IsPartial (SpellsUnit asset.protocol)) left steps.0))
-
-  pub ends_cut : IsOctets bytes → (ended : Bool) (reason : CutReason) → Steps asset moment s rest mid new (step.Cut reason) →
-      AddsTo asset (h ++ letters_at moment s piece ended ∷ []) (with_rest s rests (drop used bytes)) (Some reason) first own old.lines new
-  ends_cut octets ended reason (inl here) =
-      subst (λ (n : State). AddsTo asset (h ++ letters_at moment s piece ended ∷ []) (with_rest s rests (drop used bytes)) (Some reason) first own old.lines n) (sym here.1)
-      (fed_broken asset h rests first own moment s piece bytes used old mid is f a ended reason (subst (λ xs. Breaks asset s xs reason) left here.0))
-  ends_cut octets ended reason (inr unit) =
-      let n = unit.1.0 in
-      fed_cut asset h rests first own moment s piece bytes used n old mid new is f a ended reason (subst (λ xs. TakesUnit asset moment s xs n (Some reason) mid new) left unit.1.1)
-      (units_of_octets asset.protocol (drop n (drop used bytes)) (IsOctets-drop (drop used bytes) n (IsOctets-drop bytes used octets))) (with_rest s rests (drop used bytes))
-
 module _ (asset : Asset) (moment : ℕ) (s : Side) (bytes rest : List ℕ) (used : ℕ) (left : rest ≡ drop used bytes) (inside : used ≤ length bytes) where
   rest_length : length rest + used ≡ length bytes
   rest_length = omega (arith, ap length left, length-drop used bytes, inside)
@@ -92,12 +73,10 @@ module _ (asset : Asset) (moment : ℕ) (s : Side) (bytes rest : List ℕ) (used
   pub along_took : (old mid new : State) (st : Step) (n : ℕ) → st ≡ step.Took n → Along asset moment s bytes used old mid → Steps asset moment s rest mid new st →
       Along asset moment s bytes (used + n) old new
   along_took old mid new st n is a steps =
-      let P : Step → Type 0 = λ st. Steps asset moment s rest mid new st in
-      along_more asset moment s bytes used n old mid new a (subst (λ xs. TakesUnit asset moment s xs n None mid new) left (subst P is steps))
+      along_more asset moment s bytes used n old mid new a (subst (λ xs. TakesUnit asset moment s xs n None mid new) left (subst (Steps asset moment s rest mid new) is steps))
 
   pub some_letters : (mid new : State) (st : Step) (n : ℕ) → st ≡ step.Took n → Steps asset moment s rest mid new st → 0 < n
-  some_letters mid new st n is steps =
-      let P : Step → Type 0 = λ st. Steps asset moment s rest mid new st in (subst P is steps).some_bytes
+  some_letters mid new st n is steps = (subst (Steps asset moment s rest mid new) is steps).some_bytes
 
   pub smaller : (st : Step) (n : ℕ) → st ≡ step.Took n → 0 < n → letters_in st ≤ length rest → length bytes - (used + n) < length bytes - used
   smaller st n is some l = omega (arith, some, l, ap letters_in is, rest_length)
@@ -110,60 +89,47 @@ module _ (asset : Asset) (moment : ℕ) (s : Side) (bytes rest : List ℕ) (used
   grows_end d e g p q r st stops a b =
       grows_more (2 * used + 2 * letters_in st) (2 * used) d g p r (omega (arith, no_letters st stops)) (grows_both (2 * used) (2 * letters_in st) d e g p q r a b)
 
+took_stops : {P : Type 0} (n : ℕ) → Stops (step.Took n) → P
+took_stops n (inl e) = cc
+took_stops n (inr e) = cc e.1
+
 module _ (asset : Asset) (moment : ℕ) (s : Side) (bytes rest : List ℕ) (used : ℕ) (old mid new : State)
-    (a : Along asset moment s bytes used old mid) (left : rest ≡ drop used bytes) (st : Step) (steps : Steps asset moment s rest mid new st) where
-  -- where no whole unit is left, the history goes on by the piece
-  apart_more : st ≡ step.More → (h : List Element) (rests : Rests) (first own : Option (List (List ℕ))) (piece : List ℕ) (ended : Bool) → IsEndBehindCut ended None →
+    (a : Along asset moment s bytes used old mid) (left : rest ≡ drop used bytes) where
+  -- where no whole unit is left, or the step cuts, the history goes on by the piece
+  pub apart_stop : (st : Step) → Steps asset moment s rest mid new st → IsOctets bytes → Stops st →
+      (h : List Element) (rests : Rests) (first own : Option (List (List ℕ))) (piece : List ℕ) (ended : Bool) → IsEndBehindCut ended (cut_in st) →
       bytes ≡ rest_of s rests ++ piece → Follows asset h rests None first (over own old) →
-      AddsTo asset (h ++ letters_at moment s piece ended ∷ []) (with_rest s rests (drop used bytes)) None first own old.lines new
-  apart_more e h rests first own piece false behind is f =
-      let P : Step → Type 0 = λ st. Steps asset moment s rest mid new st in
-      ends_more asset h rests first own moment s piece bytes rest used old mid new is f a left (subst P e steps)
-  apart_more e h rests first own piece true behind is f = absurd behind
-
-  apart_cut : IsOctets bytes → (reason : CutReason) → st ≡ step.Cut reason → (h : List Element) (rests : Rests) (first own : Option (List (List ℕ))) (piece : List ℕ) (ended : Bool) →
-      IsEndBehindCut ended (Some reason) → bytes ≡ rest_of s rests ++ piece → Follows asset h rests None first (over own old) →
-      AddsTo asset (h ++ letters_at moment s piece ended ∷ []) (with_rest s rests (drop used bytes)) (Some reason) first own old.lines new
-  apart_cut octets reason e h rests first own piece ended behind is f =
-      let P : Step → Type 0 = λ st. Steps asset moment s rest mid new st in
-      ends_cut asset h rests first own moment s piece bytes rest used old mid new is f a left octets ended reason (subst P e steps)
-
-  -- so it goes on by either
-  pub apart_stop : IsOctets bytes → Stops st → (h : List Element) (rests : Rests) (first own : Option (List (List ℕ))) (piece : List ℕ) (ended : Bool) →
-      IsEndBehindCut ended (cut_in st) → bytes ≡ rest_of s rests ++ piece → Follows asset h rests None first (over own old) →
       AddsTo asset (h ++ letters_at moment s piece ended ∷ []) (with_rest s rests (drop used bytes)) (cut_in st) first own old.lines new
-  apart_stop octets (inl more) h rests first own piece ended behind is f =
-      subst (λ cut. AddsTo asset (h ++ letters_at moment s piece ended ∷ []) (with_rest s rests (drop used bytes)) cut first own old.lines new) (sym (ap cut_in more))
-      (apart_more more h rests first own piece ended (subst (IsEndBehindCut ended) (ap cut_in more) behind) is f)
-  apart_stop octets (inr cut) h rests first own piece ended behind is f =
-      subst (λ cut. AddsTo asset (h ++ letters_at moment s piece ended ∷ []) (with_rest s rests (drop used bytes)) cut first own old.lines new) (sym (ap cut_in cut.1))
-      (apart_cut octets cut.0 cut.1 h rests first own piece ended (subst (IsEndBehindCut ended) (ap cut_in cut.1) behind) is f)
+  apart_stop step.More steps octets stops h rests first own piece true behind is f = absurd behind
+  apart_stop step.More steps octets stops h rests first own piece false behind is f =
+      subst (λ (n : State). AddsTo asset (h ++ bytes_at moment s piece ∷ []) (with_rest s rests (drop used bytes)) None first own old.lines n) (sym steps.1)
+      (fed_whole asset h rests first own moment s piece bytes used old mid is f a (subst (IsPartial (SpellsUnit asset.protocol)) left steps.0))
+  apart_stop (step.Cut reason) (inl here) octets stops h rests first own piece ended behind is f =
+      subst (λ (n : State). AddsTo asset (h ++ letters_at moment s piece ended ∷ []) (with_rest s rests (drop used bytes)) (Some reason) first own old.lines n) (sym here.1)
+      (fed_broken asset h rests first own moment s piece bytes used old mid is f a ended reason (subst (λ xs. Breaks asset s xs reason) left here.0))
+  apart_stop (step.Cut reason) (inr unit) octets stops h rests first own piece ended behind is f =
+      let n = unit.1.0 in
+      fed_cut asset h rests first own moment s piece bytes used n old mid new is f a ended reason (subst (λ xs. TakesUnit asset moment s xs n (Some reason) mid new) left unit.1.1)
+      (units_of_octets asset.protocol (drop n (drop used bytes)) (IsOctets-drop (drop used bytes) n (IsOctets-drop bytes used octets))) (with_rest s rests (drop used bytes))
+  apart_stop (step.Took n) steps octets stops h rests first own piece ended behind is f = took_stops n stops
 
-  pub follows_stop : IsOctets bytes → Stops st → (h : List Element) (rests : Rests) (first : Option (List (List ℕ))) (piece : List ℕ) (ended : Bool) →
-      IsEndBehindCut ended (cut_in st) → bytes ≡ rest_of s rests ++ piece → Follows asset h rests None first old →
+  pub follows_stop : (st : Step) → Steps asset moment s rest mid new st → IsOctets bytes → Stops st →
+      (h : List Element) (rests : Rests) (first : Option (List (List ℕ))) (piece : List ℕ) (ended : Bool) → IsEndBehindCut ended (cut_in st) →
+      bytes ≡ rest_of s rests ++ piece → Follows asset h rests None first old →
       Follows asset (h ++ letters_at moment s piece ended ∷ []) (with_rest s rests (drop used bytes)) (cut_in st) first new
-  follows_stop octets stops h rests first piece ended behind is f =
+  follows_stop st steps octets stops h rests first piece ended behind is f =
       of_whole_log asset (h ++ letters_at moment s piece ended ∷ []) (with_rest s rests (drop used bytes)) (cut_in st) first old new
-      (apart_stop octets stops h rests first old.lines piece ended behind is f)
+      (apart_stop st steps octets stops h rests first old.lines piece ended behind is f)
 
   -- what is left is shorter than a unit
-  pub little_left : Stops st → cut_in st ≡ None → length (drop used bytes) < 300
-  little_left (inr cut) none = absurd (some_none (sym (ap cut_in cut.1) ∙ none)) where
-    some_none : Some cut.0 ≡ None → ⊥
-    some_none e = cc
-  little_left (inl e) none =
-      let P : Step → Type 0 = λ st. Steps asset moment s rest mid new st in
-      let partial = (subst P e steps).0 in
-      short_unit asset.protocol (drop used bytes) (subst (IsPartial (SpellsUnit asset.protocol)) left partial)
+  pub little_left : (st : Step) → Steps asset moment s rest mid new st → Stops st → cut_in st ≡ None → length (drop used bytes) < 300
+  little_left step.More steps stops none = short_unit asset.protocol (drop used bytes) (subst (IsPartial (SpellsUnit asset.protocol)) left steps.0)
+  little_left (step.Cut reason) steps stops none = let e : Some reason ≡ None = none in cc
+  little_left (step.Took n) steps stops none = took_stops n stops
 
   -- the lane stays that of its client
-  pub same_client : Stops st → new.lane.client ≡ old.lane.client
-  same_client (inl e) =
-      let P : Step → Type 0 = λ st. Steps asset moment s rest mid new st in
-      ap (λ (x : State). x.lane.client) (subst P e steps).1 ∙ a.handled.client
-  same_client (inr e) =
-      let P : Step → Type 0 = λ st. Steps asset moment s rest mid new st in
-      by_case (subst P e.1 steps) where
-        by_case : Steps asset moment s rest mid new (step.Cut e.0) → new.lane.client ≡ old.lane.client
-        by_case (inl here) = ap (λ (x : State). x.lane.client) here.1 ∙ a.handled.client
-        by_case (inr unit) = unit.1.1.handled.client ∙ a.handled.client
+  pub same_client : (st : Step) → Steps asset moment s rest mid new st → Stops st → new.lane.client ≡ old.lane.client
+  same_client step.More steps stops = ap (λ (x : State). x.lane.client) steps.1 ∙ a.handled.client
+  same_client (step.Cut reason) (inl here) stops = ap (λ (x : State). x.lane.client) here.1 ∙ a.handled.client
+  same_client (step.Cut reason) (inr unit) stops = unit.1.1.handled.client ∙ a.handled.client
+  same_client (step.Took n) steps stops = steps.handled.client ∙ a.handled.client

@@ -47,8 +47,7 @@ abbrev IsFew : ℕ → List (List ℕ) → Type 0
 IsFew most ys = (ys ≡ []) ⊎ ((z : List ℕ) × (ys ≡ z ∷ []) × (length z ≤ most))
 
 few_if : (b : Bool) (z : List ℕ) (most : ℕ) → length z ≤ most → IsFew most (if b then z ∷ [] else [])
-few_if true z most l = inr (z, refl, l)
-few_if false z most l = inl refl
+few_if b z most l = cond_both b (z ∷ []) [] (IsFew most) (λ _. inr (z, refl, l)) (λ _. inl refl)
 
 few_reply : (ended : Bool) (f : Fate) (xs : List ℕ) → 2 ≤ length xs → IsFew (length xs + 2) (fragment_reply ended f (xs ∷ []))
 few_reply false (fate.Refused r) xs l =
@@ -58,9 +57,8 @@ few_reply ended f xs l = inl refl
 
 few_fragment : (to s : Side) (ended : Bool) (f : Fate) (xs : List ℕ) → 2 ≤ length xs → IsFew (length xs + 2) (frame_fragment to ended s f (xs ∷ []))
 few_fragment side.Client side.Client ended f xs l = few_reply ended f xs l
-few_fragment side.Client side.Controller ended f xs l = few_if (goes_on f) xs (length xs + 2) (omega arith)
-few_fragment side.Controller side.Client ended f xs l = few_if (goes_on f) xs (length xs + 2) (omega arith)
 few_fragment side.Controller side.Controller ended f xs l = inl refl
+few_fragment to s ended f xs l = few_if (goes_on f) xs (length xs + 2) (omega arith)
 
 few_whole : (asset : Asset) (says : Says) (to s : Side) (ended : Bool) (xs : List ℕ) (b : Bool) → nat_lt (length xs) 2 ≡ b →
     IsFew (length xs + 2) (frame_fragment to ended s (if b then fate.Stray why.Short else fate_of_fragment asset says s xs) (xs ∷ []))

@@ -12,7 +12,7 @@ use Rattle.cf_lane.specs.Follows.{DropsBehindCut, GoesOnAfter}
 use Rattle.cf_lane.specs.History.{Element, bytes_of, is_side}
 use Rattle.cf_lane.specs.Item.{AreItems, Broke, Completes, Ended, Item, Placed, Took, last_after, placed}
 use Rattle.cf_lane.specs.Judged.{Judged, fate_cut, place_of}
-use Rattle.cf_lane.specs.Laws.{StreamsGoOn, letters_of}
+use Rattle.cf_lane.specs.Laws.{HasOneJudgement, StreamsGoOn, letters_of}
 use Rattle.cf_lane.specs.Log.{item_lines, lines}
 use Rattle.cf_lane.specs.Output.{output, outputs}
 use Rattle.cf_lane.specs.Unit.{Adu, Apdu, AreUnits, Frame, Left, SpellsUnit, Tail, UnitValue, Wrong, unit_spelling}
@@ -222,6 +222,17 @@ further asset client earlier (j ∷ js) (k ∷ ks) ds es more same x y a b =
     let r = further_by (fate_cut k.fate) k js ks more (DropsBehindCut js ds) (DropsBehindCut ks es)
     (λ p q. further asset client (earlier ++ k ∷ []) js ks ds es more places fates y.1 p q) goes b in
     (r.0, r.1, cc (same_one, r.2), r.3)
+
+no_places : (ms : List Judged) (rest : List Placed) → map place_of ms ++ rest ≡ [] → ms ≡ []
+no_places [] rest e = refl
+no_places (m ∷ ms) rest e = cc
+
+pub has_one_judgement : HasOneJudgement
+has_one_judgement asset client h js ks a b =
+    let same = one_items asset.protocol (free_unit asset.protocol) [] h a.items b.items a.are_items b.are_items in
+    let f = further asset client [] js ks a.dropped b.dropped []
+    (append-nil (map place_of js ++ a.dropped) ∙ sym a.are_first ∙ same ∙ b.are_first) a.fates b.fates a.goes_on b.goes_on in
+    sym (f.2 ∙ ap (λ ms. js ++ ms) (no_places f.0 f.1 f.3) ∙ append-nil js)
 
 pub streams_go_on : StreamsGoOn
 streams_go_on asset client h more js ks a b =

@@ -2,16 +2,16 @@
 use Rattle.cf_lane.specs.Rings.{KnowsRules, RulesGoOn}
 use Rattle.cf_lane.specs.Rates.{says_at}
 use Rattle.cf_lane.proofs.Earlier.{cut_of-append, in_turn-append, wire_stays}
-use Rattle.cf_lane.specs.Fate.{HaveFates}
+use Rattle.cf_lane.specs.Fate.{HasFate, HaveFates}
 use Rattle.cf_lane.specs.Handled.{Does, Handled, Knows, State, judged}
 use Rattle.cf_lane.specs.Item.{Took}
-use Rattle.cf_lane.specs.Judged.{Judged, cut_of, ends, has_ended, is_admitted, is_refused, one_if}
+use Rattle.cf_lane.specs.Judged.{Judged, cut_of, ends, has_ended, is_admitted, is_refused, one_if, place_of}
 use Rattle.cf_lane.specs.Kept.{KnowsWire}
 use Rattle.cf_lane.specs.Log.{is_some_bytes, item_lines, lines, unit_lines, with_lines}
 use Rattle.cf_lane.specs.Numbers.{item_event}
 use Rattle.cf_lane.specs.Modbus.{HasAduFate, adu_output}
 use Rattle.cf_lane.specs.Output.{output, outputs}
-use Rattle.cf_lane.specs.Unit.{Adu}
+use Rattle.cf_lane.specs.Unit.{Adu, UnitValue}
 use Rattle.cf_lane.specs.declared.fate.Fate.{Fate}
 use Rattle.cf_modbus.specs.Adu.{AduValue, spelling}
 use Rattle.cf_outq.specs.SendQueue.{Queue, after_push}
@@ -32,6 +32,12 @@ pub fates-append : (asset : Asset) (client : ℕ) (earlier js ks : List Judged) 
 fates-append asset client earlier [] ks a b = subst (λ before. HaveFates asset client before ks) (append-nil earlier) b
 fates-append asset client earlier (j ∷ js) ks a b =
     (a.0, fates-append asset client (earlier ++ j ∷ []) js ks a.1 (subst (λ before. HaveFates asset client before ks) (sym (append_assoc earlier (j ∷ []) js)) b))
+
+-- the fates of items behind others
+pub fates_behind : (asset : Asset) (client : ℕ) (earlier js ms : List Judged) → HaveFates asset client earlier (js ++ ms) → HaveFates asset client (earlier ++ js) ms
+fates_behind asset client earlier [] ms f = subst (λ before. HaveFates asset client before ms) (sym (append-nil earlier)) f
+fates_behind asset client earlier (j ∷ js) ms f =
+    subst (λ before. HaveFates asset client before ms) (append_assoc earlier (j ∷ []) js) (fates_behind asset client (earlier ++ j ∷ []) js ms f.1)
 
 same_queue : (p q : Queue) → p.kept ≡ q.kept → p.pushed ≡ q.pushed → p.ended ≡ q.ended → p.acked ≡ q.acked → p.sent ≡ q.sent → p.shown ≡ q.shown → p ≡ q
 same_queue p q a b c d e f = rw (a, b, c, d, e, f) refl
@@ -127,6 +133,45 @@ pub ended_stays : (t : Side) (js : List Judged) (j : Judged) → has_ended t js 
 ended_stays t js j e =
     list_any-append (λ i. ends t i.item) js (j ∷ []) ∙ or_left (has_ended t js) (list_any (λ i. ends t i.item) (j ∷ [])) e
 
+-- what an item does after the earlier ones, beside what is counted
+pub record DoesItem (asset : Asset) (earlier : List Judged) (j : Judged) (old new : State) : Type 0 where
+  pub fate : HasFate asset old.lane.client.address earlier (place_of j) j.fate
+  pub of_client : new.to_client ≡ after_push old.to_client (output asset side.Client earlier j)
+  pub of_controller : new.to_controller ≡ after_push old.to_controller (output asset side.Controller earlier j)
+  pub of_lines : new.lines ≡ with_lines old.lines (item_lines asset old.lane.client earlier j j.item)
+  pub client_quiet : old.to_client.ended ≡ true → output asset side.Client earlier j ≡ []
+  pub controller_quiet : old.to_controller.ended ≡ true → output asset side.Controller earlier j ≡ []
+  pub wire : cut_of (earlier ++ j ∷ []) ≡ None → KnowsWire asset new.lane.wire (earlier ++ j ∷ [])
+
+-- a unit that did so, and was counted, was handled
+pub unit_handled : (asset : Asset) (moment : ℕ) (s : Side) (u : UnitValue) (f : Fate) (old new : State) → new.lane.client ≡ old.lane.client →
+    new.lane.admitted ≡ old.lane.admitted + one_if (is_admitted f) → new.lane.refused ≡ old.lane.refused + one_if (is_refused f) → RulesGoOn f moment old.lane.rules new.lane.rules →
+    ((earlier : List Judged) → cut_of earlier ≡ None → Knows asset old earlier → DoesItem asset earlier (judged moment (Took s u) f) old new) →
+    Handled asset (judged moment (Took s u) f ∷ []) old new
+unit_handled asset moment s u f old new client admitted refused rules each = record {
+  client = client;
+  does = λ earlier uncut knows.
+      (let j : Judged = judged moment (Took s u) f in
+      let d = each earlier uncut knows in
+      let nil = λ (to : Side). sym (append-nil (output asset to earlier j)) in
+      record {
+        knows = record {
+          admitted = admitted ∙ ap (λ n. n + one_if (is_admitted f)) knows.admitted ∙ sym (count-more (λ i. is_admitted i.fate) earlier j);
+          refused = refused ∙ ap (λ n. n + one_if (is_refused f)) knows.refused ∙ sym (count-more (λ i. is_refused i.fate) earlier j);
+          client_ended = ap (λ (q : Queue). q.ended) d.of_client ∙ knows.client_ended ∙ sym (ended-more side.Controller earlier j refl);
+          controller_ended = ap (λ (q : Queue). q.ended) d.of_controller ∙ knows.controller_ended ∙ sym (ended-more side.Client earlier j refl);
+          rules = rules.know earlier j refl refl knows.rules;
+          wire = d.wire;
+        };
+        fates = (d.fate, tt);
+        of_client = d.of_client ∙ ap (after_push old.to_client) (nil side.Client);
+        of_controller = d.of_controller ∙ ap (after_push old.to_controller) (nil side.Controller);
+        of_lines = d.of_lines ∙ ap (with_lines old.lines) (sym (append-nil (item_lines asset old.lane.client earlier j j.item)));
+        client_quiet = λ e. sym (nil side.Client) ∙ d.client_quiet e;
+        controller_quiet = λ e. sym (nil side.Controller) ∙ d.controller_quiet e;
+      });
+}
+
 module _ (asset : Asset) (moment : ℕ) (s : Side) (a : AduValue) (f : Fate) (old new : State) (has : (earlier : List Judged) → KnowsRules old.lane.rules earlier → HasAduFate asset (says_at asset old.lane.client.address earlier moment) s a f)
     (rules : RulesGoOn f moment old.lane.rules new.lane.rules)
     (client : new.lane.client ≡ old.lane.client) (wire : new.lane.wire ≡ old.lane.wire)
@@ -136,29 +181,17 @@ module _ (asset : Asset) (moment : ℕ) (s : Side) (a : AduValue) (f : Fate) (ol
     (of_lines : new.lines ≡ with_lines old.lines (unit_lines asset old.lane.client moment (is_some_bytes (adu_output side.Client old.to_client.ended s f a)) s (spelling a) f))
     (client_quiet : old.to_client.ended ≡ true → adu_output side.Client old.to_client.ended s f a ≡ [])
     (controller_quiet : old.to_controller.ended ≡ true → adu_output side.Controller old.to_client.ended s f a ≡ []) where
-  adu_does : (earlier : List Judged) → cut_of earlier ≡ None → Knows asset old earlier → Does asset earlier (judged moment (Took s (Adu a)) f ∷ []) old new
-  adu_does earlier before knows =
-      let j : Judged = judged moment (Took s (Adu a)) f in
-      let e = knows.client_ended in
-      let nil = λ (to : Side). sym (append-nil (adu_output to (has_ended side.Controller earlier) s f a)) in
-      record {
-        knows = record {
-          admitted = admitted ∙ ap (λ n. n + one_if (is_admitted f)) knows.admitted ∙ sym (count-more (λ i. is_admitted i.fate) earlier j);
-          refused = refused ∙ ap (λ n. n + one_if (is_refused f)) knows.refused ∙ sym (count-more (λ i. is_refused i.fate) earlier j);
-          client_ended = ap (λ (q : Queue). q.ended) of_client ∙ e ∙ sym (ended-more side.Controller earlier j refl);
-          controller_ended = ap (λ (q : Queue). q.ended) of_controller ∙ knows.controller_ended ∙ sym (ended-more side.Client earlier j refl);
-          rules = rules.know earlier j refl refl knows.rules;
-          wire = λ c. subst (λ w. KnowsWire asset w (earlier ++ j ∷ [])) (sym wire)
-              (wire_stays asset earlier j (λ t. refl) (λ t. refl) (adu_event s a f earlier) old.lane.wire (knows.wire before));
-        };
-        fates = (has earlier knows.rules, tt);
-        of_client = of_client ∙ ap (λ b. after_push old.to_client (adu_output side.Client b s f a)) e ∙ ap (after_push old.to_client) (nil side.Client);
-        of_controller = of_controller ∙ ap (λ b. after_push old.to_controller (adu_output side.Controller b s f a)) e ∙ ap (after_push old.to_controller) (nil side.Controller);
-        of_lines = of_lines ∙ ap (λ b. with_lines old.lines (unit_lines asset old.lane.client moment (is_some_bytes (adu_output side.Client b s f a)) s (spelling a) f)) e
-            ∙ ap (with_lines old.lines) (sym (append-nil (unit_lines asset old.lane.client moment (is_some_bytes (adu_output side.Client (has_ended side.Controller earlier) s f a)) s (spelling a) f)));
-        client_quiet = λ x. sym (nil side.Client) ∙ ap (λ b. adu_output side.Client b s f a) (sym e) ∙ client_quiet x;
-        controller_quiet = λ x. sym (nil side.Controller) ∙ ap (λ b. adu_output side.Controller b s f a) (sym e) ∙ controller_quiet x;
-      }
-
   pub adu_handled : Handled asset (judged moment (Took s (Adu a)) f ∷ []) old new
-  adu_handled = record { client = client; does = adu_does }
+  adu_handled = unit_handled asset moment s (Adu a) f old new client admitted refused rules (λ earlier before knows.
+      (let e = knows.client_ended in
+      let j : Judged = judged moment (Took s (Adu a)) f in
+      record {
+        fate = has earlier knows.rules;
+        of_client = of_client ∙ ap (λ b. after_push old.to_client (adu_output side.Client b s f a)) e;
+        of_controller = of_controller ∙ ap (λ b. after_push old.to_controller (adu_output side.Controller b s f a)) e;
+        of_lines = of_lines ∙ ap (λ b. with_lines old.lines (unit_lines asset old.lane.client moment (is_some_bytes (adu_output side.Client b s f a)) s (spelling a) f)) e;
+        client_quiet = λ x. ap (λ b. adu_output side.Client b s f a) (sym e) ∙ client_quiet x;
+        controller_quiet = λ x. ap (λ b. adu_output side.Controller b s f a) (sym e) ∙ controller_quiet x;
+        wire = λ c. subst (λ w. KnowsWire asset w (earlier ++ j ∷ [])) (sym wire)
+            (wire_stays asset earlier j (λ t. refl) (λ t. refl) (adu_event s a f earlier) old.lane.wire (knows.wire before));
+      }))

@@ -1,16 +1,14 @@
 -- Laws of the items of histories.
-use Rattle.cf_lane.specs.Rates.{Says, says_at}
-use Rattle.cf_audit.specs.declared.line.CutReason.{CutReason}
+use Rattle.cf_lane.specs.Rates.{Says}
 use Rattle.cf_lane.proofs.Commands.{has_one_fate}
 use Rattle.cf_lane.proofs.Histories.{bytes_of-append}
 use Rattle.cf_lane.proofs.Pieces.{units_stay}
 use Rattle.cf_lane.proofs.Units.{free_unit}
-use Rattle.cf_lane.specs.Fate.{HasFate, HasItemFate, HasUnitFate, HaveFates}
-use Rattle.cf_lane.specs.Follows.{DropsBehindCut, GoesOnAfter}
+use Rattle.cf_lane.specs.Fate.{HasItemFate, HasUnitFate}
 use Rattle.cf_lane.specs.History.{Element, bytes_at, bytes_in, bytes_of, is_side, letters_at}
 use Rattle.cf_lane.specs.Item.{AreItems, Broke, Completes, Item, Placed, Took, last_after, last_items, placed}
-use Rattle.cf_lane.specs.Judged.{Judged, fate_cut, place_of}
-use Rattle.cf_lane.specs.Laws.{HasOneJudgement, PiecesJoin}
+use Rattle.cf_lane.specs.Judged.{Judged, place_of}
+use Rattle.cf_lane.specs.Laws.{PiecesJoin}
 use Rattle.cf_lane.specs.Modbus.{HasAduFate}
 use Rattle.cf_lane.specs.Unit.{Adu, AreUnits, Left, SpellsUnit, Tail, UnitValue, Wrong, unit_break}
 use Rattle.cf_lane.specs.declared.fate.Fate.{Fate}
@@ -21,7 +19,7 @@ use Rattle.cf_view.proofs.Units.{one_units_then_break, one_units_then_rest, rest
 use Rattle.cf_view.specs.Framing.{IsPrefixFree}
 use Rattle.cf_view.specs.declared.Break.{Break}
 use Rattle.cf_view.specs.declared.Side.{Side}
-use Rattle.std.proofs.Common.{Bool, List, None, Option, Some, [], ap, append_assoc, false, inl, inr, map, refl, subst, sym, ℕ, ◌++◌, ◌∙◌, ◌∷◌, ◌≡◌}
+use Rattle.std.proofs.Common.{Bool, List, [], ap, append_assoc, false, inl, inr, map, refl, subst, sym, ℕ, ◌++◌, ◌∙◌, ◌∷◌, ◌≡◌}
 use Rattle.std.proofs.lemmas.Bool.{cases_Bool}
 use Rattle.std.proofs.lemmas.List.{append-nil, append_cancel_left, map-append}
 use Rattle.cf_view.specs.declared.Side.TheVariants as side
@@ -182,27 +180,3 @@ same_judged j k a b =
     let moment : j.moment ≡ k.moment = ap (λ (p : Placed). p.moment) a in
     let item : j.item ≡ k.item = ap (λ (p : Placed). p.item) a in
     rw (moment, item, b) refl
-
-rest_same : (c : Option CutReason) (js ks : List Judged) (P Q : Type 0) → (P → Q → js ≡ ks) → GoesOnAfter c js P → GoesOnAfter c ks Q → js ≡ ks
-rest_same None js ks P Q both a b = both a b
-rest_same (Some r) js ks P Q both a b = a ∙ sym b
-
-one_judged : (asset : Asset) (client : ℕ) (earlier js ks : List Judged) (ds es : List Placed) → map place_of js ++ ds ≡ map place_of ks ++ es →
-    HaveFates asset client earlier js → HaveFates asset client earlier ks → DropsBehindCut js ds → DropsBehindCut ks es → js ≡ ks
-one_judged asset client earlier [] [] ds es same x y a b = refl
-one_judged asset client earlier (j ∷ js) (k ∷ ks) ds es same x y a b =
-    let place : place_of j ≡ place_of k = cc in
-    let places : map place_of js ++ ds ≡ map place_of ks ++ es = cc in
-    let fate : j.fate ≡ k.fate = one_item_fate asset (says_at asset client earlier k.moment) earlier k.item j.fate k.fate (subst (λ p. HasFate asset client earlier p j.fate) place x.0) y.0 in
-    let same_one : j ≡ k = same_judged j k place fate in
-    let fates = subst (λ i. HaveFates asset client (earlier ++ i ∷ []) js) same_one x.1 in
-    let goes = subst (λ f. GoesOnAfter (fate_cut f) js (DropsBehindCut js ds)) fate a in
-    let rest = rest_same (fate_cut k.fate) js ks (DropsBehindCut js ds) (DropsBehindCut ks es)
-    (λ p q. one_judged asset client (earlier ++ k ∷ []) js ks ds es places fates y.1 p q) goes b in
-    cc (same_one, rest)
-one_judged asset client earlier js ks ds es same x y a b = cc
-
-pub has_one_judgement : HasOneJudgement
-has_one_judgement asset client h js ks a b =
-    let items = one_items asset.protocol (free_unit asset.protocol) [] h a.items b.items a.are_items b.are_items in
-    one_judged asset client [] js ks a.dropped b.dropped (sym a.are_first ∙ items ∙ b.are_first) a.fates b.fates a.goes_on b.goes_on

@@ -22,13 +22,14 @@ use Rattle.cf_view.specs.declared.Side.{Side}
 use Rattle.std.specs.Fmt.{digit_glyph, digits}
 use Rattle.hex.specs.Hex.{encode_lower, encode_with, lower_digits}
 use Rattle.std.proofs.Common.{Bool, List, None, Option, Some, [], ap, arith, false, length, refl, rules, slice_get, subst, suc, sym, take, true, zero, ℕ, ◌++◌, ◌+◌, ◌<◌, ◌∙◌, ◌∷◌, ◌≡◌}
-use Rattle.std.proofs.lemmas.Bool.{and_parts, eqb-true, ne_eqb}
+use Rattle.std.proofs.lemmas.Bool.{and_parts, cond_both, eqb-true, ne_eqb}
 use Rattle.std.proofs.lemmas.List.Folds.{list_all-append}
+use Rattle.std.proofs.lemmas.Option.{get_or_from_slice_get, slice_get_within}
 use Rattle.std.specs.Fmt.{digits_onto, signed_decimal}
 use Rattle.std.specs.List.{list_all}
 use Rattle.cf_policy.specs.Verdict.{is_empty}
 use Rattle.std.specs.Option.{option_map_or}
-use Rattle.std.specs.Prelude.{All, codes, decimal, if◌then◌else◌, nat_le, nat_lt, negsuc, not, pos, slice_index, slice_index_or, ℤ, ◌%◌, ◌&&◌, ◌/◌, ◌==◌}
+use Rattle.std.specs.Prelude.{All, codes, decimal, if◌then◌else◌, nat_le, nat_lt, negsuc, not, pos, slice_index, ℤ, ◌%◌, ◌&&◌, ◌/◌, ◌==◌}
 use Rattle.cf_view.specs.declared.Break.TheVariants as break
 use Rattle.cf_audit.specs.declared.line.CutReason.TheVariants as cut
 use Rattle.cf_policy.specs.declared.Decider.TheVariants as decider
@@ -64,16 +65,12 @@ glyph_plain : (d : ℕ) (low : Bool) → is_plain (if low then 48 + d else (if f
 glyph_plain d true = far (48 + d) (omega arith)
 glyph_plain d false = far (87 + d) (omega arith)
 
-onto_step : (b : Bool) (xs ys : List ℕ) → are_plain xs ≡ true → are_plain ys ≡ true → are_plain (if b then xs else ys) ≡ true
-onto_step true xs ys a b = a
-onto_step false xs ys a b = b
-
 onto_plain : (k n : ℕ) (acc : List ℕ) → are_plain acc ≡ true → are_plain (digits_onto k 10 false n acc) ≡ true
 onto_plain zero n acc h = h
 onto_plain (suc k) n acc h =
     let more = one_plain (digit_glyph false (n % 10)) acc (glyph_plain (n % 10) (nat_lt (n % 10) 10)) h in
-    onto_step (n / 10 == 0) (digit_glyph false (n % 10) ∷ acc) (digits_onto k 10 false (n / 10) (digit_glyph false (n % 10) ∷ acc)) more
-    (onto_plain k (n / 10) (digit_glyph false (n % 10) ∷ acc) more)
+    cond_both (n / 10 == 0) (digit_glyph false (n % 10) ∷ acc) (digits_onto k 10 false (n / 10) (digit_glyph false (n % 10) ∷ acc)) (λ xs. are_plain xs ≡ true) (λ _. more)
+    (λ _. onto_plain k (n / 10) (digit_glyph false (n % 10) ∷ acc) more)
 
 pub decimal_plain : (n : ℕ) → are_plain (decimal n) ≡ true
 unfolding digits
@@ -181,12 +178,6 @@ one_line l h =
     line_of_plain (moment_text l.moment ++ codes " " ++ endpoint_text l.client ++ codes " " ++ l.asset ++ codes " " ++ what_text l.what)
     (and_plain (((((moment_text l.moment ++ codes " ") ++ endpoint_text l.client) ++ codes " ") ++ l.asset) ++ codes " ") (what_text l.what) (and_plain ((((moment_text l.moment ++ codes " ") ++ endpoint_text l.client) ++ codes " ") ++ l.asset) (codes " ") (and_plain (((moment_text l.moment ++ codes " ") ++ endpoint_text l.client) ++ codes " ") (l.asset) (and_plain ((moment_text l.moment ++ codes " ") ++ endpoint_text l.client) (codes " ") (and_plain (moment_text l.moment ++ codes " ") (endpoint_text l.client) (and_plain (moment_text l.moment) (codes " ") (moment_plain l.moment) (refl)) (endpoint_plain l.client)) (refl)) (name_plain l.asset h.0)) (refl)) (what_plain l.what h.1))
 
--- what stands at a place
-found_at : (rules : List Rule) (n : ℕ) (r : Rule) → slice_get rules n ≡ Some r → (n < length rules) × (slice_index_or rules n r ≡ r)
-found_at [] n r e = cc
-found_at (x ∷ rules) zero r e = (omega arith, cc)
-found_at (x ∷ rules) (suc n) r e = let h = found_at rules n r e in (omega (arith, h.0), h.1)
-
 -- the names of an asset within its ranges
 last_of : (a b c : Bool) → (a && (b && c)) ≡ true → c ≡ true
 last_of a b c h = (and_parts b c (and_parts a (b && c) h).1).1
@@ -198,9 +189,8 @@ rule_plain : (rules : List Rule) → All IsRuleWithin rules → (n : ℕ) (found
     list_all is_name_byte (option_map_or (λ r. r.name) found []) ≡ true
 rule_plain rules each n None is = refl
 rule_plain rules each n (Some r) is =
-    let here = found_at rules n r is in
-    let within = each n r here.0 in
-    let name = (subst IsRuleWithin here.1 within).name in
+    let within = each n r (slice_get_within rules n r is) in
+    let name = (subst IsRuleWithin (get_or_from_slice_get rules n r r is) within).name in
     last_of (not (is_empty r.name)) (nat_le (length r.name) 32) (list_all is_name_byte r.name) name
 
 pub decider_plain : (a : Asset) → IsAssetWithin a → (d : Decider) → IsOneOf a.rules d → list_all is_name_byte (name_of a.rules d) ≡ true

@@ -3,7 +3,7 @@ use Rattle.cf_lane.specs.Unit.{AreUnits, Left, SpellsUnit, Tail, UnitValue, Wron
 use Rattle.cf_policy.specs.declared.Protocol.{Protocol}
 use Rattle.cf_view.proofs.Framing.{unit_not_partial}
 use Rattle.cf_view.specs.Framing.{Begins, BreaksAt, IsFront, IsPartial, IsPrefixFree}
-use Rattle.cf_view.specs.Units.{BeginsWithUnits, IsUnitsThenBreak, IsUnitsThenRest}
+use Rattle.cf_view.specs.Units.{BeginsWithUnits}
 use Rattle.cf_view.specs.declared.Break.{Break}
 use Rattle.std.proofs.Common.{List, [], ap, arith, drop, inl, inr, length, refl, subst, sym, take, take-append-drop, ℕ, ◌++◌, ◌+◌, ◌∷◌, ◌≡◌, ◌≤◌}
 use Rattle.std.proofs.lemmas.Bool.{cases_lt}
@@ -36,38 +36,34 @@ module _ {U : Type 0} (Spells : U → List ℕ → Type 0) where
     here = λ f. b.here (subst (IsFront Spells) (take-append-le (i + 1) xs ys (omega (arith, b.inside))) f);
   }
 
-  pub cut_pieces : (us vs : List U) (xs rest ys left : List ℕ) → IsUnitsThenRest Spells us xs rest → IsUnitsThenRest Spells vs (rest ++ ys) left →
-      IsUnitsThenRest Spells (us ++ vs) (xs ++ ys) left
-  cut_pieces us vs xs rest ys left a b = record {
-    starts = starts_join us vs (xs ++ ys) (rest ++ ys) left (starts_longer us xs rest ys a.starts) b.starts;
-    partial = b.partial;
-  }
-
-  pub broken_pieces : (us vs : List U) (xs rest ys : List ℕ) (place : ℕ) → IsUnitsThenRest Spells us xs rest → IsUnitsThenBreak Spells vs (rest ++ ys) place →
-      IsUnitsThenBreak Spells (us ++ vs) (xs ++ ys) place
-  broken_pieces us vs xs rest ys place a b = record {
-    rest = b.rest;
-    starts = starts_join us vs (xs ++ ys) (rest ++ ys) b.rest (starts_longer us xs rest ys a.starts) b.starts;
-    breaks = b.breaks;
-  }
-
-  -- what is broken is broken at the same place, whatever follows
-  pub broken_stays : (us : List U) (xs ys : List ℕ) (place : ℕ) → IsUnitsThenBreak Spells us xs place → IsUnitsThenBreak Spells us (xs ++ ys) place
-  broken_stays us xs ys place b = record {
-    rest = b.rest ++ ys;
-    starts = starts_longer us xs b.rest ys b.starts;
-    breaks = breaks_longer b.rest ys place b.breaks;
-  }
-
 -- THE LAW OF PIECES: units of a part, and then those of what it left with the next part, are the units of both
 pub units_pieces : (p : Protocol) (us vs : List UnitValue) (xs rest ys : List ℕ) (tail : Tail) → AreUnits p xs us (Left rest) → AreUnits p (rest ++ ys) vs tail →
     AreUnits p (xs ++ ys) (us ++ vs) tail
-units_pieces p us vs xs rest ys (Left left) a b = cut_pieces (SpellsUnit p) us vs xs rest ys left a b
-units_pieces p us vs xs rest ys (Wrong reason) a b = (b.0, broken_pieces (SpellsUnit p) us vs xs rest ys b.0 a b.1, b.2)
+units_pieces p us vs xs rest ys (Left left) a b = record {
+  starts = starts_join (SpellsUnit p) us vs (xs ++ ys) (rest ++ ys) left (starts_longer (SpellsUnit p) us xs rest ys a.starts) b.starts;
+  partial = b.partial;
+}
+units_pieces p us vs xs rest ys (Wrong reason) a b = (
+  b.0,
+  record {
+    rest = b.1.rest;
+    starts = starts_join (SpellsUnit p) us vs (xs ++ ys) (rest ++ ys) b.1.rest (starts_longer (SpellsUnit p) us xs rest ys a.starts) b.1.starts;
+    breaks = b.1.breaks;
+  },
+  b.2,
+)
 
 -- what is broken stays so
 pub units_stay : (p : Protocol) (us : List UnitValue) (xs ys : List ℕ) (reason : Break) → AreUnits p xs us (Wrong reason) → AreUnits p (xs ++ ys) us (Wrong reason)
-units_stay p us xs ys reason a = (a.0, broken_stays (SpellsUnit p) us xs ys a.0 a.1, a.2)
+units_stay p us xs ys reason a = (
+  a.0,
+  record {
+    rest = a.1.rest ++ ys;
+    starts = starts_longer (SpellsUnit p) us xs a.1.rest ys a.1.starts;
+    breaks = breaks_longer (SpellsUnit p) a.1.rest ys a.0 a.1.breaks;
+  },
+  a.2,
+)
 
 module _ {U : Type 0} (Spells : U → List ℕ → Type 0) where
   starts_shorter : (us : List U) (xs left : List ℕ) → BeginsWithUnits Spells us xs left → length left ≤ length xs

@@ -6,7 +6,7 @@ use Rattle.cf_lane.proofs.Histories.{bytes_of-append}
 use Rattle.cf_lane.proofs.Judgements.{one_units, pieces_join, same_bytes, same_earlier}
 use Rattle.cf_lane.proofs.Units.{free_unit}
 use Rattle.cf_lane.specs.Follows.{AreJudged, AreRests, IsRest, Rests}
-use Rattle.cf_lane.specs.History.{Element, bytes_at, bytes_in, bytes_of, end_at, letters_at}
+use Rattle.cf_lane.specs.History.{Element, bytes_at, bytes_in, bytes_of, end_at, is_side, letters_at}
 use Rattle.cf_lane.specs.Item.{AreItems, Completes, Placed, Took, last_after, placed}
 use Rattle.cf_lane.specs.Laws.{EndJoins, JudgedJoin, NothingTaken}
 use Rattle.cf_lane.specs.Unit.{AreUnits, Left, SpellsUnit, Tail, Wrong}
@@ -14,6 +14,7 @@ use Rattle.cf_policy.specs.declared.Protocol.{Protocol}
 use Rattle.cf_view.specs.Framing.{IsPrefixFree}
 use Rattle.cf_view.specs.declared.Side.{Side}
 use Rattle.std.proofs.Common.{List, None, Option, Some, [], ap, append_assoc, false, map, refl, subst, sym, true, ℕ, ◌++◌, ◌∙◌, ◌∷◌, ◌≡◌}
+use Rattle.std.proofs.lemmas.Bool.{cond_both}
 use Rattle.std.proofs.lemmas.List.{append-nil, append_cancel_left}
 use Rattle.cf_view.specs.declared.Side.TheVariants as side
 
@@ -44,10 +45,7 @@ nothing_last (Left r) s = refl
 nothing_last (Wrong b) s = refl
 
 none_in : (t s : Side) (m : ℕ) → bytes_in t (bytes_at m s []) ≡ []
-none_in side.Client side.Client m = refl
-none_in side.Client side.Controller m = refl
-none_in side.Controller side.Client m = refl
-none_in side.Controller side.Controller m = refl
+none_in t s m = cond_both (is_side t s) [] [] (λ xs. xs ≡ []) (λ _. refl) (λ _. refl)
 
 -- an element without letters completes nothing
 nothing_completes : (p : Protocol) → IsPrefixFree (SpellsUnit p) → (earlier : List Element) (m : ℕ) (s : Side) (now : List Placed) → Completes p earlier (bytes_at m s []) now → now ≡ []

@@ -7,11 +7,13 @@ use Rattle.cf_lane.proofs.Assemblies.{size}
 use Rattle.cf_lane.proofs.Earlier.{in_turn-append, left_most, segments_of-more}
 use Rattle.cf_lane.proofs.FrameSizes.{frame_grows, owed, potential}
 use Rattle.cf_lane.proofs.Growth.{AreItemsOf, IsItemOf, all_weight, further, items_split, of_front, short_caps, weight, weights, weights-append}
+use Rattle.cf_lane.proofs.Handling.{fates_behind}
 use Rattle.cf_lane.proofs.Judgements.{one_items}
+use Rattle.cf_lane.proofs.Renumbering.{ack_most}
 use Rattle.cf_lane.proofs.Units.{free_unit}
 use Rattle.cf_lane.specs.Dnp3.{segment_in, segments_of}
 use Rattle.cf_lane.specs.Fate.{HasItemFate, HaveFates}
-use Rattle.cf_lane.specs.Iec104.{ack_octets, ack_output, apdu_output, mirror_output, renumbered, stamped}
+use Rattle.cf_lane.specs.Iec104.{ack_output, apdu_output, mirror_output, renumbered, stamped}
 use Rattle.cf_lane.specs.Item.{Item, Took}
 use Rattle.cf_lane.specs.Judged.{Judged, goes_on, has_ended, in_turn, place_of}
 use Rattle.cf_lane.specs.Laws.{GrowsLittle}
@@ -26,6 +28,7 @@ use Rattle.cf_policy.specs.declared.Protocol.{Protocol}
 use Rattle.cf_renumber.specs.Counts.{mirror_stamp, owed_ack}
 use Rattle.cf_view.specs.declared.Side.{Side}
 use Rattle.std.proofs.Common.{Bool, List, None, Option, Some, [], ap, append_assoc, arith, drop, false, length, map, refl, subst, sym, take, true, ℕ, ◌*◌, ◌++◌, ◌+◌, ◌∙◌, ◌∷◌, ◌≡◌, ◌≤◌}
+use Rattle.std.proofs.lemmas.Bool.{cond_both}
 use Rattle.std.proofs.lemmas.List.{append-nil, length-append, length-drop, length-take}
 use Rattle.std.specs.Prelude.{if◌then◌else◌, slice_index}
 use Rattle.cf_lane.specs.declared.fate.Fate.TheVariants as fate
@@ -38,14 +41,12 @@ reply_size false fate.Carried a = omega arith
 reply_size ended f a = omega arith
 
 if_size : (b : Bool) (xs : List ℕ) (n : ℕ) → length xs ≤ n → length (if b then xs else []) ≤ n
-if_size true xs n l = l
-if_size false xs n l = omega arith
+if_size b xs n l = cond_both b xs [] (λ ys. length ys ≤ n) (λ _. l) (λ _. omega arith)
 
 adu_size : (to s : Side) (ended : Bool) (f : Fate) (a : AduValue) → length (adu_output to ended s f a) ≤ 2 * length (spelling a)
 adu_size side.Client side.Client ended f a = reply_size ended f a
-adu_size side.Client side.Controller ended f a = if_size (goes_on f) (spelling a) (2 * length (spelling a)) (omega arith)
-adu_size side.Controller side.Client ended f a = if_size (goes_on f) (spelling a) (2 * length (spelling a)) (omega arith)
 adu_size side.Controller side.Controller ended f a = omega arith
+adu_size to s ended f a = if_size (goes_on f) (spelling a) (2 * length (spelling a)) (omega arith)
 
 -- and so does an APDU
 mirror_size : (earlier : List Judged) (f : Fate) (a : ApduValue) → length (mirror_output earlier f a) ≤ 2 * length (apdu_spelling a)
@@ -60,16 +61,12 @@ mirror_size earlier (fate.Refused r) (Info send receive asdu) =
     ))
 mirror_size earlier f a = omega arith
 
-ack_size : (o : Option ℕ) → length (ack_octets o) ≤ 6
-ack_size None = omega arith
-ack_size (Some receive) = omega arith
-
 least_size : (a : ApduValue) → 6 ≤ length (apdu_spelling a)
 least_size (Info send receive asdu) = omega arith
 least_size a = omega arith
 
 owed_size : (earlier : List Judged) (f : Fate) (receive : ℕ) → length (ack_output earlier f receive) ≤ 6
-owed_size earlier (fate.Refused r) receive = ack_size (owed_ack (events_of earlier) receive)
+owed_size earlier (fate.Refused r) receive = ack_most (owed_ack (events_of earlier) receive)
 owed_size earlier f receive = omega arith
 
 renumbered_size : (to : Side) (earlier : List Judged) (a : ApduValue) → length (apdu_spelling (renumbered to earlier a)) ≡ length (apdu_spelling a)
@@ -134,11 +131,6 @@ items_grow asset client to p earlier (j ∷ js) of fates =
       length-append (output asset to earlier j) (in_turn (output asset to) (earlier ++ j ∷ []) js),
       ap (potential asset) (append_assoc earlier (j ∷ []) js),
     )
-
-fates_behind : (asset : Asset) (client : ℕ) (earlier js ms : List Judged) → HaveFates asset client earlier (js ++ ms) → HaveFates asset client (earlier ++ js) ms
-fates_behind asset client earlier [] ms f = subst (λ before. HaveFates asset client before ms) (sym (append-nil earlier)) f
-fates_behind asset client earlier (j ∷ js) ms f =
-    subst (λ before. HaveFates asset client before ms) (append_assoc earlier (j ∷ []) js) (fates_behind asset client (earlier ++ j ∷ []) js ms f.1)
 
 pub grows_little : GrowsLittle
 grows_little asset client h more js ks to a b =

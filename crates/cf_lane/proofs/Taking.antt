@@ -114,30 +114,25 @@ module _ (asset : Asset) (modbus : asset.protocol ≡ protocol.Modbus) (moment :
     handled = t.handled;
   }
 
-  -- a controller's ADU goes on
-  pub takes_controller : (a : AduValue) (n : ℕ) (old new : State) → old.to_client.ended ≡ false → new.lane ≡ old.lane →
-      new.to_client ≡ after_push old.to_client (spelling a) → new.to_controller ≡ old.to_controller → new.lines ≡ old.lines →
-      Begins SpellsAdu bytes a n → TakesUnit asset moment side.Controller bytes n None old new
-  takes_controller a n old new goes lane c s t b = record {
-    unit = Adu a;
-    begins = begins_by (adus asset.protocol modbus) bytes a n b;
-    some_bytes = omega (arith, adu_least a bytes n b);
-    fate = fate.Carried;
-    is_cut = refl;
-    handled = adu_handled asset moment side.Controller a fate.Carried old new (λ earlier know. refl)
-        (rules_stay fate.Carried moment old.lane.rules new.lane.rules refl (ap (λ l. l.rules) lane)) (ap (λ l. l.client) lane) (ap (λ l. l.wire) lane)
-        (ap (λ l. l.admitted) lane ∙ omega arith) (ap (λ l. l.refused) lane ∙ omega arith)
-        c (s ∙ sym (push-nothing old.to_controller)) (t ∙ sym (with_lines-nothing old.lines)) (λ e. cc (e, goes)) (λ e. refl);
-  }
-
   -- the same of the side that it is
   pub takes_of_client : (s : Side) → s ≡ side.Client → (a : AduValue) (n : ℕ) (old new : State) → Begins SpellsAdu bytes a n → TakesCommand asset moment a old new →
       TakesUnit asset moment s bytes n None old new
   takes_of_client s is a n old new b t = subst (λ (s : Side). TakesUnit asset moment s bytes n None old new) (sym is) (takes_client a n old new b t)
 
+  -- a controller's ADU goes on
   pub takes_of_controller : (s : Side) → s ≡ side.Controller → (a : AduValue) (n : ℕ) (old new : State) → IsOpen s old.to_client old.to_controller → new.lane ≡ old.lane →
       new.to_client ≡ after_push old.to_client (spelling a) → new.to_controller ≡ old.to_controller → new.lines ≡ old.lines →
       Begins SpellsAdu bytes a n → TakesUnit asset moment s bytes n None old new
   takes_of_controller s is a n old new goes lane c q t b =
-      subst (λ (s : Side). TakesUnit asset moment s bytes n None old new) (sym is)
-      (takes_controller a n old new (subst (λ (s : Side). IsOpen s old.to_client old.to_controller) is goes) lane c q t b)
+      let unended : old.to_client.ended ≡ false = subst (λ (s : Side). IsOpen s old.to_client old.to_controller) is goes in
+      subst (λ (s : Side). TakesUnit asset moment s bytes n None old new) (sym is) (record {
+        unit = Adu a;
+        begins = begins_by (adus asset.protocol modbus) bytes a n b;
+        some_bytes = omega (arith, adu_least a bytes n b);
+        fate = fate.Carried;
+        is_cut = refl;
+        handled = adu_handled asset moment side.Controller a fate.Carried old new (λ earlier know. refl)
+            (rules_stay fate.Carried moment old.lane.rules new.lane.rules refl (ap (λ l. l.rules) lane)) (ap (λ l. l.client) lane) (ap (λ l. l.wire) lane)
+            (ap (λ l. l.admitted) lane ∙ omega arith) (ap (λ l. l.refused) lane ∙ omega arith)
+            c (q ∙ sym (push-nothing old.to_controller)) (t ∙ sym (with_lines-nothing old.lines)) (λ e. cc (e, unended)) (λ e. refl);
+      })

@@ -1,6 +1,6 @@
 -- The units of each protocol among those of all.
 use Rattle.cf_apci.proofs.Fronts.{apdu_front, apdus_free}
-use Rattle.cf_apci.specs.Apdu.{Ack, ApduValue, Control, Info, SpellsApdu, apdu_break, spelling}
+use Rattle.cf_apci.specs.Apdu.{ApduValue, Info, SpellsApdu, apdu_break, spelling}
 use Rattle.cf_dnplink.proofs.Frames.{spelled_free, spelled_front}
 use Rattle.cf_dnplink.proofs.Writing.{length-blocks_by}
 use Rattle.cf_dnplink.specs.LinkFrame.{FrameValue, SpellsFrame, blocks_of, frame_break}
@@ -63,18 +63,15 @@ module _ {U : Type 0} {Spells : U → List ℕ → Type 0} {p : Protocol} {unit 
 
 adu_from : (v : UnitValue) (xs : List ℕ) → SpellsUnit protocol.Modbus v xs → (a : AduValue) × (v ≡ Adu a) × SpellsAdu a xs
 adu_from (Adu a) xs s = (a, refl, s)
-adu_from (Frame f) xs s = absurd s
-adu_from (Apdu a) xs s = absurd s
+adu_from v xs s = absurd s
 
 frame_from : (v : UnitValue) (xs : List ℕ) → SpellsUnit protocol.Dnp3 v xs → (f : FrameValue) × (v ≡ Frame f) × SpellsFrame f xs
-frame_from (Adu a) xs s = absurd s
 frame_from (Frame f) xs s = (f, refl, s)
-frame_from (Apdu a) xs s = absurd s
+frame_from v xs s = absurd s
 
 apdu_from : (v : UnitValue) (xs : List ℕ) → SpellsUnit protocol.Iec104 v xs → (a : ApduValue) × (v ≡ Apdu a) × SpellsApdu a xs
-apdu_from (Adu a) xs s = absurd s
-apdu_from (Frame f) xs s = absurd s
 apdu_from (Apdu a) xs s = (a, refl, s)
+apdu_from v xs s = absurd s
 
 -- the grammar of each protocol
 pub adus : (p : Protocol) → p ≡ protocol.Modbus → IsGrammarOf SpellsAdu p Adu mbap_break
@@ -102,8 +99,7 @@ frame_most f xs s =
 
 apdu_size : (a : ApduValue) → apci.Fits a → length (spelling a) ≤ 300
 apdu_size (Info send receive asdu) f = omega (arith, f.2)
-apdu_size (Ack receive) f = omega arith
-apdu_size (Control code) f = omega arith
+apdu_size a f = omega arith
 
 apdu_most : (a : ApduValue) (xs : List ℕ) → SpellsApdu a xs → length xs ≤ 300
 apdu_most a xs s = omega (arith, ap length s.spelled, apdu_size a s.fits)

@@ -1,10 +1,12 @@
-use Rattle.std.proofs.Common.{arith, ap, length, ◌≤◌, of_calls, refl, ◌∙◌}
+use Rattle.std.proofs.Common.{arith, ap, length, ◌+◌, ◌≤◌, of_calls, refl, ◌∙◌}
 use Rattle.cf_lane.specs.Acts.{by_refusal, first_refusal, used_by}
 use Rattle.cf_lane.specs.Rates.{rated}
 use Rattle.cf_lane.specs.Ring.{ring_rate}
 use Rattle.cf_lane.specs.Rings.{says_by}
 use Rattle.std.specs.Prelude.{map}
-use Rattle.cf_lane.proofs.Commands.{admitted_at_end, all_used, allowed_at, none_used, one_used, refused_at}
+use Rattle.cf_lane.proofs.Commands.{admitted_at_end, all_used, allowed_at, none_used, refused_at}
+use Rattle.cf_lane.proofs.Runs.{one_has, used_to}
+use Rattle.cf_policy.specs.declared.Verdict.TheVariants as verdict
 use Rattle.cf_lane.proofs.fate.judge_rated.Goals as goal
 
 pub returns-in-Refuse-clause-fate : goal.returns-in-Refuse-clause-fate
@@ -25,8 +27,9 @@ loop-i-preserved g c = record {
       let here = gives c.loop-i.i c.act_at-act.result (omega (arith, size, c.loop-i-test.true)) (search of_calls) in
       let before = c.loop-i.invariant.so_far client acts is size gives in (
         allowed_at says acts c.loop-i.i c.act_at-act.result here before.0 c.in-Allow.number (c.in-Allow.ensures.says client is),
-        one_used (rated c.args.asset.now.rules) (map ring_rate c.args.rules.now.rings.items) says acts c.loop-i.i c.act_at-act.result c.loop-i.used c.mark.new.used c.in-Allow.number is.rings here
-            (c.in-Allow.ensures.says client is) c.mark.ensures.marks before.1,
+        used_to (rated c.args.asset.now.rules) (map ring_rate c.args.rules.now.rings.items) says acts c.loop-i.i (c.loop-i.i + 1) c.in-Allow.number (verdict.Allow c.in-Allow.number)
+            c.loop-i.used c.mark.new.used is.rings (one_has says acts c.loop-i.i c.act_at-act.result (verdict.Allow c.in-Allow.number) here (c.in-Allow.ensures.says client is)) refl
+            (omega arith) (omega (arith, size, c.loop-i-test.true)) c.mark.ensures.marks before.1,
       ));
 }
 

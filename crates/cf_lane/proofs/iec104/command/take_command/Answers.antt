@@ -17,9 +17,6 @@ use Rattle.cf_view.specs.declared.Side.TheVariants as side
 use Rattle.cf_outside.specs.Desk.{DeskValue}
 use Rattle.cf_lane.proofs.iec104.command.take_command.Goals as goal
 
-pub push_refused-requires-clause-mirror : goal.push_refused-requires-clause-mirror
-push_refused-requires-clause-mirror g c = search rules
-
 pub returns-in_err-log_refusal-in-Refused-clause-misses :
     goal.returns-in_err-log_refusal-in-Refused-clause-misses
 returns-in_err-log_refusal-in-Refused-clause-misses g c =

@@ -24,12 +24,6 @@ units-init g c = record {
   log = writes_none _;
 }
 
-pub after-requires : goal.after-requires
-after-requires g c = c.units.invariant.inside
-
-pub step-requires-clause-whole : goal.step-requires-clause-whole
-step-requires-clause-whole g c = c.units.invariant.whole
-
 pub step-requires-clause-open : goal.step-requires-clause-open
 step-requires-clause-open g c = open_stays c.args.side _ _ _ _ _ _ _ _ c.requires.«open» c.units.invariant.client_grows c.units.invariant.controller_grows
 
@@ -71,9 +65,6 @@ units-preserved g c =
       whole = c.in_ok-step.ensures.whole;
       log = writes_both _ _ _ inv.log c.step.ensures.log;
     }
-
-pub returns-in-More-clause-used : goal.returns-in-More-clause-used
-returns-in-More-clause-used g c = c.units.invariant.inside
 
 pub returns-in-More-clause-history : goal.returns-in-More-clause-history
 returns-in-More-clause-history g c =
@@ -121,9 +112,6 @@ pub returns-in_err-step-clause-fails_apart : goal.returns-in_err-step-clause-fai
 returns-in_err-step-clause-fails_apart g c =
     on_err _ _ (fails_apart c.args.asset.now (free_unit c.args.asset.now.protocol) (nothing_unit c.args.asset.now.protocol)
     c.args.moment c.args.side c.args.bytes.bytes c.units.used _ _ _ _ c.units.invariant.along (misses_rest _ _ _ _ _ _ _ _ c.after.ensures.bytes c.in_err-step.ensures.misses))
-
-pub step-requires-clause-of_asset : goal.step-requires-clause-of_asset
-step-requires-clause-of_asset g c = c.units.invariant.of_asset
 
 pub returns-in-More-clause-debt : goal.returns-in-More-clause-debt
 returns-in-More-clause-debt g c = debt_most _ _ c.in_ok-step.ensures.of_asset

@@ -10,7 +10,6 @@ count_front-requires-clause-counts g c =
     let value = g.D.Desk.value in
     let old = outlets c.args.to_client.now c.args.to_controller.now (DeskValue.lines (value c.args.desk.now)) in
     let new = outlets c.take_frame_at_front.new.to_client c.take_frame_at_front.new.to_controller (DeskValue.lines (value c.take_frame_at_front.new.desk)) in
-    let mid = lane_of c.self.inside.client c.self.inside.admitted c.self.inside.refused c.self.inside.rules (wire.Dnp3 c.take_frame_at_front.new.self) in
     let front = fronts_in c.args.asset.now _ _ _ _ _ _ _ c.self.view_is c.in-Dnp3.is c.args.moment c.args.side c.args.bytes.now.bytes old (wire.Dnp3 c.take_frame_at_front.new.self) new c.in_ok-front-in-Dnp3.front c.in_ok-front-in-Dnp3.ensures.fronts in
     omega (arith, c.requires.counts, counted_most c.args.asset.now c.args.moment c.args.side c.args.bytes.now.bytes _ _ c.in_ok-front-in-Dnp3.front front, ap (λ (l : LaneValue). l.admitted) c.self.view_is, ap (λ (l : LaneValue). l.refused) c.self.view_is)
 
@@ -33,7 +32,6 @@ returns-in_ok-front-in-Dnp3-clause-counts g c =
     let value = g.D.Desk.value in
     let old = outlets c.args.to_client.now c.args.to_controller.now (DeskValue.lines (value c.args.desk.now)) in
     let new = outlets c.take_frame_at_front.new.to_client c.take_frame_at_front.new.to_controller (DeskValue.lines (value c.take_frame_at_front.new.desk)) in
-    let mid = lane_of c.self.inside.client c.self.inside.admitted c.self.inside.refused c.self.inside.rules (wire.Dnp3 c.take_frame_at_front.new.self) in
     let front = fronts_in c.args.asset.now _ _ _ _ _ _ _ c.self.view_is c.in-Dnp3.is c.args.moment c.args.side c.args.bytes.now.bytes old (wire.Dnp3 c.take_frame_at_front.new.self) new c.in_ok-front-in-Dnp3.front c.in_ok-front-in-Dnp3.ensures.fronts in
     omega (
       arith,
@@ -47,7 +45,6 @@ returns-in_ok-front-in-Dnp3-clause-inside g c =
     let value = g.D.Desk.value in
     let old = outlets c.args.to_client.now c.args.to_controller.now (DeskValue.lines (value c.args.desk.now)) in
     let new = outlets c.take_frame_at_front.new.to_client c.take_frame_at_front.new.to_controller (DeskValue.lines (value c.take_frame_at_front.new.desk)) in
-    let mid = lane_of c.self.inside.client c.self.inside.admitted c.self.inside.refused c.self.inside.rules (wire.Dnp3 c.take_frame_at_front.new.self) in
     let front = fronts_in c.args.asset.now _ _ _ _ _ _ _ c.self.view_is c.in-Dnp3.is c.args.moment c.args.side c.args.bytes.now.bytes old (wire.Dnp3 c.take_frame_at_front.new.self) new c.in_ok-front-in-Dnp3.front c.in_ok-front-in-Dnp3.ensures.fronts in
     inside_counted c.args.asset.now c.args.moment c.args.side c.args.bytes.now.bytes _ _ c.in_ok-front-in-Dnp3.front front c.count_front.result c.count_front.ensures.step
 
@@ -68,7 +65,6 @@ count_front-requires-in-Iec104-clause-counts g c =
     let value = g.D.Desk.value in
     let old = outlets c.args.to_client.now c.args.to_controller.now (DeskValue.lines (value c.args.desk.now)) in
     let new = outlets c.take_apdu_at_front.new.to_client c.take_apdu_at_front.new.to_controller (DeskValue.lines (value c.take_apdu_at_front.new.desk)) in
-    let mid = lane_of c.self.inside.client c.self.inside.admitted c.self.inside.refused c.self.inside.rules (wire.Iec104 c.take_apdu_at_front.new.numbers) in
     let front = fronts_in c.args.asset.now _ _ _ _ _ _ _ c.self.view_is c.in-Iec104.is c.args.moment c.args.side c.args.bytes.now.bytes old (wire.Iec104 c.take_apdu_at_front.new.numbers) new c.in_ok-front-in-Iec104.front c.in_ok-front-in-Iec104.ensures.fronts in
     omega (arith, c.requires.counts, counted_most c.args.asset.now c.args.moment c.args.side c.args.bytes.now.bytes _ _ c.in_ok-front-in-Iec104.front front, ap (λ (l : LaneValue). l.admitted) c.self.view_is, ap (λ (l : LaneValue). l.refused) c.self.view_is)
 
@@ -91,7 +87,6 @@ returns-in_ok-front-in-Iec104-clause-counts g c =
     let value = g.D.Desk.value in
     let old = outlets c.args.to_client.now c.args.to_controller.now (DeskValue.lines (value c.args.desk.now)) in
     let new = outlets c.take_apdu_at_front.new.to_client c.take_apdu_at_front.new.to_controller (DeskValue.lines (value c.take_apdu_at_front.new.desk)) in
-    let mid = lane_of c.self.inside.client c.self.inside.admitted c.self.inside.refused c.self.inside.rules (wire.Iec104 c.take_apdu_at_front.new.numbers) in
     let front = fronts_in c.args.asset.now _ _ _ _ _ _ _ c.self.view_is c.in-Iec104.is c.args.moment c.args.side c.args.bytes.now.bytes old (wire.Iec104 c.take_apdu_at_front.new.numbers) new c.in_ok-front-in-Iec104.front c.in_ok-front-in-Iec104.ensures.fronts in
     omega (
       arith,
@@ -105,7 +100,6 @@ returns-in_ok-front-in-Iec104-clause-inside g c =
     let value = g.D.Desk.value in
     let old = outlets c.args.to_client.now c.args.to_controller.now (DeskValue.lines (value c.args.desk.now)) in
     let new = outlets c.take_apdu_at_front.new.to_client c.take_apdu_at_front.new.to_controller (DeskValue.lines (value c.take_apdu_at_front.new.desk)) in
-    let mid = lane_of c.self.inside.client c.self.inside.admitted c.self.inside.refused c.self.inside.rules (wire.Iec104 c.take_apdu_at_front.new.numbers) in
     let front = fronts_in c.args.asset.now _ _ _ _ _ _ _ c.self.view_is c.in-Iec104.is c.args.moment c.args.side c.args.bytes.now.bytes old (wire.Iec104 c.take_apdu_at_front.new.numbers) new c.in_ok-front-in-Iec104.front c.in_ok-front-in-Iec104.ensures.fronts in
     inside_counted c.args.asset.now c.args.moment c.args.side c.args.bytes.now.bytes _ _ c.in_ok-front-in-Iec104.front front c.count_front-in-Iec104.result c.count_front-in-Iec104.ensures.step
 
