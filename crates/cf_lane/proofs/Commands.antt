@@ -75,9 +75,6 @@ none_refused : (used : List Bool) (x : Option Refusal) → is_admitted (by_refus
 none_refused used None e = refl
 none_refused used (Some x) e = cc
 
-by_none : (used : List Bool) (x : Option Refusal) → x ≡ None → is_admitted (by_refusal used x) ≡ true
-by_none used x e = ap (λ y. is_admitted (by_refusal used y)) e
-
 allowed_first : (act : Act) (v : Verdict) (later : Option Refusal) → refusal_or act v later ≡ None → IsAllowed v × (later ≡ None)
 allowed_first act (verdict.Allow n) later e = (tt, e)
 allowed_first act (verdict.Refuse d why) later e = cc
@@ -100,7 +97,7 @@ pub to_allowed : (asset : Asset) (says : Says) (list : List Act) → is_admitted
 to_allowed asset says list e = each_allowed says list (none_refused (used_by (rated asset.rules) says list) (first_refusal says list) e)
 
 pub from_allowed : (asset : Asset) (says : Says) (list : List Act) → AllByRecursion (λ act. IsAllowed (says act)) list → is_admitted (fate_of_acts asset says list) ≡ true
-from_allowed asset says list all = by_none (used_by (rated asset.rules) says list) (first_refusal says list) (no_refusal says list all)
+from_allowed asset says list all = ap (λ x. is_admitted (by_refusal (used_by (rated asset.rules) says list) x)) (no_refusal says list all)
 
 pub admits_what_is_allowed : (asset : Asset) (says : Says) (a : AduValue) (f : Fate) → HasCommandFate asset says a f → (is_admitted f ≡ true) ↔ IsAllowedCommand asset says a
 admits_what_is_allowed asset says a f (of_other_station station is) = (λ e. cc (e, ap is_admitted is), λ allowed. absurd (station allowed.station))

@@ -217,9 +217,6 @@ module _ (asset : Asset) (says : Says) (client : Endpoint) (moment : ℕ) (s : S
     abbrev Stands : AssemblyValue → Side → Type 0
     Stands v t = IsAssemblyOf v (segments_of asset t (earlier ++ j ∷ []))
 
-    stands_own : Stands (of_side s old.fragments) s
-    stands_own = subst (IsAssemblyOf (of_side s old.fragments)) (sym own_segments) stands
-
     stands_other : Stands (of_side (other s) old.fragments) (other s)
     stands_other =
         let same : segments_of asset (other s) (earlier ++ j ∷ []) ≡ segments_of asset (other s) earlier =
@@ -228,7 +225,7 @@ module _ (asset : Asset) (says : Says) (client : Endpoint) (moment : ℕ) (s : S
 
     known : KnowsFragments asset new.fragments (earlier ++ j ∷ [])
     known =
-        let both = at_both s (λ t. Stands (of_side t old.fragments) t) stands_own stands_other in
+        let both = at_both s (λ t. Stands (of_side t old.fragments) t) (subst (IsAssemblyOf (of_side s old.fragments)) (sym own_segments) stands) stands_other in
         record {
           client = subst (λ v. Stands v side.Client) (sym takes.client_part) both.0;
           controller = subst (λ v. Stands v side.Controller) (sym takes.controller_part) both.1;

@@ -6,7 +6,7 @@ use Rattle.cf_lane.proofs.Handling.{count-more, ended-more, with_lines-nothing}
 use Rattle.cf_lane.proofs.Histories.{began_by, bytes_of-append, judged_more, lines_after, no_bytes, rest_by, same_stream, stands_end}
 use Rattle.cf_lane.proofs.Sides.{at_both, other_again, other_side, same_side}
 use Rattle.cf_lane.specs.Follows.{AddsTo, AreJudged, AreRests, Began, BeganApart, Follows, IsRest, Rests, over, rest_of}
-use Rattle.cf_lane.specs.Handled.{EndsOther, IsOpen, Knows, LaneValue, MayHaveMore, State, judged, state}
+use Rattle.cf_lane.specs.Handled.{EndsOther, IsOpen, Knows, LaneValue, MayHaveMore, State, judged}
 use Rattle.cf_lane.specs.History.{Element, bytes_of, end_at}
 use Rattle.cf_lane.specs.Item.{Completes, Ended, Placed, placed}
 use Rattle.cf_lane.specs.Judged.{Judged, ends, has_ended, is_admitted, is_refused}
@@ -32,9 +32,6 @@ use Rattle.cf_view.specs.declared.Side.TheVariants as side
 ends_now : (s : Side) (m n : ℕ) (js : List Judged) → has_ended s (js ++ judged m (Ended s n) fate.Carried ∷ []) ≡ true
 ends_now s m n js =
     list_any-append (λ i. ends s i.item) js (judged m (Ended s n) fate.Carried ∷ []) ∙ rw (same_side s) (or_right (has_ended s js) true refl)
-
-ends_other : (s : Side) (m n : ℕ) (js : List Judged) → has_ended (other s) (js ++ judged m (Ended s n) fate.Carried ∷ []) ≡ has_ended (other s) js
-ends_other s m n js = ended-more (other s) js (judged m (Ended s n) fate.Carried) (other_side s)
 
 abbrev queue_to : Side → State → Queue
 queue_to side.Client st = st.to_client
@@ -145,7 +142,7 @@ module _ (asset : Asset) (unfinished : Bool) (h : List Element) (rests : Rests) 
 
   stands_own : queue_to s new ≡ queue_to s old → Stands s
   stands_own same =
-      let goes_on = ends_other s moment (length (rest_of s rests)) f.judged in
+      let goes_on = ended-more (other s) f.judged j (other_side s) in
       let stream = same_stream (stream_to asset s (f.judged ++ j ∷ [])) (stream_to asset s f.judged) (bytes_now s) goes_on in
       (ap (λ (q : Queue). q.ended) same ∙ knows_end asset h rests first old f s ∙ sym goes_on, rw (same, stream) (knows_stream asset h rests first old f s))
 
@@ -176,20 +173,6 @@ module _ (asset : Asset) (unfinished : Bool) (h : List Element) (rests : Rests) 
       began_by asset old.lane.client (h ++ e ∷ []) first old.lines log part f.judged (j ∷ []) (j ∷ []) [] 0 are_judged_now refl f.of_lines
       (all.0 ∙ ap (with_lines old.lines) end_lines_are) all.1
 
-module _ (asset : Asset) (unfinished : Bool) (moment : ℕ) (s : Side) (rest : ℕ) (old : State)
-    (left : (earlier : List Judged) → KnowsWire asset old.lane.wire earlier → unfinished ≡ has_unfinished asset asset.protocol s earlier)
-    (client : Endpoint) (same : client ≡ old.lane.client) where
-  -- so it is of each history
-  pub end_fails : (log : Option (List (List ℕ))) (part : List ℕ) → IsOpen s old.to_client old.to_controller →
-      MayHaveMore (end_lines asset client moment s unfinished rest) old.lines log part →
-      (h : List Element) (rests : Rests) (first : Option (List (List ℕ))) → rest ≡ length (rest_of s rests) → Follows asset h rests None first old →
-      Began asset old.lane.client (h ++ end_at moment s ∷ []) first log part
-  end_fails log part goes either h rests first is f =
-      end_began_by asset unfinished h rests first moment s rest old
-      (state old.lane old.to_client old.to_controller (with_lines old.lines (end_lines asset old.lane.client moment s unfinished rest)))
-      is f goes refl refl (left f.judged (f.knows.wire f.is_cut)) log part
-      (subst (λ e. MayHaveMore (end_lines asset e moment s unfinished rest) old.lines log part) same either)
-
 pub follows_end : (asset : Asset) (unfinished : Bool) (h : List Element) (rests : Rests) (first : Option (List (List ℕ))) (moment : ℕ) (s : Side) (rest : ℕ) (old new : State) →
     ((earlier : List Judged) → KnowsWire asset old.lane.wire earlier → unfinished ≡ has_unfinished asset asset.protocol s earlier) →
     rest ≡ length (rest_of s rests) → Follows asset h rests None first old → IsOpen s old.to_client old.to_controller →
@@ -213,18 +196,24 @@ module _ (asset : Asset) (unfinished : Bool) (moment : ℕ) (s : Side) (rest : �
         follows = follows_end asset unfinished h rests first moment s rest (over own old) (over (with_lines own more) new) left is f goes lane queues refl;
       }
 
+  -- where the line failed, the log has the first lines
   pub end_fails_apart : (client : Endpoint) → client ≡ old.lane.client → (log : Option (List (List ℕ))) (part : List ℕ) →
       MayHaveMore (end_lines asset client moment s unfinished rest) old.lines log part →
       (h : List Element) (rests : Rests) (first own : Option (List (List ℕ))) → rest ≡ length (rest_of s rests) → Follows asset h rests None first (over own old) →
       BeganApart asset old.lane.client (h ++ end_at moment s ∷ []) first own old.lines log part
-  end_fails_apart client same log part (inl none) h rests first own is f = record {
-    more = [];
-    added = none.0 ∙ sym (with_lines-nothing old.lines);
-    began = end_fails asset unfinished moment s rest (over own old) left client same (with_lines own []) part goes (inl (with_lines-nothing own, none.1)) h rests first is f;
-  }
-  end_fails_apart client same log part (inr all) h rests first own is f =
-      let more = end_lines asset client moment s unfinished rest in record {
-        more = more;
-        added = all.0;
-        began = end_fails asset unfinished moment s rest (over own old) left client same (with_lines own more) part goes (inr (refl, all.1)) h rests first is f;
-      }
+  end_fails_apart client same log part either h rests first own is f =
+      let lines = end_lines asset old.lane.client moment s unfinished rest in
+      let began = end_began_by asset unfinished h rests first moment s rest (over own old) (over (with_lines own lines) old) is f goes refl refl (left f.judged (f.knows.wire f.is_cut)) in
+      elim (subst (λ (c : Endpoint). MayHaveMore (end_lines asset c moment s unfinished rest) old.lines log part) same either) [
+        | inl none ↦ record { more = []; added = none.0 ∙ sym (with_lines-nothing old.lines); began = began (with_lines own []) part (inl (with_lines-nothing own, none.1)) }
+        | inr all ↦ record { more = lines; added = all.0; began = began (with_lines own lines) part (inr (refl, all.1)) }
+      ]
+
+  -- so has the whole log
+  pub end_fails : (client : Endpoint) → client ≡ old.lane.client → (log : Option (List (List ℕ))) (part : List ℕ) →
+      MayHaveMore (end_lines asset client moment s unfinished rest) old.lines log part →
+      (h : List Element) (rests : Rests) (first : Option (List (List ℕ))) → rest ≡ length (rest_of s rests) → Follows asset h rests None first old →
+      Began asset old.lane.client (h ++ end_at moment s ∷ []) first log part
+  end_fails client same log part either h rests first is f =
+      let a = end_fails_apart client same log part either h rests first old.lines is f in
+      subst (λ l. Began asset old.lane.client (h ++ end_at moment s ∷ []) first l part) (sym a.added) a.began

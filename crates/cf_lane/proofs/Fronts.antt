@@ -158,17 +158,11 @@ module _ (asset : Asset) (client : Endpoint) (admitted refused : ℕ) (rules : R
   pub wire_in : IsLaneOf asset lane → IsWireOf asset.protocol before
   wire_in of = subst (IsWireOf asset.protocol) (sym (ap (λ (l : LaneValue). l.wire) is) ∙ same) of.wire
 
-  rules_in : IsLaneOf asset lane → IsRulesOf asset client.address rules
-  rules_in of = subst (λ (l : LaneValue). IsRulesOf asset l.client.address l.rules) (sym is) of.rules
-
   pub lane_in : (after : Wire) → IsWireOf asset.protocol after → IsLaneOf asset lane → IsLaneOf asset (lane_of client admitted refused rules after)
-  lane_in after w of = record { rules = rules_in of; wire = w }
-
-  debt_in : wire_debt before ≡ debt lane
-  debt_in = sym (ap wire_debt same) ∙ ap debt is
+  lane_in after w of = record { rules = subst (λ (l : LaneValue). IsRulesOf asset l.client.address l.rules) (sym is) of.rules; wire = w }
 
   pub grows_in : (m d : ℕ) (p q : Queue) → Grows m (wire_debt before) d p q → Grows m (debt lane) d p q
-  grows_in m d p q g = subst (λ e. Grows m e d p q) debt_in g
+  grows_in m d p q g = subst (λ e. Grows m e d p q) (sym (ap wire_debt same) ∙ ap debt is) g
 
   module _ (moment : ℕ) (s : Side) (bytes : List ℕ) (old : Outlets) where
     pub fronts_in : (after : Wire) (new : Outlets) (answer : Framed Fate) → FrontsOf asset client rules moment s bytes before after old new answer →

@@ -147,9 +147,6 @@ module _ (p : Protocol) where
       subst (λ h. HasTail p (bytes_of s h)) (append_assoc earlier (e ∷ []) later)
       (tails_of later (earlier ++ e ∷ []) a.1 (λ t. tail_by earlier e (c.before ++ c.more, c.tail, c.are) t (before t)) a.3 s)
 
-  nothing_tail : HasTail p []
-  nothing_tail = ([], Left [], record { starts = refl; partial = nothing_unit p })
-
   -- an element completes items after any history
   complete : (h : List Element) (e : Element) (us : List UnitValue) (t : Tail) → AreUnits p (bytes_of e.side h) us t → IsOctets e.letters.bytes → (now : List Placed) × Completes p h e now
   complete h e us (Wrong reason) a o =
@@ -210,6 +207,6 @@ module _ (each : EachPduHasAnAnswer) (asset : Asset) (client : ℕ) (h : List El
 pub judgements_go_on : EachPduHasAnAnswer → JudgementsGoOn
 judgements_go_on each asset client h e js a o =
     let p = asset.protocol in
-    let t = tails_of p h [] a.items (λ s. nothing_tail p) a.are_items e.side in
+    let t = tails_of p h [] a.items (λ s. ([], Left [], record { starts = refl; partial = nothing_unit p })) a.are_items e.side in
     let c = complete p h e t.0 t.1 t.2 o in
     on_by each asset client h e js a c.0 c.1 (one_weight p h e c.0 c.1).1 (cut_of js) refl

@@ -44,15 +44,13 @@ module _ (p : Protocol) (free : IsPrefixFree (SpellsUnit p)) where
       ∙ ap (λ t. map (placed e.moment) (map (Took e.side) d.more ++ last_after t e.side e.letters.ended d.tail)) were.1 ∙ sym d.is_items
 
   -- after a break there is nothing
-  stays : (us vs : List UnitValue) (xs ys : List ℕ) (reason : Break) (t : Tail) → AreUnits p xs us (Wrong reason) → AreUnits p (xs ++ ys) vs t → (us ≡ vs) × (Wrong reason ≡ t)
-  stays us vs xs ys reason t a b = one_units us vs (xs ++ ys) (Wrong reason) t (units_stay p us xs ys reason a) b
-
   pub after_break : (earlier : List Element) (e : Element) (items : List Placed) (c : Completes p earlier e items) (reason : Break) → c.was ≡ Wrong reason →
       (c.more ≡ []) × (c.tail ≡ Wrong reason)
   after_break earlier e items c reason is =
       let were = subst (λ t. AreUnits p (bytes_of e.side earlier) c.before t) is c.were in
       let are = subst (λ xs. AreUnits p xs (c.before ++ c.more) c.tail) (bytes_of-append e.side earlier e) c.are in
-      let same = stays c.before (c.before ++ c.more) (bytes_of e.side earlier) (bytes_in e.side e) reason c.tail were are in
+      let same = one_units c.before (c.before ++ c.more) (bytes_of e.side earlier ++ bytes_in e.side e) (Wrong reason) c.tail
+      (units_stay p c.before (bytes_of e.side earlier) (bytes_in e.side e) reason were) are in
       (append_cancel_left c.before c.more [] (sym same.0 ∙ sym (append-nil c.before)), sym same.1)
 
   pub one_items : (earlier later : List Element) (is ks : List Placed) → AreItems p earlier later is → AreItems p earlier later ks → is ≡ ks

@@ -103,6 +103,9 @@ one_has says list i act v here e = λ j other from to is.
     let same : Some other ≡ Some act = sym is ∙ ap (slice_get list) k ∙ here in
     ap says (same_Some other act same) ∙ sym e
 
+no_act : Act
+no_act = record { code = 0; group = 0; point = 0; value = None }
+
 -- acts that are allowed leave the decision to what follows them
 allowed_run : (says : Says) (list : List Act) (i n m : ℕ) → HaveVerdict says list i (i + n) (verdict.Allow m) → i + n ≤ length list
     → first_refusal says (drop i list) ≡ first_refusal says list → first_refusal says (drop (i + n) list) ≡ first_refusal says list
@@ -110,10 +113,9 @@ allowed_run says list i zero m have inside before =
     let e : i ≡ i + 0 = omega arith in
     subst (λ k. first_refusal says (drop k list) ≡ first_refusal says list) e before
 allowed_run says list i (suc n) m have inside before =
-    let d : Act = record { code = 0; group = 0; point = 0; value = None } in
     let earlier = allowed_run says list i n m (λ j act from to at. have j act from (omega (arith, to)) at) (omega (arith, inside)) before in
-    let act = get_or list (i + n) d in
-    let at : slice_get list (i + n) ≡ Some act = slice_get-get_or list (i + n) d (omega (arith, inside)) in
+    let act = get_or list (i + n) no_act in
+    let at : slice_get list (i + n) ≡ Some act = slice_get-get_or list (i + n) no_act (omega (arith, inside)) in
     let e : i + n + 1 ≡ i + suc n = omega arith in
     subst (λ k. first_refusal says (drop k list) ≡ first_refusal says list) e
     (allowed_at says list (i + n) act at earlier m (sym (have (i + n) act (omega arith) (omega arith) at)))
@@ -134,9 +136,6 @@ or_again false before = refl
 
 one_more : (p : Act → Bool) (list : List Act) (i : ℕ) (d : Act) → i < length list → list_any p (take (i + 1) list) ≡ (p (get_or list i d) || list_any p (take i list))
 one_more p list i d inside = list_any_more p list i d inside ∙ or_comm (list_any p (take i list)) (p (get_or list i d))
-
-no_act : Act
-no_act = record { code = 0; group = 0; point = 0; value = None }
 
 marked_run : (all : List (ℕ × Rate)) (says : Says) (list : List Act) (i n m place : ℕ) → HaveVerdict says list i (i + suc n) (verdict.Allow m) → i + suc n ≤ length list →
     list_any (λ act. is_by all place (says act)) (take (i + suc n) list)

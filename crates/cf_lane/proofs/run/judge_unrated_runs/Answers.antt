@@ -1,16 +1,10 @@
-use Rattle.std.proofs.Common.{◌≤◌, arith, false, length, refl, replicate, sym, ◌∙◌}
+use Rattle.std.proofs.Common.{◌≤◌, arith, false, length, replicate, sym, ◌∙◌}
 use Rattle.cf_modbus.specs.Acts.{acts}
 use Rattle.cf_modbus.specs.Request.{request_value}
 use Rattle.cf_policy.specs.Verdict.{verdict_of}
 use Rattle.cf_lane.proofs.Commands.{admitted_at_end, refused_at}
 use Rattle.cf_lane.proofs.Runs.{allowed_to}
 use Rattle.cf_lane.proofs.run.judge_unrated_runs.Goals as goal
-
-pub loop-i-init : goal.loop-i-init
-loop-i-init c = record {
-  inside = omega arith;
-  so_far = λ client is. refl;
-}
 
 pub loop-i-preserved : goal.loop-i-preserved
 loop-i-preserved c = record {

@@ -18,7 +18,7 @@ pub returns-in_err-log_end-clause-fails : goal.returns-in_err-log_end-clause-fai
 returns-in_err-log_end-clause-fails g c =
     let old = state c.args.self.now c.args.to_client.now c.args.to_controller.now (DeskValue.lines (g.D.Desk.value c.args.desk.now)) in
     on_err _ _ (end_fails c.args.asset.now _ c.args.moment c.args.side c.args.rest old (λ earlier knows. c.has_unfinished-unfinished.ensures c.args.asset.now earlier c.requires.of_asset knows)
-    _ (ap (λ (l : LaneValue). l.client) c.self.view_is) _ _ c.requires.«open» c.in_err-log_end.ensures.fails)
+    c.requires.«open» _ (ap (λ (l : LaneValue). l.client) c.self.view_is) _ _ c.in_err-log_end.ensures.fails)
 
 pub returns-clause-apart : goal.returns-clause-apart
 returns-clause-apart g c =
