@@ -25,7 +25,7 @@ use Rattle.cf_renumber.specs.Numbers.{IsNumbersOf, NumbersValue}
 use Rattle.cf_view.specs.Framing.{Begins}
 use Rattle.cf_view.specs.declared.Endpoint.{Endpoint}
 use Rattle.cf_view.specs.declared.Side.{Side}
-use Rattle.std.proofs.Common.{List, None, Option, Some, [], ap, arith, length, refl, subst, sym, ℕ, ◌*◌, ◌++◌, ◌+◌, ◌<◌, ◌∙◌, ◌∷◌, ◌≡◌, ◌≤◌}
+use Rattle.std.proofs.Common.{List, None, Option, Some, [], ap, arith, length, refl, subst, sym, ℕ, ◌*◌, ◌++◌, ◌+◌, ◌∙◌, ◌∷◌, ◌≡◌, ◌≤◌}
 use Rattle.std.proofs.lemmas.List.{append-nil, length-take}
 use Rattle.cf_lane.specs.declared.wire.Wire.TheVariants as wire
 use Rattle.cf_policy.specs.declared.Protocol.TheVariants as protocol
@@ -61,9 +61,6 @@ module _ (bytes : List ℕ) (a : ApduValue) (n : ℕ) (begins : Begins SpellsApd
   pub apdu_length : length (spelling a) ≡ n
   apdu_length = ap length (sym begins.spells.spelled) ∙ omega (arith, length-take n bytes, begins.inside)
 
-  pub apdu_some : 0 < n
-  apdu_some = omega (arith, apdu_length)
-
 module _ (asset : Asset) (iec104 : asset.protocol ≡ protocol.Iec104) (client : Endpoint) (rules : Rules) (of : IsRulesOf asset client.address rules) (moment : ℕ) (s : Side)
     (bytes : List ℕ) (a : ApduValue) (n : ℕ) (b : Begins SpellsApdu bytes a n) (before : NumbersValue) (old : Outlets) where
   -- an APDU that was taken stands at the front
@@ -74,7 +71,7 @@ module _ (asset : Asset) (iec104 : asset.protocol ≡ protocol.Iec104) (client :
   apdu_front f after new takes admitted refused = record {
     unit = Apdu a;
     begins = begins_by (apdus asset.protocol iec104) bytes a n b;
-    some_bytes = apdu_some bytes a n b;
+    some_bytes = omega (arith, apdu_length bytes a n b);
     cuts = λ reason e. iec104;
     handled = λ lane counts.
         apdu_handled asset moment s a f (lane_at client rules (wire.Iec104 before) admitted refused old) (state lane new.to_client new.to_controller new.lines)

@@ -124,9 +124,6 @@ began_by asset client h first was log part before js fore later k are parts of_l
       of_part = begins ∙ ap (λ xs. take k (concat xs)) (sym (drop-append_seam some more) ∙ ap (drop (length some)) all);
     }
 
-with-nothing : (w : Stream) → with_bytes w [] ≡ w
-with-nothing w = ap (λ (xs : List ℕ). record w { bytes = xs }) (append-nil w.bytes)
-
 -- what stands for a stream stands for it with more bytes, none of them after an End
 open_push : (q : Queue) (w : Stream) (bytes : List ℕ) → q.ended ≡ false → IsQueueOf q w → IsQueueOf (after_push q bytes) (with_bytes w bytes)
 open_push q w bytes o h = search (rules, common_steps)
@@ -135,7 +132,7 @@ pub stands_push : (q : Queue) (w : Stream) (bytes : List ℕ) → (q.ended ≡ t
 stands_push q w bytes quiet h =
     elim (cases_Bool q.ended) [
       | inl e ↦ (let P : List ℕ → Type 0 = λ xs. IsQueueOf (after_push q xs) (with_bytes w xs) in
-          let none : IsQueueOf (after_push q []) (with_bytes w []) = rw (push-nothing q, with-nothing w) h in
+          let none : IsQueueOf (after_push q []) (with_bytes w []) = rw (push-nothing q, ap (λ (xs : List ℕ). record w { bytes = xs }) (append-nil w.bytes)) h in
           subst P (sym (quiet e)) none)
       | inr e ↦ open_push q w bytes e h
     ]

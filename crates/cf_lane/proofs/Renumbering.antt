@@ -5,7 +5,7 @@ use Rattle.cf_lane.proofs.Handling.{push-nothing, with_lines-nothing}
 use Rattle.cf_lane.specs.Iec104.{ack_octets, apdu_octets, apdu_output, fate_of_apdu, fate_of_asdu, stamped}
 use Rattle.cf_lane.specs.Judged.{Judged, has_ended}
 use Rattle.cf_lane.specs.Log.{is_some_bytes, line_about, refusal_line, unit_lines, with_lines}
-use Rattle.cf_lane.specs.Numbers.{events_of, has_mirror, info_cut}
+use Rattle.cf_lane.specs.Numbers.{events_of, has_mirror}
 use Rattle.cf_lane.specs.Renumbered.{DoesApdu, Numbered, mirror_octets, numbered}
 use Rattle.cf_lane.specs.Unit.{apdu_spelling}
 use Rattle.cf_lane.specs.declared.fate.Fate.{Fate}
@@ -29,12 +29,9 @@ pub record AreRight (send receive : ℕ) (earlier : List Judged) : Type 0 where
   pub may : may_send side.Client (events_of earlier) ≡ true
   pub none : client_refusal (events_of earlier) send receive ≡ None
 
-uncut : (send receive : ℕ) (earlier : List Judged) → AreRight send receive earlier → info_cut side.Client earlier send receive ≡ None
-uncut send receive earlier right = rw (right.may, right.none) refl
-
 module _ (asset : Asset) (says : Says) (client : Endpoint) (moment send receive : ℕ) (asdu : List ℕ) (old : Numbered) (earlier : List Judged) (right : AreRight send receive earlier) where
   is_fate : (f : Fate) → f ≡ fate_of_asdu asset says asdu → f ≡ fate_of_apdu asset says side.Client earlier (Info send receive asdu)
-  is_fate f e = rw (uncut send receive earlier right) e
+  is_fate f e = rw (right.may, right.none) e
 
   -- an admitted one goes on with its numbers towards the controller
   pub does_admitted : (used : List Bool) (stamp : Stamp) (numbers : NumbersValue) (controller : Queue) → fate.Admitted used ≡ fate_of_asdu asset says asdu →
