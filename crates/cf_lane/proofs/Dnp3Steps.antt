@@ -1,6 +1,6 @@
 -- What a step of a lane of DNP3 leads to.
 use Rattle.cf_lane.specs.declared.rules.Rules.{Rules}
-use Rattle.cf_lane.proofs.Fronts.{misses_front, never_cuts}
+use Rattle.cf_lane.proofs.Fronts.{misses_front}
 use Rattle.cf_lane.proofs.Saying.{says_same}
 use Rattle.cf_lane.specs.Rates.{Says}
 use Rattle.cf_lane.specs.Rings.{IsRulesOf, RulesGoOn, says_by}
@@ -77,7 +77,7 @@ module _ (asset : Asset) (dnp3 : asset.protocol ≡ protocol.Dnp3) (client : End
     unit = Frame x;
     begins = begins_by (frames asset.protocol dnp3) bytes x n b;
     some_bytes = omega (arith, some_octets x bytes n b);
-    cuts = never_cuts f takes.uncut;
+    cuts = λ reason e. cc (takes.uncut, e);
     handled = λ lane counts.
         frame_handled asset moment s x f (lane_at client rules (wire.Dnp3 before) admitted refused old) (state lane new.to_client new.to_controller new.lines)
         before after refl counts.wire counts.client counts.admitted counts.refused of counts.rules takes;

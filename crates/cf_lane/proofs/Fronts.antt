@@ -73,10 +73,6 @@ module _ (asset : Asset) (moment : ℕ) (s : Side) (bytes : List ℕ) (n : ℕ) 
     line = line;
   }
 
--- what does not cut has no reason for which it does
-pub never_cuts : {P : Type 0} (f : Fate) → fate_cut f ≡ None → (reason : CutReason) → fate_cut f ≡ Some reason → P
-never_cuts f uncut reason e = cc (uncut, e)
-
 -- how much of a unit goes on
 letters_most : (cut : Option CutReason) (n : ℕ) → letters_in (step_by cut n) ≤ n
 letters_most None n = omega arith

@@ -3,7 +3,7 @@ use Rattle.cf_lane.proofs.Saying.{still_known}
 use Rattle.cf_lane.specs.Rings.{KnowsRules}
 use Rattle.cf_audit.specs.declared.line.CutReason.{CutReason}
 use Rattle.cf_lane.proofs.Earlier.{cut_of-append, first_none, in_turn-append}
-use Rattle.cf_lane.proofs.Handling.{count-more, ended-more, fates-append, handled_more, handled_none, push-nothing, with_lines-both, with_lines-nothing}
+use Rattle.cf_lane.proofs.Handling.{count-more, ended-more, fates-append, handled_more, push-nothing, with_lines-both, with_lines-nothing}
 use Rattle.cf_lane.proofs.Pieces.{covers_rest, starts_join, starts_within, units_pieces}
 use Rattle.cf_lane.proofs.Sides.{own_bytes}
 use Rattle.cf_lane.specs.Fate.{HaveFates}
@@ -248,9 +248,6 @@ pub record Along (asset : Asset) (moment : ℕ) (s : Side) (bytes : List ℕ) (u
   pub are_js : map place_of js ≡ map (placed moment) (map (Took s) units)
   pub uncut : cut_of js ≡ None
   pub handled : Handled asset js old now
-
-pub along_start : (asset : Asset) (moment : ℕ) (s : Side) (bytes : List ℕ) (old : State) → Along asset moment s bytes 0 old old
-along_start asset moment s bytes old = record { units = []; js = []; starts = refl; are_js = refl; uncut = refl; handled = handled_none asset old }
 
 abbrev pub along_more : (asset : Asset) (moment : ℕ) (s : Side) (bytes : List ℕ) (at used : ℕ) (old now new : State) → Along asset moment s bytes at old now →
     TakesUnit asset moment s (drop at bytes) used None now new → Along asset moment s bytes (at + used) old new

@@ -1,4 +1,4 @@
-use Rattle.std.proofs.Common.{length, refl, sym, ap, subst, arith, ◌∙◌}
+use Rattle.std.proofs.Common.{[], length, refl, sym, ap, subst, arith, ◌∙◌}
 use Rattle.std.specs.Prelude.{IsErr}
 use Rattle.std.specs.declared.result.Result.{Result}
 use Rattle.cf_view.specs.declared.base.WriteFault.{WriteFault}
@@ -6,16 +6,17 @@ use Rattle.cf_lane.specs.Handled.{letters_in}
 use Rattle.cf_lane.specs.declared.lane.Step.{Step}
 use Rattle.std.proofs.lemmas.List.{length-drop}
 use Rattle.cf_lane.proofs.Failing.{on_err, misses_rest}
+use Rattle.cf_lane.proofs.Handling.{handled_none}
 use Rattle.cf_lane.proofs.Earlier.{debt_most}
 use Rattle.cf_lane.proofs.Units.{free_unit, nothing_unit}
-use Rattle.cf_lane.proofs.Histories.{along_start, fails_apart, fails_of_whole}
+use Rattle.cf_lane.proofs.Histories.{fails_apart, fails_of_whole}
 use Rattle.cf_lane.proofs.Feeding.{grows_none, writes_none, writes_both, cause_after, open_stays, room_for_rest, within, along_took, some_letters, smaller, grows_took, grows_end, little_left, no_letters, same_client, apart_stop, follows_stop}
 use Rattle.cf_lane.proofs.lane.Lane.feed.Goals as goal
 
 pub units-init : goal.units-init
 units-init g c = record {
   inside = omega arith;
-  along = along_start _ _ _ _ _;
+  along = record { units = []; js = []; starts = refl; are_js = refl; uncut = refl; handled = handled_none _ _ };
   client_grows = grows_none _ _;
   controller_grows = grows_none _ _;
   counts = omega arith;
