@@ -84,23 +84,19 @@ module _ (own peer : Endpoint) (es : List LegEvent) (e : LegEvent) (taken whole 
       (owed r es half || differs (told_at r es half) (to_tell (told_at r es half) (letter_count taken) roomy)) whole (send_mss (peer_mss r (half ∷ es))) (shown r (half ∷ es)) (letters_sent_at r es half) outs
   saying r = can_say _ _ _ whole (send_mss (peer_mss r (half ∷ es))) _ _ (send_mss_some (peer_mss r (half ∷ es)))
 
-  active : (n : ℕ) → IsTaken (first_copy (offers (role.Active n) (half ∷ es))) taken → (b : Bool) →
-      (outs : List PacketValue) × MatchBool b (SpeaksOpen (ends_by own peer (role.Active n)) es (said outs) whole roomy outs) (outs ≡ [])
-  active n is true = let x = saying (role.Active n) in (x.0, record { taken = taken; is_taken = is; says = x.1 })
-  active n is false = ([], refl)
-
-  passive : (n : ℕ) (m : Option ℕ) → IsTaken (first_copy (offers (role.Passive n m) (half ∷ es))) taken → (b : Bool) →
-      (outs : List PacketValue) × MatchBool b (SpeaksOpen (ends_by own peer (role.Passive n m)) es (said outs) whole roomy outs) (outs ≡ [])
-  passive n m is true = let x = saying (role.Passive n m) in (x.0, record { taken = taken; is_taken = is; says = x.1 })
-  passive n m is false = ([], refl)
+  speaks : (r : Role) → IsTaken (first_copy (offers r (half ∷ es))) taken → (b : Bool) →
+      (outs : List PacketValue) × MatchBool b (SpeaksOpen (ends_by own peer r) es (said outs) whole roomy outs) (outs ≡ [])
+  speaks r is false = ([], refl)
+  speaks (role.Active n) is true = let x = saying (role.Active n) in (x.0, record { taken = taken; is_taken = is; says = x.1 })
+  speaks (role.Passive n m) is true = let x = saying (role.Passive n m) in (x.0, record { taken = taken; is_taken = is; says = x.1 })
 
   pub can_speak : (r : Role) → IsRight (ends_by own peer r) es half → IsTaken (first_copy (offers r (half ∷ es))) taken →
       (outs : List PacketValue) × IsRight (ends_by own peer r) es (record e { ending = Spoke whole roomy outs })
   can_speak (role.Active n) h is =
-      let x = active n is (opened (role.Active n) (half ∷ es)) in
+      let x = speaks (role.Active n) is (opened (role.Active n) (half ∷ es)) in
       (x.0, record { over = h.over; fired = h.fired; came = h.came; ending = x.1 })
   can_speak (role.Passive n m) h is =
-      let x = passive n m is (opened (role.Passive n m) (half ∷ es)) in
+      let x = speaks (role.Passive n m) is (opened (role.Passive n m) (half ∷ es)) in
       (x.0, record { over = h.over; fired = h.fired; came = h.came; ending = x.1 })
 
 -- ---- a leg that stands for its events

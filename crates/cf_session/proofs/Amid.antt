@@ -16,7 +16,7 @@ use Rattle.cf_packet.specs.Packet.{PacketValue}
 use Rattle.cf_session.proofs.Telling.{at-append, more-none, then_told, told_lines, told_sent}
 use Rattle.cf_session.specs.Broken.{BreaksAmid, Gets, IsPartOf, octets_of}
 use Rattle.cf_session.specs.Sent.{Sent, at}
-use Rattle.cf_session.specs.Told.{emitted, told, with_both}
+use Rattle.cf_session.specs.Told.{emitted, told, with_both, with_more}
 
 -- what holds, holds on an error
 pub on_err : {T E : Type 0} (r : Result T E) {P : Type 0} → P → OnErr r P
@@ -95,35 +95,29 @@ amid_sent now outs old new h frame = record {
   line_part = inl frame.line_part;
 }
 
--- amid lines
+-- amid lines, of which some were put whole
+pub amid_put : {lines : List (List ℕ)} (put missing : List (List ℕ)) (old new : DeskValue) → lines ≡ put ++ missing → new.packets ≡ old.packets → new.packet_part ≡ old.packet_part → new.lines ≡ with_more old.lines put →
+    IsPartOf (concat missing) old.line_part new.line_part → BreaksAmid [] lines old new
+amid_put put missing old new are packets part added next = record {
+  gone = [];
+  left = [];
+  are_sent = refl;
+  put = put;
+  missing = missing;
+  are_lines = are;
+  is_told = told_lines old new put packets added;
+  packet_part = inl part;
+  line_part = next;
+}
+
 pub amid_lines : {failed : Bool} (lines : List (List ℕ)) (old new : DeskValue) → MayHaveAdded lines old new → OnlyLogs old new failed → BreaksAmid [] lines old new
-amid_lines lines old new (inl (same, part)) frame = record {
-  gone = [];
-  left = [];
-  are_sent = refl;
-  put = [];
-  missing = lines;
-  are_lines = refl;
-  is_told = told_lines old new [] frame.packets (same ∙ more-none old.lines);
-  packet_part = inl frame.packet_part;
-  line_part = inr part;
-}
-amid_lines lines old new (inr (added, none)) frame = record {
-  gone = [];
-  left = [];
-  are_sent = refl;
-  put = lines;
-  missing = [];
-  are_lines = sym (append-nil lines);
-  is_told = told_lines old new lines frame.packets added;
-  packet_part = inl frame.packet_part;
-  line_part = inr (0, none);
-}
+amid_lines lines old new (inl (same, part)) frame = amid_put [] lines old new refl frame.packets frame.packet_part (same ∙ more-none old.lines) (inr part)
+amid_lines lines old new (inr (added, none)) frame = amid_put lines [] old new (sym (append-nil lines)) frame.packets frame.packet_part added (inr (0, none))
 
 -- and they leave none of the packets that went before them
 pub lines_leave_none : {failed : Bool} (a : List Sent) (x lines : List (List ℕ)) (old mid new : DeskValue) (first : told mid ≡ with_both (told old) a x) (frame : EmitsAndLogs old mid false)
     (h : MayHaveAdded lines mid new) (logs : OnlyLogs mid new failed) → (amid_after a [] x lines old mid new first frame (amid_lines lines mid new h logs)).left ≡ []
-unfolding amid_after amid_lines
+unfolding amid_after amid_lines amid_put
 lines_leave_none a x lines old mid new first frame (inl h) logs = refl
 lines_leave_none a x lines old mid new first frame (inr h) logs = refl
 

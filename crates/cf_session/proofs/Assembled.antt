@@ -17,8 +17,8 @@ use Rattle.cf_session.proofs.Heards.{opens_once}
 use Rattle.cf_session.proofs.Options.{or_none}
 use Rattle.cf_session.specs.Event.{AreEvents, EndsTick, IsTick, came_client, came_controller}
 use Rattle.cf_session.specs.Parts.{SessionValue}
-use Rattle.cf_session.specs.Sent.{first_line, late}
-use Rattle.cf_session.specs.Session.{Flow, SessionEvent, client_ends, clients, controller_ends, controllers}
+use Rattle.cf_session.specs.Sent.{first_line, late, new_lines}
+use Rattle.cf_session.specs.Session.{Flow, SessionEvent, client_ends, clients, controller_ends, controllers, work_of}
 use Rattle.cf_session.specs.Stands.{IsSessionOf}
 use Rattle.cf_session.specs.Turn.{IsHalf, MayGreet, came_first, came_greeted, ends_of, greetings, leg_in, legs_of, number_by}
 use Rattle.cf_session.specs.Work.{Work}
@@ -132,12 +132,19 @@ rsts_are t s p a b =
 -- ---- lines
 
 -- an event with a packet is not the first
-pub later_line : (f : Flow) (limit : ℕ) (es : List SessionEvent) (t e : SessionEvent) → AreEvents f limit (t ∷ es) → IsTick f es t.client.tick t → first_line f es e ≡ []
+later_line : (f : Flow) (limit : ℕ) (es : List SessionEvent) (t e : SessionEvent) → AreEvents f limit (t ∷ es) → IsTick f es t.client.tick t → first_line f es e ≡ []
 later_line f limit [] t e are tick = absurd (not_first t.controller.came _ tick.controller_came (ap (λ (x : LegEvent). x.came) are.0.controller))
 later_line f limit (e0 ∷ es) t e are tick = refl
 
-pub new_is : (w v : Work) (lines : List (List ℕ)) → v.log ≡ w.log ++ lines → drop (length w.log) v.log ≡ lines
+new_is : (w v : Work) (lines : List (List ℕ)) → v.log ≡ w.log ++ lines → drop (length w.log) v.log ≡ lines
 new_is w v lines e = ap (drop (length w.log)) e ∙ drop-append_seam w.log lines
+
+-- the lines of an event with a packet
+pub lines_by : (f : Flow) (limit : ℕ) (es : List SessionEvent) (t e : SessionEvent) (w : Work) (lines : List (List ℕ)) → AreEvents f limit (t ∷ es) → IsTick f es t.client.tick t → e.work ≡ w → w.log ≡ t.work.log ++ lines →
+    first_line f es e ++ new_lines es e ≡ lines
+lines_by f limit es t e w lines are tick same log =
+    ap (λ xs. xs ++ new_lines es e) (later_line f limit es t e are tick) ∙ ap (λ (v : Work). drop (length (work_of es).log) v.log) same
+    ∙ new_is (work_of es) w lines (log ∙ ap (λ (v : Work). v.log ++ lines) tick.work)
 
 -- a packet came
 pub has_packet : (f : Flow) (s : Side) (p : PacketValue) (number : Option ℕ) → (is_idle (came_controller s p) && is_idle (came_greeted f number (came_first s p))) ≡ false

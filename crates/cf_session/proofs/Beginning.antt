@@ -1,6 +1,7 @@
 -- The beginning of a session.
-use Rattle.std.proofs.Common.{◌≡◌, ℕ, ◌+◌, ◌-◌, ◌≤◌, true, false, List, [], ◌∷◌, length, Option, None, refl, sym, ap, ◌∙◌, subst, arith}
+use Rattle.std.proofs.Common.{◌≡◌, ℕ, ◌+◌, ◌-◌, ◌≤◌, true, false, List, [], ◌∷◌, None, refl, sym, ap, ◌∙◌, subst, arith}
 use Rattle.std.proofs.lemmas.Bool.{false≢true}
+use Rattle.std.proofs.lemmas.List.{nil_from_length}
 use Rattle.cf_audit.specs.Line.{Begun}
 use Rattle.cf_leg.specs.Calls.{Greeted, Spoken, Widens, greeting_by, window_by}
 use Rattle.cf_leg.specs.Emits.{IsGreeting, IsRight, syn}
@@ -11,7 +12,7 @@ use Rattle.cf_leg.specs.declared.Ends.{Ends}
 use Rattle.cf_leg.specs.declared.Role.{Role}
 use Rattle.cf_leg.specs.declared.Role.TheVariants as role
 use Rattle.cf_outq.specs.SendQueue.{IsQueueOf, Queue}
-use Rattle.cf_outside.specs.Desk.{DeskValue, SentValue}
+use Rattle.cf_outside.specs.Desk.{DeskValue}
 use Rattle.cf_packet.specs.Packet.{PacketValue}
 use Rattle.cf_rebuild.specs.ReceiveWindow.{Window, base_of}
 use Rattle.cf_stream.specs.FirstCopy.{IsTaken, first_copy}
@@ -31,29 +32,6 @@ use Rattle.cf_session.specs.Work.{no_work}
 abbrev first_event : Ends → ℕ → ℕ → LegEvent
 first_event ends number tick = record (begun tick) { came = Greeting (syn ends number); ending = Spoke no_letters true [] }
 
-record Begun1 (ends : Ends) (number tick : ℕ) (leg : LegValue) (q : Queue) (before after : Option (List SentValue)) : Type 0 where
-  pub stands : IsLegBetween ends leg q (first_event ends number tick ∷ [])
-  pub packets : after ≡ with_segments before (tick + 1) (syn ends number ∷ [])
-
-first_own : (begin : EventsBegin) (number tick : ℕ) (c c1 c2 : LegValue) (q q2 : Queue) (d0 d1 : DeskValue) (b2 : Option (List SentValue)) → c.ends.role ≡ role.Active number → IsLegOf c (marks q) [] → IsQueueOf q no_letters →
-    Greeted (tick + 1) number c c1 d0 d1 false → Spoken true (tick + 1) c1 c2 q q2 d1.packets b2 → c1.ends ≡ c.ends → c2.ends ≡ c1.ends → Begun1 c.ends number tick c2 q2 d0.packets b2
-first_own begin number tick c c1 c2 q q2 d0 d1 b2 role stands queue g s e1 e2 =
-    let first = g.stands (marks q) (begun tick) [] refl (begin c (marks q) tick [] refl stands) in
-    let last = s.stands (record (begun tick) { came = Greeting (greeting_by c number) }) [] no_letters refl first queue in
-    let right = subst (λ n. IsRight n [] (record (begun tick) { came = Greeting (greeting_by c number); ending = Spoke no_letters true s.outs })) (e2 ∙ e1) last.of_right.0 in
-    let out : greeting_by c number ≡ syn c.ends number = subst (λ r. IsGreeting c.ends r (greeting_by c number)) role right.came.0 in
-    let none : s.outs ≡ [] = right.ending in
-    let P : PacketValue → List PacketValue → Type 0 = λ p ps. IsLegOf c2 (marks q2) (record (begun tick) { came = Greeting p; ending = Spoke no_letters true ps } ∷ []) in
-    record {
-      stands = record { is = e2 ∙ e1; stands = subst (λ p. P p []) out (subst (P (greeting_by c number)) none last) };
-      packets = s.packets ∙ ap (with_segments d1.packets (tick + 1)) none ∙ g.gets ∙ ap (λ p. with_segments d0.packets (tick + 1) (p ∷ [])) out;
-    }
-
-first_of : (begin : EventsBegin) (ends : Ends) (number tick : ℕ) (c c1 c2 : LegValue) (q q2 : Queue) (d0 d1 : DeskValue) (b2 : Option (List SentValue)) → ends.role ≡ role.Active number → IsLegBetween ends c q [] → IsQueueOf q no_letters →
-    Greeted (tick + 1) number c c1 d0 d1 false → Spoken true (tick + 1) c1 c2 q q2 d1.packets b2 → c1.ends ≡ c.ends → c2.ends ≡ c1.ends → Begun1 ends number tick c2 q2 d0.packets b2
-first_of begin ends number tick c c1 c2 q q2 d0 d1 b2 role s queue g p e1 e2 =
-    subst (λ n. Begun1 n number tick c2 q2 d0.packets b2) s.is (first_own begin number tick c c1 c2 q q2 d0 d1 b2 (ap (λ (n : Ends). n.role) s.is ∙ role) s.stands queue g p e1 e2)
-
 -- the moment of a beginning is one after its tick
 pub moment_later : (now : ℕ) → 1 ≤ now → now ≡ (now - 1) + 1
 moment_later now h = omega (arith, h)
@@ -64,10 +42,21 @@ pub record FirstSaid (ends : Ends) (number tick : ℕ) (leg : LegValue) (q : Que
 
 pub first_said : {now : ℕ} {c c1 c2 : LegValue} {q q2 : Queue} (begin : EventsBegin) (ends : Ends) (number tick : ℕ) (d0 d1 d2 : DeskValue) → now ≡ tick + 1 → ends.role ≡ role.Active number → IsLegBetween ends c q [] → IsQueueOf q no_letters →
     Greeted now number c c1 d0 d1 false → Spoken true now c1 c2 q q2 d1.packets d2.packets → c1.ends ≡ c.ends → c2.ends ≡ c1.ends → d1.lines ≡ d0.lines → d2.lines ≡ d1.lines → FirstSaid ends number tick c2 q2 (told d0) (told d2)
-first_said {now} {c} {c1} {c2} {q} {q2} begin ends number tick d0 d1 d2 later role s queue g p e1 e2 l1 l2 =
-    let first = first_of begin ends number tick c c1 c2 q q2 d0 d1 d2.packets role s queue
-    (subst (λ n. Greeted n number c c1 d0 d1 false) later g) (subst (λ n. Spoken true n c1 c2 q q2 d1.packets d2.packets) later p) e1 e2 in
-    record { stands = first.stands; told = told_sent d0 d2 (tick + 1) (syn ends number ∷ []) first.packets (l2 ∙ l1) }
+first_said {now} {c} {c1} {c2} {q} {q2} begin ends number tick d0 d1 d2 later role s queue greeted spoken e1 e2 l1 l2 =
+    let g = subst (λ n. Greeted n number c c1 d0 d1 false) later greeted in
+    let p = subst (λ n. Spoken true n c1 c2 q q2 d1.packets d2.packets) later spoken in
+    let first = g.stands (marks q) (begun tick) [] refl (begin c (marks q) tick [] refl s.stands) in
+    let last = p.stands (record (begun tick) { came = Greeting (greeting_by c number) }) [] no_letters refl first queue in
+    let is = e2 ∙ e1 ∙ s.is in
+    let right = subst (λ n. IsRight n [] (record (begun tick) { came = Greeting (greeting_by c number); ending = Spoke no_letters true p.outs })) is last.of_right.0 in
+    let out : greeting_by c number ≡ syn ends number = subst (λ r. IsGreeting ends r (greeting_by c number)) role right.came.0 in
+    let none : p.outs ≡ [] = right.ending in
+    let P : PacketValue → List PacketValue → Type 0 = λ x xs. IsLegOf c2 (marks q2) (record (begun tick) { came = Greeting x; ending = Spoke no_letters true xs } ∷ []) in
+    let packets = p.packets ∙ ap (with_segments d1.packets (tick + 1)) none ∙ g.gets ∙ ap (λ x. with_segments d0.packets (tick + 1) (x ∷ [])) out in
+    record {
+      stands = record { is = is; stands = subst (λ x. P x []) out (subst (P (greeting_by c number)) none last) };
+      told = told_sent d0 d2 (tick + 1) (syn ends number ∷ []) packets (l2 ∙ l1);
+    }
 
 window_of : (r : Role) (w : Window) → (window_by r w).pending ≡ w.pending
 window_of (role.Active n) w = refl
@@ -79,12 +68,8 @@ still_pending r w v x e h = ap (λ (y : Window). y.pending) h.same ∙ ap (λ (y
 pub none_taken : IsTaken (first_copy []) no_letters
 none_taken = record { bytes = λ p l. absurd (omega (arith, l)); ended = λ e. absurd (false≢true e); unfinished = λ e. refl }
 
-zero_length : (xs : List ℕ) → length xs ≡ 0 → xs ≡ []
-zero_length [] e = refl
-zero_length (x ∷ xs) e = absurd (omega (arith, e))
-
 no_pending : (w : Window) → base_of w ≡ 0 → w.pending ≡ []
-no_pending w e = zero_length w.pending (omega (arith, e))
+no_pending w e = nil_from_length w.pending (omega (arith, e))
 
 -- the event of the beginning
 module _ (f : Flow) (tick : ℕ) where

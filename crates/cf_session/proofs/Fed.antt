@@ -13,11 +13,6 @@ use Rattle.cf_view.specs.declared.Side.{Side}
 use Rattle.cf_view.specs.declared.Side.TheVariants as side
 use Rattle.cf_session.specs.Work.{fed_at}
 
--- letters that follow the same bytes to the same bytes
-module _ (now : ℕ) where
-  fed_by : (s : Side) (l m : Stream) → l.bytes ≡ m.bytes → l.ended ≡ m.ended → fed_at now s l ≡ fed_at now s m
-  fed_by s l m p q = rw (p, q) refl
-
 own_side : (s : Side) → is_side s s ≡ true
 own_side side.Client = refl
 own_side side.Controller = refl
@@ -26,20 +21,21 @@ pub bytes_of-append : (s : Side) (xs ys : List Element) → bytes_of s (xs ++ ys
 bytes_of-append s [] ys = refl
 bytes_of-append s (x ∷ xs) ys = ap (λ zs. bytes_in s x ++ zs) (bytes_of-append s xs ys) ∙ sym (append_assoc (bytes_in s x) (bytes_of s xs) (bytes_of s ys))
 
+pub some_letters : (b : ℕ) (bytes : List ℕ) (ended : Bool) → (letter_count (record { bytes = b ∷ bytes; ended = ended }) == 0) ≡ false
+some_letters b bytes ended = grind arith
+
 -- what letters add to what was taken of their side
 pub fed_bytes : (now : ℕ) (s : Side) (bytes : List ℕ) (ended : Bool) → bytes_of s (fed_at now s (record { bytes = bytes; ended = ended })) ≡ bytes
 fed_bytes now s [] true = rw (own_side s) refl
 fed_bytes now s [] false = refl
 fed_bytes now s (b ∷ bytes) ended =
-    let some : (letter_count (record { bytes = b ∷ bytes; ended = ended }) == 0) ≡ false = grind arith in
-    rw (some, own_side s) (append-nil (b ∷ bytes))
+    rw (some_letters b bytes ended, own_side s) (append-nil (b ∷ bytes))
 
 pub fed_ended : (now : ℕ) (s : Side) (bytes : List ℕ) (ended : Bool) → ended_of s (fed_at now s (record { bytes = bytes; ended = ended })) ≡ ended
 fed_ended now s [] true = rw (own_side s) refl
 fed_ended now s [] false = refl
 fed_ended now s (b ∷ bytes) ended =
-    let some : (letter_count (record { bytes = b ∷ bytes; ended = ended }) == 0) ≡ false = grind arith in
-    rw (some, own_side s) (or-false ended)
+    rw (some_letters b bytes ended, own_side s) (or-false ended)
 
 module _ (now : ℕ) (s : Side) (earlier : List Element) (l m : Stream) where
   letters_fixed : ended_of s earlier ≡ false → taken s (earlier ++ fed_at now s l) ≡ taken s (earlier ++ fed_at now s m) → fed_at now s l ≡ fed_at now s m
@@ -51,7 +47,7 @@ module _ (now : ℕ) (s : Side) (earlier : List Element) (l m : Stream) where
       let split : (x : List Element) → ended_of s (earlier ++ x) ≡ ended_of s x = λ x. list_any-append P earlier x ∙ ap (λ b. b || ended_of s x) going in
       let ended : l.ended ≡ m.ended =
       sym (split (fed_at now s l) ∙ fed_ended now s l.bytes l.ended) ∙ ap (λ (t : Stream). t.ended) same ∙ split (fed_at now s m) ∙ fed_ended now s m.bytes m.ended in
-      fed_by now s l m (append_cancel_left (bytes_of s earlier) l.bytes m.bytes bytes) ended
+      rw (append_cancel_left (bytes_of s earlier) l.bytes m.bytes bytes, ended) refl
 
 pub fed_fixed : (now : ℕ) (s : Side) (earlier x y : List Element) (l m : Stream) → x ≡ fed_at now s l → y ≡ fed_at now s m → (ended_of s earlier ≡ true → x ≡ []) → (ended_of s earlier ≡ true → y ≡ []) →
     taken s (earlier ++ x) ≡ taken s (earlier ++ y) → x ≡ y

@@ -1,11 +1,12 @@
 -- The second half of an event of a session, whole.
-use Rattle.std.proofs.Common.{◌≡◌, ℕ, ◌+◌, Bool, false, cond, ◌&&◌, List, [], ◌∷◌, ◌++◌, length, drop, inl, inr, Option, Some, None, refl, sym, ap, ◌∙◌, subst}
+use Rattle.std.proofs.Common.{◌≡◌, ℕ, ◌+◌, Bool, false, cond, ◌&&◌, List, [], ◌∷◌, ◌++◌, inl, inr, Option, Some, None, refl, sym, ap, ◌∙◌, subst}
 use Rattle.std.specs.Option.{is_some, option_or}
 use Rattle.std.proofs.lemmas.List.{append-nil}
 use Rattle.cf_audit.specs.Line.{Cut as CutLine}
 use Rattle.cf_audit.specs.declared.CutReason.{CutReason}
 use Rattle.cf_lane.specs.Handled.{LaneValue}
 use Rattle.cf_leg.specs.Event.{Came, Cut, LegEvent, Spoke, greeted_by, is_idle, moment}
+use Rattle.cf_leg.specs.Emits.{IsRight}
 use Rattle.cf_leg.specs.Heard.{offers, opened}
 use Rattle.cf_leg.specs.Told.{is_greeted}
 use Rattle.cf_leg.specs.LegValue.{IsLegOf, LegValue, Marks}
@@ -14,22 +15,22 @@ use Rattle.cf_outq.specs.SendQueue.{IsQueueOf}
 use Rattle.cf_outside.specs.Desk.{DeskValue}
 use Rattle.cf_packet.specs.Packet.{PacketValue}
 use Rattle.cf_policy.specs.declared.Asset.{Asset}
-use Rattle.cf_rebuild.specs.ReceiveWindow.{Window, base_of}
+use Rattle.cf_rebuild.specs.ReceiveWindow.{base_of}
 use Rattle.cf_stream.specs.FirstCopy.{IsTaken, first_copy}
 use Rattle.cf_stream.specs.Stream.{Stream, letter_count}
 use Rattle.cf_view.specs.declared.Endpoint.{Endpoint}
 use Rattle.cf_view.specs.declared.Side.{Side}
-use Rattle.cf_session.proofs.Assembled.{came_cut, came_due, greeted_after, greeted_before, has_packet, is_half, later_line, may_greet, new_is, rsts_are, sent_is}
+use Rattle.cf_session.proofs.Assembled.{came_cut, came_due, greeted_after, greeted_before, has_packet, is_half, lines_by, may_greet, rsts_are, sent_is}
 use Rattle.cf_session.proofs.Counts.{admitted_is, refused_is}
 use Rattle.cf_session.proofs.Events.{heard_is_packet, is_event}
-use Rattle.cf_session.proofs.Heards.{Suits, are_taken, cut_is, done_is, ended_as, full_of, room_is, tick_closed}
+use Rattle.cf_session.proofs.Heards.{are_taken, cut_is, done_is, ended_as, full_of, room_is, tick_closed}
 use Rattle.cf_session.proofs.Legs.{right_of}
 use Rattle.cf_session.proofs.Telling.{then_told}
 use Rattle.cf_session.specs.Cuts.{cut_by, is_reset, packet_cut}
 use Rattle.cf_session.specs.Event.{AreEvents, IsPacket, IsTick, came_controller}
-use Rattle.cf_session.specs.Parts.{AreParts, IsLaneAfter, SessionValue, rests}
+use Rattle.cf_session.specs.Parts.{AreParts, IsLaneAfter, SessionValue}
 use Rattle.cf_session.specs.Sent.{at, first_line, last_line, late, line, new_lines, sent_second}
-use Rattle.cf_session.specs.Session.{Flow, SessionEvent, client_ends, client_of, clients, closed_at, controller_ends, controllers, has_room, history, is_closed, was_closed, work_of}
+use Rattle.cf_session.specs.Session.{Flow, SessionEvent, client_ends, client_of, clients, closed_at, controller_ends, controllers, is_closed, was_closed}
 use Rattle.cf_session.specs.Stands.{CountsAs, Hears, HearsBy, IsSessionOf, life_by}
 use Rattle.cf_session.specs.Told.{Told, with_both}
 use Rattle.cf_session.specs.Turn.{RightCuts, HeardBy, IsHalf, MayGreet, MaySpeak, OnlySpeaks, SaysAmid, SaysBoth, came_first, came_greeted, closing_lines, greetings, heard_half, is_done_now, is_roomy, number_by}
@@ -112,10 +113,7 @@ module _ {f : Flow} {es : List SessionEvent} {t : SessionEvent} {s0 : SessionVal
   amid_here d1 d2 {n} is says = speaks_here (λ f m x cs y ds v u. SaysAmid f now m x cs y ds v u (is_roomy s1) d1 d2) n is says
 
   pub lines_are : (e : SessionEvent) → e.work ≡ h.work → first_line f es e ++ new_lines es e ≡ h.lines
-  lines_are e same =
-      ap (λ xs. xs ++ new_lines es e) (later_line f s0.limit es t e stands.events tick)
-      ∙ ap (λ (w : Work). drop (length (work_of es).log) w.log) same
-      ∙ new_is (work_of es) h.work h.lines (h.log_is ∙ ap (λ (w : Work). w.log ++ h.lines) tick.work)
+  lines_are e same = lines_by f s0.limit es t e h.work h.lines stands.events tick same h.log_is
 
   -- ---- the event cuts the session
   module _ (r : CutReason) (because : Some r ≡ cut_by (is_some s1.closed) (is_reset given) s cut (full_of s1))
@@ -161,36 +159,43 @@ module _ {f : Flow} {es : List SessionEvent} {t : SessionEvent} {s0 : SessionVal
     }
 
   -- ---- the session goes on
+  abbrev roomy : Bool
+  roomy = is_roomy s1
+
+  abbrev pub spoken_event : (outs_c outs_d : List PacketValue) → SessionEvent
+  spoken_event outs_c outs_d = ended_as f es t s p s1 given cut t0 t1 h None number (Spoke h.work.to_controller roomy outs_c) (Spoke h.work.to_client roomy outs_d)
+
+  pub spoken_packet : None ≡ cut_by (is_some s1.closed) (is_reset given) s cut (full_of s1) → (outs_c outs_d : List PacketValue) →
+      IsRight (controller_ends f) (controllers es) (spoken_event outs_c outs_d).controller → IsRight (client_ends f) (clients es) (spoken_event outs_c outs_d).client → IsPacket f s0.limit es t s p (spoken_event outs_c outs_d)
+  spoken_packet because outs_c outs_d right_c right_d =
+      let x = Spoke h.work.to_controller roomy outs_c in
+      let y = Spoke h.work.to_client roomy outs_d in
+      let room = room_is f es t s p s1 given cut t0 t1 h None number (inr refl) x y in
+      heard_is_packet f s0.limit es t tick.fed s p h.letters h.work None (came_controller s p) (came_greeted f number (came_first s p)) x y
+      refl (came_due f es t s p given x h.answer_is) right_c right_d
+      (are_taken f es t s p s1 given cut t0 t1 h None number (inr refl) x y) h.unended (works_of f.asset (client_of f) s1.lane _ _ h.work h.parts.lane)
+      (because ∙ cut_is f es t s p s1 given cut t0 t1 h None number (inr refl) x y law s1.limit (is_some s1.closed) was ∙ ap (λ n. packet_cut f n es (spoken_event outs_c outs_d)) same.0)
+      (outs_c, ap (λ b. Spoke h.work.to_controller b outs_c) room) (outs_d, ap (λ b. Spoke h.work.to_client b outs_d) room)
+
+  pub spoken_sent : (outs_c outs_d : List PacketValue) → at now (outs_c ++ (greetings f number ++ outs_d)) ≡ sent_second (spoken_event outs_c outs_d)
+  spoken_sent outs_c outs_d =
+      let e = spoken_event outs_c outs_d in
+      ap (λ n. at n (outs_c ++ (greetings f number ++ outs_d))) (sym is_now) ∙ ap (at (moment t.client)) (sent_is f t s p given h.work.to_client h.work.to_controller roomy outs_c outs_d)
+      ∙ ap (λ b. at (moment t.client) (late b e.controller ++ late b e.client)) (sym (has_packet f s p number))
+
   module _ (because : None ≡ cut_by (is_some s1.closed) (is_reset given) s cut (full_of s1)) (uncut : cut ≡ None)
       (s2 s3 : SessionValue) (t2 t3 : Told)
       (says : SaysBoth f now number half_heard.controller (controllers es) half_heard.client (clients es) h.work.to_client h.work.to_controller (is_roomy s1) s2 t1 t2)
       (only : OnlySpeaks s1 s2) (queue_c : IsQueueOf s2.to_client h.work.to_client) (queue_k : IsQueueOf s2.to_controller h.work.to_controller)
       (others : s3 ≡ record s2 { closed = s3.closed }) (closing : s3.closed ≡ option_or s2.closed (cond (is_done_now s2) (Some now) None))
       (asset : Asset) (is : f.asset ≡ asset) (put : t3 ≡ with_both t2 [] (closing_lines asset s2 now)) where
-    abbrev roomy : Bool
-    roomy = is_roomy s1
-
     abbrev pub live_event : SessionEvent
-    live_event = ended_as f es t s p s1 given cut t0 t1 h None number (Spoke h.work.to_controller roomy says.outs_c) (Spoke h.work.to_client roomy says.outs_d)
-
-    fits : Suits s given p.seq number
-    fits = inr refl
-
-    none_here : None ≡ packet_cut f s0.limit es live_event
-    none_here = because ∙ cut_is f es t s p s1 given cut t0 t1 h None number fits (Spoke h.work.to_controller roomy says.outs_c) (Spoke h.work.to_client roomy says.outs_d) law s1.limit (is_some s1.closed) was
-        ∙ ap (λ n. packet_cut f n es live_event) same.0
-
-    has_room_is : roomy ≡ has_room f (live_event ∷ es)
-    has_room_is = room_is f es t s p s1 given cut t0 t1 h None number fits (Spoke h.work.to_controller roomy says.outs_c) (Spoke h.work.to_client roomy says.outs_d)
+    live_event = spoken_event says.outs_c says.outs_d
 
     pub live_packet : IsPacket f s0.limit es t s p live_event
-    live_packet = heard_is_packet f s0.limit es t tick.fed s p h.letters h.work None (came_controller s p) (came_greeted f number (came_first s p)) (Spoke h.work.to_controller roomy says.outs_c) (Spoke h.work.to_client roomy says.outs_d)
-        refl (came_due f es t s p given (Spoke h.work.to_controller roomy says.outs_c) h.answer_is)
+    live_packet = spoken_packet because says.outs_c says.outs_d
         (right_of (controller_ends f) s2.controller s2.to_controller live_event.controller (controllers es) says.controller_stands)
         (right_of (client_ends f) s2.client s2.to_client live_event.client (clients es) says.client_stands)
-        (are_taken f es t s p s1 given cut t0 t1 h None number fits (Spoke h.work.to_controller roomy says.outs_c) (Spoke h.work.to_client roomy says.outs_d)) h.unended
-        (works_of f.asset (client_of f) s1.lane _ _ h.work h.parts.lane) none_here
-        (says.outs_c, ap (λ b. Spoke h.work.to_controller b says.outs_c) has_room_is) (says.outs_d, ap (λ b. Spoke h.work.to_client b says.outs_d) has_room_is)
 
     -- ---- closing
 
@@ -198,7 +203,7 @@ module _ {f : Flow} {es : List SessionEvent} {t : SessionEvent} {s0 : SessionVal
     done_same = rw (only.client_window, only.controller_window, only.to_client, only.to_controller) refl
 
     done_closed : is_done_now s2 ≡ is_closed f (live_event ∷ es)
-    done_closed = done_same ∙ done_is f es t s p s1 given cut t0 t1 h None number fits (Spoke h.work.to_controller roomy says.outs_c) (Spoke h.work.to_client roomy says.outs_d)
+    done_closed = done_same ∙ done_is f es t s p s1 given cut t0 t1 h None number (inr refl) (Spoke h.work.to_controller roomy says.outs_c) (Spoke h.work.to_client roomy says.outs_d)
 
     closed_two : s2.closed ≡ closed_at f es
     closed_two = ap (λ (x : SessionValue). x.closed) only.rest ∙ closed_before
@@ -230,33 +235,16 @@ module _ {f : Flow} {es : List SessionEvent} {t : SessionEvent} {s0 : SessionVal
     abbrev outs : List PacketValue
     outs = says.outs_c ++ (greetings f number ++ says.outs_d)
 
-    pub sent_live : at now outs ≡ sent_second live_event
-    sent_live =
-        ap (λ n. at n outs) (sym is_now) ∙ ap (at (moment t.client)) (sent_is f t s p given h.work.to_client h.work.to_controller roomy says.outs_c says.outs_d)
-        ∙ ap (λ b. at (moment t.client) (late b live_event.controller ++ late b live_event.client)) (sym (has_packet f s p number))
-
     pub hears_live : Hears f s0.limit es t s p t0 t3 live_event
     hears_live = record {
       is_packet = live_packet;
       told = then_told t0 t1 t3 [] (at now outs ++ []) h.lines ([] ++ closing_lines asset s2 now) h.told (then_told t1 t2 t3 (at now outs) [] [] (closing_lines asset s2 now) says.told put)
-          ∙ ap (λ xs. with_both t0 xs (h.lines ++ closing_lines asset s2 now)) (append-nil (at now outs) ∙ sent_live)
+          ∙ ap (λ xs. with_both t0 xs (h.lines ++ closing_lines asset s2 now)) (append-nil (at now outs) ∙ spoken_sent says.outs_c says.outs_d)
           ∙ ap (λ xs. with_both t0 (sent_second live_event) (xs ++ closing_lines asset s2 now)) (sym (lines_are live_event refl))
           ∙ ap (λ xs. with_both t0 (sent_second live_event) ((first_line f es live_event ++ new_lines es live_event) ++ xs)) close_line;
     }
 
     -- ---- what stands in memory
-
-    stands_two : AreParts f es live_event s2
-    stands_two = record {
-      client = says.client_stands;
-      controller = says.controller_stands;
-      lane = subst (λ (l : LaneValue). IsLaneAfter f.asset (client_of f) l (rests s2) (history (live_event ∷ es)) h.work) (sym lane_two)
-          (subst (λ (w : Window). IsLaneAfter f.asset (client_of f) s1.lane (record { client = w.pending; controller = s2.controller.window.pending }) (history (live_event ∷ es)) h.work) (sym only.client_window)
-          (subst (λ (w : Window). IsLaneAfter f.asset (client_of f) s1.lane (record { client = s1.client.window.pending; controller = w.pending }) (history (live_event ∷ es)) h.work) (sym only.controller_window) h.parts.lane));
-      to_client = queue_c;
-      to_controller = queue_k;
-      taken = are_taken f es t s p s1 given cut t0 t1 h None number fits (Spoke h.work.to_controller roomy says.outs_c) (Spoke h.work.to_client roomy says.outs_d);
-    }
 
     limit_two : s2.limit ≡ s0.limit
     limit_two = ap (λ (x : SessionValue). x.limit) only.rest ∙ same.0
@@ -264,12 +252,12 @@ module _ {f : Flow} {es : List SessionEvent} {t : SessionEvent} {s0 : SessionVal
     pub stands_three : IsSessionOf f es live_event (record s2 { closed = s3.closed })
     stands_three = record {
       parts = record {
-        client = stands_two.client;
-        controller = stands_two.controller;
-        lane = stands_two.lane;
-        to_client = stands_two.to_client;
-        to_controller = stands_two.to_controller;
-        taken = stands_two.taken;
+        client = says.client_stands;
+        controller = says.controller_stands;
+        lane = rw (lane_two, only.client_window, only.controller_window) h.parts.lane;
+        to_client = queue_c;
+        to_controller = queue_k;
+        taken = are_taken f es t s p s1 given cut t0 t1 h None number (inr refl) (Spoke h.work.to_controller roomy says.outs_c) (Spoke h.work.to_client roomy says.outs_d);
       };
       events = (subst (λ n. AreEvents f n (live_event ∷ es)) (sym limit_two) (is_event f s0.limit es t s p live_event stands.events tick stands.going live_packet, stands.events.1));
       closed = closed_three;

@@ -1,5 +1,5 @@
 -- The second half of an event of a session, where the desk failed amid it.
-use Rattle.std.proofs.Common.{◌≡◌, ℕ, Bool, false, cond, List, [], ◌∷◌, ◌++◌, length, drop, inl, inr, Option, Some, None, refl, sym, ap, ◌∙◌, subst, true}
+use Rattle.std.proofs.Common.{◌≡◌, ℕ, Bool, false, cond, List, [], ◌∷◌, ◌++◌, inl, inr, Option, Some, None, refl, sym, ap, ◌∙◌, subst, true}
 use Rattle.std.specs.Option.{is_some, option_or}
 use Rattle.std.proofs.lemmas.List.{append-nil}
 use Rattle.cf_audit.specs.Line.{Cut as CutLine}
@@ -7,7 +7,7 @@ use Rattle.cf_audit.specs.declared.CutReason.{CutReason}
 use Rattle.cf_lane.specs.History.{taken}
 use Rattle.cf_lane.specs.Limit.{limit_cut}
 use Rattle.cf_leg.specs.Emits.{IsRight}
-use Rattle.cf_leg.specs.Event.{Cut, Ending, Spoke, Unspoken, moment}
+use Rattle.cf_leg.specs.Event.{Cut, Ending, Spoke, Unspoken}
 use Rattle.cf_leg.specs.Heard.{answer_to, end_state, offers}
 use Rattle.cf_leg.specs.declared.LegAnswer.{LegAnswer}
 use Rattle.cf_outq.specs.SendQueue.{IsQueueOf}
@@ -19,21 +19,20 @@ use Rattle.cf_view.specs.declared.Side.{Side}
 use Rattle.cf_view.specs.declared.Side.TheVariants as side
 use Rattle.cf_session.proofs.Able.{can_cut, can_hello, can_speak}
 use Rattle.cf_session.proofs.Amid.{amid_after, amid_as, amid_before}
-use Rattle.cf_session.proofs.Assembled.{came_cut, came_due, greeted_before, has_packet, is_half, later_line, may_greet, new_is, sent_is}
+use Rattle.cf_session.proofs.Assembled.{came_cut, came_due, greeted_before, is_half, lines_by, may_greet}
 use Rattle.cf_session.proofs.Events.{heard_is_packet}
-use Rattle.cf_session.proofs.Final.{HeardAt, close_line, cut_event, cut_packet, half_heard, last_cut, lines_are, live_event, live_packet, sent_cut, sent_live, was, works_of}
-use Rattle.cf_session.proofs.Heards.{Suits, are_taken, cut_is, ended_as, full_of, hello_any, resets_is, room_is}
+use Rattle.cf_session.proofs.Final.{HeardAt, close_line, cut_event, cut_packet, half_heard, last_cut, lines_are, live_event, live_packet, sent_cut, spoken_event, spoken_packet, spoken_sent}
+use Rattle.cf_session.proofs.Heards.{Suits, full_of, hello_any, resets_is}
 use Rattle.cf_outside.specs.Frames.{EmitsAndLogs}
 use Rattle.cf_session.specs.Broken.{BreaksAmid, BreaksPacket}
 use Rattle.cf_session.specs.Cuts.{cut_by, is_reset, packet_cut}
 use Rattle.cf_session.specs.Event.{IsPacket, IsTick, came_controller}
 use Rattle.cf_session.specs.Parts.{SessionValue}
-use Rattle.cf_session.specs.Sent.{at, first_line, last_line, late, line, new_lines, sent_second}
-use Rattle.cf_session.specs.Session.{Flow, SessionEvent, client_ends, client_of, clients, controller_ends, controllers, has_room, history, was_closed, work_of}
+use Rattle.cf_session.specs.Sent.{at, first_line, last_line, line, new_lines, sent_second}
+use Rattle.cf_session.specs.Session.{Flow, SessionEvent, client_ends, clients, controller_ends, controllers, has_room, history, was_closed}
 use Rattle.cf_session.specs.Stands.{IsSessionOf}
 use Rattle.cf_session.specs.Told.{Told, told, with_both}
 use Rattle.cf_session.specs.Turn.{CutsBoth, HeardAmid, OnlySpeaks, SaysAmid, SaysBoth, came_first, came_greeted, closing_lines, ends_of, greetings, heard_event, heard_half, is_done_now, is_roomy, leg_in, legs_of, number_by}
-use Rattle.cf_session.specs.Work.{Work}
 
 module _ (f : Flow) (es : List SessionEvent) (t : SessionEvent) (s0 : SessionValue) (stands : IsSessionOf f es t s0) (tick : IsTick f es t.client.tick t) (s : Side) (p : PacketValue) where
   half_c : (from : Side) → IsRight (controller_ends f) (controllers es) (record t.controller { came = came_controller from p; ending = Unspoken })
@@ -72,17 +71,11 @@ module _ (f : Flow) (es : List SessionEvent) (t : SessionEvent) (s0 : SessionVal
         IsTaken (first_copy (offers (client_ends f).role (record t.client { came = came_greeted f number (came_first s p); ending = Unspoken } ∷ clients es))) (taken side.Client (history (half ∷ es)))
     taken_client number suits = subst (λ os. IsTaken (first_copy os) (taken side.Client (history (half ∷ es)))) (sym (offers_same number suits)) h.are_taken.client
 
-    lines_here : (e : SessionEvent) → e.work ≡ h.work → first_line f es e ++ new_lines es e ≡ h.lines
-    lines_here e same =
-        ap (λ xs. xs ++ new_lines es e) (later_line f s0.limit es t e stands.events tick)
-        ∙ ap (λ (w : Work). drop (length (work_of es).log) w.log) same
-        ∙ new_is (work_of es) h.work h.lines (h.log_is ∙ ap (λ (w : Work). w.log ++ h.lines) tick.work)
-
     breaks_as : (e : SessionEvent) → e.work ≡ h.work → IsPacket f s0.limit es t s p e → BreaksPacket f s0.limit es t s p d0 d1
     breaks_as e same is = record {
       event = e;
       is_packet = is;
-      amid = amid_as (sent_second e) (sent_second e) (h.lines ++ last_line f es e e.cut) _ d0 d1 refl (ap (λ xs. xs ++ last_line f es e e.cut) (sym (lines_here e same)))
+      amid = amid_as (sent_second e) (sent_second e) (h.lines ++ last_line f es e e.cut) _ d0 d1 refl (ap (λ xs. xs ++ last_line f es e e.cut) (sym (lines_by f s0.limit es t e h.work h.lines stands.events tick same h.log_is)))
           (amid_before [] (sent_second e) h.lines (last_line f es e e.cut) d0 d1 h.amid);
     }
 
@@ -114,7 +107,7 @@ module _ (f : Flow) (es : List SessionEvent) (t : SessionEvent) (s0 : SessionVal
 
 module _ {f : Flow} {es : List SessionEvent} {t : SessionEvent} {s0 : SessionValue} {s : Side} {p : PacketValue} {s1 : SessionValue} {given : LegAnswer} {cut : Option CutReason} {now : ℕ}
     (d0 d1 : DeskValue) (heard : HeardAt f es t s0 s p s1 given cut (told d0) (told d1) now) (frame : EmitsAndLogs d0 d1 false) where
-  open heard use {tick, by as h, law, is_now}
+  open heard use {by as h}
 
   -- amid the RSTs and the line of a cut
   module _ (r : CutReason) (because : Some r ≡ cut_by (is_some s1.closed) (is_reset given) s cut (full_of s1))
@@ -146,23 +139,12 @@ module _ {f : Flow} {es : List SessionEvent} {t : SessionEvent} {s0 : SessionVal
         SaysAmid f now number (half_heard heard).controller (controllers es) (half_heard heard).client (clients es) h.work.to_client h.work.to_controller roomy d1 d2 →
         BreaksPacket f s0.limit es t s p d0 d2
     speak_failed d2 x =
-        let v = Spoke h.work.to_controller roomy x.outs_c in
-        let w = Spoke h.work.to_client roomy x.outs_d in
-        let e = ended_as f es t s p s1 given cut (told d0) (told d1) h None number v w in
+        let e = spoken_event heard x.outs_c x.outs_d in
         let outs = x.outs_c ++ (greetings f number ++ x.outs_d) in
-        let closed_is : is_some s1.closed ≡ was_closed f es = was heard in
-        let room = room_is f es t s p s1 given cut (told d0) (told d1) h None number (inr refl) v w in
         record {
           event = e;
-          is_packet = heard_is_packet f s0.limit es t tick.fed s p h.letters h.work None (came_controller s p) (came_greeted f number (came_first s p)) v w
-              refl (came_due f es t s p given v h.answer_is) x.controller_right x.client_right
-              (are_taken f es t s p s1 given cut (told d0) (told d1) h None number (inr refl) v w) h.unended
-              (works_of f.asset (client_of f) s1.lane _ _ h.work h.parts.lane)
-              (because ∙ cut_is f es t s p s1 given cut (told d0) (told d1) h None number (inr refl) v w law s1.limit (is_some s1.closed) closed_is ∙ ap (λ n. packet_cut f n es e) heard.same.0)
-              (x.outs_c, ap (λ b. Spoke h.work.to_controller b x.outs_c) room) (x.outs_d, ap (λ b. Spoke h.work.to_client b x.outs_d) room);
-          amid = amid_as (at now outs) (sent_second e) ((h.lines ++ []) ++ last_line f es e None) _ d0 d2
-              (ap (λ n. at n outs) (sym is_now) ∙ ap (at (moment t.client)) (sent_is f t s p given h.work.to_client h.work.to_controller roomy x.outs_c x.outs_d)
-              ∙ ap (λ b. at (moment t.client) (late b e.controller ++ late b e.client)) (sym (has_packet f s p number)))
+          is_packet = spoken_packet heard because x.outs_c x.outs_d x.controller_right x.client_right;
+          amid = amid_as (at now outs) (sent_second e) ((h.lines ++ []) ++ last_line f es e None) _ d0 d2 (spoken_sent heard x.outs_c x.outs_d)
               (ap (λ xs. xs ++ last_line f es e None) (append-nil h.lines ∙ sym (lines_are heard e refl)))
               (amid_as (at now outs ++ []) (at now outs) _ _ d0 d2 (append-nil (at now outs)) refl
               (amid_before (at now outs) [] (h.lines ++ []) (last_line f es e None) d0 d2 (amid_after [] (at now outs) h.lines [] d0 d1 d2 h.told frame x.amid)));
@@ -187,7 +169,7 @@ module _ {f : Flow} {es : List SessionEvent} {t : SessionEvent} {s0 : SessionVal
             event = e;
             is_packet = live_packet heard because uncut s2 s3 (told d2) t3 says only queue_c queue_k refl refl asset is refl;
             amid = amid_as (outs ++ []) (sent_second e) (h.lines ++ closing_lines asset s2 now) _ d0 d3
-                (append-nil outs ∙ sent_live heard because uncut s2 s3 (told d2) t3 says only queue_c queue_k refl refl asset is refl)
+                (append-nil outs ∙ spoken_sent heard says.outs_c says.outs_d)
                 (ap (λ xs. xs ++ closing_lines asset s2 now) (sym (lines_are heard e refl))
                 ∙ ap (λ xs. (first_line f es e ++ new_lines es e) ++ xs) (close_line heard because uncut s2 s3 (told d2) t3 says only queue_c queue_k refl refl asset is refl))
                 (amid_after [] (outs ++ []) h.lines (closing_lines asset s2 now) d0 d1 d3 h.told frame

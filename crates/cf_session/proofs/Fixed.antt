@@ -9,43 +9,35 @@ use Rattle.cf_lane.specs.Laws.{HasOneJudgement}
 use Rattle.cf_leg.specs.Asked.{AllAsked, SameCame, SameEnding}
 use Rattle.cf_leg.specs.Emits.{AllRight, IsRight, fired_at}
 use Rattle.cf_leg.specs.Event.{Came, Cut, Ending, Greeting, LegEvent, Nothing, Packet, Spoke, Unspoken}
-use Rattle.cf_leg.specs.Heard.{offers, opening}
+use Rattle.cf_leg.specs.Heard.{opening}
 use Rattle.cf_leg.specs.declared.Ends.{Ends}
 use Rattle.cf_leg.specs.declared.Role.{Role}
 use Rattle.cf_packet.specs.Packet.{PacketValue}
 use Rattle.cf_policy.specs.declared.Asset.{Asset}
 use Rattle.cf_stream.proofs.Taken.{same_taken}
-use Rattle.cf_stream.specs.FirstCopy.{IsTaken, first_copy}
 use Rattle.cf_stream.specs.Stream.{Stream}
 use Rattle.cf_view.specs.declared.Endpoint.{Endpoint}
 use Rattle.cf_view.specs.declared.Side.{Side}
 use Rattle.cf_view.specs.declared.Side.TheVariants as side
 use Rattle.cf_session.proofs.Fed.{fed_fixed}
 use Rattle.cf_session.specs.Cuts.{clock_cut, gives_up, packet_cut, resets}
-use Rattle.cf_session.specs.Event.{AreEvents, EndsPacket, EndsTick, IsBeginning, IsEvent, IsPacket, IsTick, came_client}
+use Rattle.cf_session.specs.Event.{AreEvents, AreRight, EndsPacket, EndsTick, IsBeginning, IsEvent, IsPacket, IsTick, came_client}
 use Rattle.cf_session.specs.Laws.{Given, given, packet_in}
 use Rattle.cf_session.specs.Session.{Flow, SessionEvent, client_ends, client_of, clients, controller_ends, controllers, has_room, history}
+use Rattle.cf_session.specs.Turn.{ends_of, leg_in}
 use Rattle.cf_session.specs.Work.{Work, Works, fed_at, work_by}
 
 -- ---- each leg
 
-controller_one : (f : Flow) (limit : ℕ) (es : List SessionEvent) (e : SessionEvent) → IsEvent f limit es e → IsRight (controller_ends f) (controllers es) e.controller
-controller_one f limit [] e h = h.right.controller
-controller_one f limit (d ∷ es) e (inl h) = h.right.controller
-controller_one f limit (d ∷ es) e (inr h) = h.5.right.controller
+pub event_right : (f : Flow) (limit : ℕ) (es : List SessionEvent) (e : SessionEvent) → IsEvent f limit es e → AreRight f es e
+event_right f limit [] e h = h.right
+event_right f limit (d ∷ es) e (inl h) = h.right
+event_right f limit (d ∷ es) e (inr h) = h.5.right
 
-client_one : (f : Flow) (limit : ℕ) (es : List SessionEvent) (e : SessionEvent) → IsEvent f limit es e → IsRight (client_ends f) (clients es) e.client
-client_one f limit [] e h = h.right.client
-client_one f limit (d ∷ es) e (inl h) = h.right.client
-client_one f limit (d ∷ es) e (inr h) = h.5.right.client
-
-pub controllers_right : (f : Flow) (limit : ℕ) (es : List SessionEvent) → AreEvents f limit es → AllRight (controller_ends f) (controllers es)
-controllers_right f limit [] h = tt
-controllers_right f limit (e ∷ es) h = (controller_one f limit es e h.0, controllers_right f limit es h.1)
-
-pub clients_right : (f : Flow) (limit : ℕ) (es : List SessionEvent) → AreEvents f limit es → AllRight (client_ends f) (clients es)
-clients_right f limit [] h = tt
-clients_right f limit (e ∷ es) h = (client_one f limit es e h.0, clients_right f limit es h.1)
+pub legs_right : (f : Flow) (limit : ℕ) (es : List SessionEvent) (s : Side) → AreEvents f limit es → AllRight (ends_of f s) (map (leg_in s) es)
+legs_right f limit [] s h = tt
+legs_right f limit (e ∷ es) side.Client h = ((event_right f limit es e h.0).client, legs_right f limit es side.Client h.1)
+legs_right f limit (e ∷ es) side.Controller h = ((event_right f limit es e h.0).controller, legs_right f limit es side.Controller h.1)
 
 abbrev pub LegLaw : Type 0
 LegLaw = (ends : Ends) (es fs : List LegEvent) → AllRight ends es → AllRight ends fs → AllAsked es fs → es ≡ fs
@@ -76,7 +68,8 @@ leg_fixed law ends es all e d h g a b c n =
     cc
 
 legs_fixed : (law : LegLaw) (f : Flow) (limit : ℕ) (es : List SessionEvent) → AreEvents f limit es → LegsAreFixed f es
-legs_fixed law f limit es h = (leg_fixed law (controller_ends f) (controllers es) (controllers_right f limit es h), leg_fixed law (client_ends f) (clients es) (clients_right f limit es h))
+legs_fixed law f limit es h =
+    (leg_fixed law (controller_ends f) (controllers es) (legs_right f limit es side.Controller h), leg_fixed law (client_ends f) (clients es) (legs_right f limit es side.Client h))
 
 abbrev pub WorkIsOne : Type 0
 WorkIsOne = (asset : Asset) (client : Endpoint) (h : List Element) (w v : Work) → Works asset client h w → Works asset client h v → w ≡ v
@@ -127,23 +120,18 @@ same_packet_ending : (c : Option CutReason) (w : Stream) (r : Bool) (x y : Endin
 same_packet_ending None w r x y h g = subst (λ z. SameEnding z y) (sym h.1) (subst (SameEnding (Spoke w r h.0)) (sym g.1) (refl, refl))
 same_packet_ending (Some c) w r x y h g = subst (λ z. SameEnding z y) (sym h.1) (subst (SameEnding (Cut h.0)) (sym g.1) tt)
 
--- what is taken of a side is fixed by what came on its leg
-leg_taken : (s : Side) (r : Role) (es : List LegEvent) (x y : LegEvent) (h g : List Element) → x.fired ≡ y.fired → x.came ≡ y.came → IsTaken (first_copy (offers r (x ∷ es))) (taken s h) → IsTaken (first_copy (offers r (y ∷ es))) (taken s g) → taken s h ≡ taken s g
-leg_taken s r es x y h g fired came a b =
-    let same : offers r (x ∷ es) ≡ offers r (y ∷ es) = rw (fired, came) refl in
-    same_taken (first_copy (offers r (y ∷ es))) (taken s h) (taken s g) (subst (λ os. IsTaken (first_copy os) (taken s h)) same a) b
-
 -- a leg that is greeted, or to which nothing comes, is not reset
 no_reset : (f : Flow) (r : Role) (es : List LegEvent) (e : LegEvent) (p : PacketValue) (b : Bool) → e.came ≡ came_client f side.Controller p b → resets r es e e.came ≡ false
 no_reset f r es e p true c = ap (resets r es e) c
 no_reset f r es e p false c = ap (resets r es e) c
 
 module _ (f : Flow) (limit : ℕ) (es : List SessionEvent) (before : SessionEvent) (p : PacketValue) (a b : SessionEvent) where
+  -- what is taken of a side is fixed by what came on its leg
   own_taken : (s : Side) → IsPacket f limit es before s p a → IsPacket f limit es before s p b → a.client.fired ≡ b.client.fired → a.controller.fired ≡ b.controller.fired → taken s (history (a ∷ es)) ≡ taken s (history (b ∷ es))
   own_taken side.Client h g client controller =
-      leg_taken side.Client (client_ends f).role (clients es) a.client b.client (history (a ∷ es)) (history (b ∷ es)) client (h.client_came ∙ sym g.client_came) h.taken.client g.taken.client
+      same_taken _ _ _ h.taken.client (rw (client, h.client_came ∙ sym g.client_came) g.taken.client)
   own_taken side.Controller h g client controller =
-      leg_taken side.Controller (controller_ends f).role (controllers es) a.controller b.controller (history (a ∷ es)) (history (b ∷ es)) controller (h.controller_came ∙ sym g.controller_came) h.taken.controller g.taken.controller
+      same_taken _ _ _ h.taken.controller (rw (controller, h.controller_came ∙ sym g.controller_came) g.taken.controller)
 
   client_reset : (s : Side) → IsPacket f limit es before s p a → IsPacket f limit es before s p b → a.client.fired ≡ b.client.fired →
       resets (client_ends f).role (clients es) a.client a.client.came ≡ resets (client_ends f).role (clients es) b.client b.client.came
@@ -189,12 +177,8 @@ module _ (one : WorkIsOne) (f : Flow) (limit : ℕ) (es : List SessionEvent) (le
   -- one second half
   pub packet_is_fixed : a ≡ b
   packet_is_fixed =
-      let P : Option CutReason → Type 0 = λ c. EndsPacket c a.work.to_controller (has_room f (a ∷ es)) a.controller.ending in
-      let Q : Option CutReason → Type 0 = λ c. EndsPacket c a.work.to_client (has_room f (a ∷ es)) a.client.ending in
-      let R : Work → Type 0 = λ w. EndsPacket b.cut w.to_controller (has_room f (b ∷ es)) a.controller.ending in
-      let S : Work → Type 0 = λ w. EndsPacket b.cut w.to_client (has_room f (b ∷ es)) a.client.ending in
-      let x = subst R work_same (subst (λ r. EndsPacket b.cut a.work.to_controller r a.controller.ending) room_same (subst P cut_same h.controller_ending)) in
-      let y = subst S work_same (subst (λ r. EndsPacket b.cut a.work.to_client r a.client.ending) room_same (subst Q cut_same h.client_ending)) in
+      let x = rw (room_same, work_same, cut_same) at h.controller_ending in
+      let y = rw (room_same, work_same, cut_same) at h.client_ending in
       same_event a b
       (leg.0 a.controller b.controller h.right.controller g.right.controller controller_given.0 controller_given.1 controller_given.2
       (same_packet_ending b.cut b.work.to_controller (has_room f (b ∷ es)) a.controller.ending b.controller.ending x g.controller_ending))

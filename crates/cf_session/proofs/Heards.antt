@@ -1,11 +1,10 @@
 -- The second half of an event of a session: what a packet of a side fixes, however the event ends.
 use Rattle.std.proofs.Common.{◌≡◌, ℕ, ◌+◌, ◌-◌, ◌==◌, ◌≤◌, Bool, true, false, not, cond, ◌&&◌, List, [], ◌∷◌, length, ◌⊎◌, inl, inr, Option, Some, None, refl, sym, ap, ◌∙◌, subst, arith}
-use Rattle.std.specs.Prelude.{nat_le}
 use Rattle.std.specs.Option.{option_or}
-use Rattle.std.proofs.lemmas.Bool.{false≢true}
+use Rattle.std.proofs.lemmas.Bool.{cases_Bool, false≢true}
 use Rattle.cf_audit.specs.declared.CutReason.{CutReason}
 use Rattle.cf_audit.specs.declared.CutReason.TheVariants as reason
-use Rattle.cf_lane.specs.History.{Element, ended_of, taken}
+use Rattle.cf_lane.specs.History.{ended_of, taken}
 use Rattle.cf_leg.specs.Event.{Came, Ending, Greeting, LegEvent, Nothing, Packet, Unspoken, moment}
 use Rattle.cf_leg.specs.Heard.{acked, answer_to, end_state, first_answer, is_opening, offers, open_answer, opened}
 use Rattle.cf_leg.specs.LegValue.{IsLegOf, LegValue, Marks, marks}
@@ -29,7 +28,7 @@ use Rattle.cf_session.specs.Cuts.{cut_by, is_reset, packet_cut, reset_by, reset_
 use Rattle.cf_lane.specs.Limit.{limit_by, limit_cut}
 use Rattle.cf_session.specs.Event.{AreTaken, IsTick, came_controller}
 use Rattle.cf_session.specs.Parts.{SessionValue}
-use Rattle.cf_session.specs.Session.{Flow, SessionEvent, client_ends, clients, closed_at, controller_ends, controllers, has_room, history, is_closed, is_done, was_closed, work_of}
+use Rattle.cf_session.specs.Session.{Flow, SessionEvent, client_ends, clients, closed_at, controller_ends, controllers, has_room, history, is_closed, is_done, was_closed}
 use Rattle.cf_session.specs.Told.{Told}
 use Rattle.cf_session.specs.Turn.{HeardBy, came_first, came_greeted, ends_of, heard_event, heard_half, is_acknowledged, is_done_now, is_roomy, leg_in, legs_of, number_by}
 use Rattle.cf_session.specs.Work.{Work}
@@ -38,11 +37,7 @@ use Rattle.cf_session.specs.Work.{Work}
 
 pub hello_same : {X : Type 0} (F : Came → X) (f : Flow) (s : Side) (p : PacketValue) (given : LegAnswer) (n : ℕ) → ((q : PacketValue) → F (Greeting q) ≡ F Nothing) → F (came_greeted f (number_by s given n) (came_first s p)) ≡ F (came_first s p)
 hello_same F f side.Client p given n h = refl
-hello_same F f side.Controller p answer.Opened n h = h _
-hello_same F f side.Controller p answer.Counted n h = refl
-hello_same F f side.Controller p answer.Ignored n h = refl
-hello_same F f side.Controller p answer.Challenged n h = refl
-hello_same F f side.Controller p answer.Reset n h = refl
+hello_same F f side.Controller p given n h = elim (cases_Bool (is_opening given)) [ inl b ↦ rw b (h _) | inr b ↦ rw b refl ]
 
 -- the client was greeted as it is due, or not at all
 abbrev pub Suits : Side → LegAnswer → ℕ → Option ℕ → Type 0
@@ -104,15 +99,8 @@ opens_once r es e p h = by_open (opened r es) (end_state r es e) p h
 
 -- a first half closes nothing
 module _ (f : Flow) (es : List SessionEvent) (t : SessionEvent) (tick : IsTick f es t.client.tick t) where
-  abbrev closed_by : List Element → Work → ℕ → ℕ → Bool
-  closed_by h w a b = (ended_of side.Client h && ended_of side.Controller h) && (is_done w.to_client a && is_done w.to_controller b)
-
   same_closed : is_closed f (t ∷ es) ≡ is_closed f es
-  same_closed =
-      ap (λ h. closed_by h t.work (acked (client_ends f).role (t.client ∷ clients es)) (acked (controller_ends f).role (t.controller ∷ controllers es))) (before_history es t tick.fed)
-      ∙ ap (λ w. closed_by (history es) w (acked (client_ends f).role (t.client ∷ clients es)) (acked (controller_ends f).role (t.controller ∷ controllers es))) tick.work
-      ∙ ap (λ (x : Came). closed_by (history es) (work_of es) (acked (client_ends f).role (record t.client { came = x } ∷ clients es)) (acked (controller_ends f).role (t.controller ∷ controllers es))) tick.client_came
-      ∙ ap (λ (x : Came). closed_by (history es) (work_of es) (acked (client_ends f).role (clients es)) (acked (controller_ends f).role (record t.controller { came = x } ∷ controllers es))) tick.controller_came
+  same_closed = rw (before_history es t tick.fed, tick.work, tick.client_came, tick.controller_came) refl
 
 pub tick_closed : (f : Flow) (es : List SessionEvent) (t : SessionEvent) → IsTick f es t.client.tick t → closed_at f (t ∷ es) ≡ closed_at f es
 tick_closed f [] t tick = ap (λ b. cond b (Some (moment t.client)) None) (same_closed f [] t tick)
@@ -175,10 +163,7 @@ module _ (f : Flow) (es : List SessionEvent) (t : SessionEvent) (s : Side) (p : 
 
     pub room_is : is_roomy s1 ≡ has_room f (event ∷ es)
     room_is =
-        ap (λ n. nat_le (n - s1.to_client.acked) 16384 && nat_le (queue_length s1.to_controller - s1.to_controller.acked) 16384) (length_is s1.to_client h.work.to_client h.parts.to_client)
-        ∙ ap (λ n. nat_le (letter_count h.work.to_client - n) 16384 && nat_le (queue_length s1.to_controller - s1.to_controller.acked) 16384) (acked_client ∙ sym same_acked)
-        ∙ ap (λ n. nat_le (letter_count h.work.to_client - acked (client_ends f).role (clients (event ∷ es))) 16384 && nat_le (n - s1.to_controller.acked) 16384) (length_is s1.to_controller h.work.to_controller h.parts.to_controller)
-        ∙ ap (λ n. nat_le (letter_count h.work.to_client - acked (client_ends f).role (clients (event ∷ es))) 16384 && nat_le (letter_count h.work.to_controller - n) 16384) acked_controller
+        rw (length_is s1.to_client _ h.parts.to_client, length_is s1.to_controller _ h.parts.to_controller, acked_client, acked_controller, same_acked) refl
 
     -- ---- closing
 
@@ -192,12 +177,12 @@ module _ (f : Flow) (es : List SessionEvent) (t : SessionEvent) (s : Side) (p : 
 
     pub done_is : is_done_now s1 ≡ is_closed f (event ∷ es)
     done_is =
-        ap (λ b. (b && s1.controller.window.ended) && (is_acknowledged s1.to_client && is_acknowledged s1.to_controller)) client_ended
-        ∙ ap (λ b. (ended_of side.Client (history (event ∷ es)) && b) && (is_acknowledged s1.to_client && is_acknowledged s1.to_controller)) controller_ended
-        ∙ ap (λ b. (ended_of side.Client (history (event ∷ es)) && ended_of side.Controller (history (event ∷ es))) && (b && is_acknowledged s1.to_controller))
-        (acknowledged_is s1.to_client h.work.to_client _ h.parts.to_client (acked_client ∙ sym same_acked))
-        ∙ ap (λ b. (ended_of side.Client (history (event ∷ es)) && ended_of side.Controller (history (event ∷ es))) && (is_done h.work.to_client (acked (client_ends f).role (clients (event ∷ es))) && b))
-        (acknowledged_is s1.to_controller h.work.to_controller _ h.parts.to_controller acked_controller)
+        rw (
+          client_ended,
+          controller_ended,
+          acknowledged_is s1.to_client h.work.to_client _ h.parts.to_client (acked_client ∙ sym same_acked),
+          acknowledged_is s1.to_controller h.work.to_controller _ h.parts.to_controller acked_controller,
+        ) refl
 
     -- ---- the cut
 
@@ -212,17 +197,10 @@ module _ (f : Flow) (es : List SessionEvent) (t : SessionEvent) (s : Side) (p : 
 
       full_is : (limit : ℕ) → limit_by limit (base_of s1.client.window) (base_of s1.controller.window) (queue_length s1.to_client) (queue_length s1.to_controller) ≡ limit_cut limit (history (event ∷ es)) h.work.to_client h.work.to_controller
       full_is limit =
-          ap (λ n. limit_by limit n (base_of s1.controller.window) (queue_length s1.to_client) (queue_length s1.to_controller)) client_base
-          ∙ ap (λ n. limit_by limit (letter_count (taken side.Client (history (event ∷ es)))) n (queue_length s1.to_client) (queue_length s1.to_controller)) controller_base
-          ∙ ap (λ n. limit_by limit (letter_count (taken side.Client (history (event ∷ es)))) (letter_count (taken side.Controller (history (event ∷ es)))) n (queue_length s1.to_controller)) (length_is s1.to_client h.work.to_client h.parts.to_client)
-          ∙ ap (λ n. limit_by limit (letter_count (taken side.Client (history (event ∷ es)))) (letter_count (taken side.Controller (history (event ∷ es)))) (letter_count h.work.to_client) n) (length_is s1.to_controller h.work.to_controller h.parts.to_controller)
+          rw (client_base, controller_base, length_is s1.to_client _ h.parts.to_client, length_is s1.to_controller _ h.parts.to_controller) refl
 
       -- what the code tests is what cuts
       pub cut_is : (limit : ℕ) (closed : Bool) → closed ≡ was_closed f es →
           cut_by closed (is_reset given) s cut (limit_by limit (base_of s1.client.window) (base_of s1.controller.window) (queue_length s1.to_client) (queue_length s1.to_controller)) ≡ packet_cut f limit es event
       cut_is limit closed was =
-          ap (λ b. cut_by b (is_reset given) s cut (limit_by limit (base_of s1.client.window) (base_of s1.controller.window) (queue_length s1.to_client) (queue_length s1.to_controller))) was
-          ∙ ap (λ o. cond (was_closed f es) None (option_or o (option_or cut (limit_by limit (base_of s1.client.window) (base_of s1.controller.window) (queue_length s1.to_client) (queue_length s1.to_controller)))))
-          (sym (resets_is f es t s p h.letters h.work given why number suits x y h.answer_is))
-          ∙ ap (λ o. cond (was_closed f es) None (option_or (reset_cut f es event) (option_or o (limit_by limit (base_of s1.client.window) (base_of s1.controller.window) (queue_length s1.to_client) (queue_length s1.to_controller))))) (sym h.cut_is)
-          ∙ ap (λ o. cond (was_closed f es) None (option_or (reset_cut f es event) (option_or h.work.cut o))) (full_is limit)
+          rw (was, full_is limit, resets_is f es t s p h.letters h.work given why number suits x y h.answer_is, h.cut_is) refl

@@ -27,26 +27,19 @@ pub record Took (ends : Ends) (e : LegEvent) (es : List LegEvent) (p : PacketVal
   pub on : (t : Stream) → IsTaken (first_copy (offers ends.role es)) t → IsTaken (first_copy (offers ends.role (record e { came = Packet p; ending = Unspoken } ∷ es))) (with_letters t letters)
   pub ended_same : (t : Stream) → IsTaken (first_copy (offers ends.role es)) t → leg.window.ended ≡ t.ended
 
-took_own : (leg new : LegValue) (q q' : Queue) (answer : LegAnswer) (now : ℕ) (e : LegEvent) (es : List LegEvent) (p : PacketValue) → Heard now p leg new q q' answer → (n : Newly now p leg new q) → new.ends ≡ leg.ends → now ≡ moment e →
-    IsLegOf leg (marks q) (record e { came = Nothing; ending = Unspoken } ∷ es) → Took leg.ends e es p leg new q' answer n.letters
-took_own leg new q q' answer now e es p h n same at s = record {
-  answer_is = h.answer e es s;
-  stands = record { is = same; stands = h.stands e es at s };
-  on = λ t g. n.taken e es t at s g;
-  ended_same = λ t g. window_ended leg.window (offers leg.ends.role es) t s.of_window g;
-}
-
 pub took : {ends : Ends} {leg new : LegValue} {q q' : Queue} {answer : LegAnswer} {now : ℕ} {es : List LegEvent} {p : PacketValue} (e : LegEvent) → Heard now p leg new q q' answer → (n : Newly now p leg new q) → new.ends ≡ leg.ends → now ≡ moment e →
     IsLegBetween ends leg q (record e { came = Nothing; ending = Unspoken } ∷ es) → Took ends e es p leg new q' answer n.letters
-took {ends} {leg} {new} {q} {q'} {answer} {now} {es} {p} e h n same at s = subst (λ x. Took x e es p leg new q' answer n.letters) s.is (took_own leg new q q' answer now e es p h n same at s.stands)
+took {ends} {leg} {new} {q} {q'} {answer} {now} {es} {p} e h n same at s = subst (λ x. Took x e es p leg new q' answer n.letters) s.is (record {
+  answer_is = h.answer e es s.stands;
+  stands = record { is = same; stands = h.stands e es at s.stands };
+  on = λ t g. n.taken e es t at s.stands g;
+  ended_same = λ t g. window_ended leg.window (offers leg.ends.role es) t s.stands.of_window g;
+})
 
 -- ---- which letters
 
-or_open : (a b c : Bool) → a ≡ false → c ≡ (a || b) → b ≡ c
-or_open a b c o e = sym (e ∙ ap (λ x. x || b) o)
-
 newly_open : (l : Stream) (was now : Bool) → was ≡ false → now ≡ (was || l.ended) → l ≡ record { bytes = l.bytes; ended = now }
-newly_open l was now o e = ap (λ b. let s : Stream = record { bytes = l.bytes; ended = b } in s) (or_open was l.ended now o e)
+newly_open l was now o e = rw (e, o) refl
 
 -- before the side has ended, these letters are new of it
 pub record Brings (ends : Ends) (e : LegEvent) (es : List LegEvent) (p : PacketValue) (t : Stream) (before now : List ℕ) (letters : Stream) : Type 0 where
@@ -76,10 +69,7 @@ newly_none l old new t o k pending same =
 -- ---- the leg once the lane has put bytes into its queue, and its window was consumed
 
 same_marks : (a b : Queue) → OnlyPushed a b → marks b ≡ marks a
-same_marks a b h =
-    ap (λ n. let m : Marks = record { acked = n; sent = b.sent; shown = b.shown } in m) h.acked
-    ∙ ap (λ n. let m : Marks = record { acked = a.acked; sent = n; shown = b.shown } in m) h.sent
-    ∙ ap (λ n. let m : Marks = record { acked = a.acked; sent = a.sent; shown = n } in m) h.shown
+same_marks a b h = rw (h.acked, h.sent, h.shown) refl
 
 pub stands_on : (ends : Ends) (leg new : LegValue) (q q' : Queue) (es : List LegEvent) → IsLegBetween ends leg q es → new.ends ≡ leg.ends → ((m : Marks) (xs : List LegEvent) → IsLegOf leg m xs → IsLegOf new m xs) → OnlyPushed q q' → IsLegBetween ends new q' es
 stands_on ends leg new q q' es s same on pushed = record { is = same ∙ s.is; stands = subst (λ m. IsLegOf new m es) (sym (same_marks q q' pushed)) (on (marks q) es s.stands) }

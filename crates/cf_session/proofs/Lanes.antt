@@ -1,5 +1,5 @@
 -- The lane stands for a history, in the session's words.
-use Rattle.std.proofs.Common.{◌≡◌, ℕ, ◌==◌, Bool, true, false, cond, List, [], ◌∷◌, ◌++◌, Option, Some, None, refl, sym, ap, ◌∙◌, subst, arith}
+use Rattle.std.proofs.Common.{◌≡◌, ℕ, Bool, true, false, cond, List, [], ◌∷◌, ◌++◌, Option, Some, None, refl, sym, ap, ◌∙◌, subst}
 use Rattle.std.proofs.lemmas.List.{append-nil}
 use Rattle.std.proofs.lemmas.Option.{same_Some}
 use Rattle.cf_audit.specs.declared.CutReason.{CutReason}
@@ -12,11 +12,11 @@ use Rattle.cf_outq.specs.SendQueue.{IsQueueOf, Queue}
 use Rattle.cf_outside.specs.Desk.{DeskValue}
 use Rattle.cf_policy.specs.declared.Asset.{Asset}
 use Rattle.cf_policy.specs.declared.Protocol.{Protocol}
-use Rattle.cf_stream.specs.Stream.{Stream, letter_count}
+use Rattle.cf_stream.specs.Stream.{Stream}
 use Rattle.cf_view.specs.declared.Endpoint.{Endpoint}
 use Rattle.cf_view.specs.declared.Side.{Side}
 use Rattle.cf_view.specs.declared.Side.TheVariants as side
-use Rattle.cf_session.proofs.Fed.{bytes_of-append}
+use Rattle.cf_session.proofs.Fed.{bytes_of-append, some_letters}
 use Rattle.cf_session.proofs.NewLane.{knows_on}
 use Rattle.cf_session.proofs.Telling.{told_lines}
 use Rattle.cf_session.specs.Parts.{IsLaneAfter}
@@ -25,9 +25,6 @@ use Rattle.cf_session.specs.Turn.{AreUncut, FollowsMore}
 use Rattle.cf_session.specs.Work.{Work, fed_at, work_by}
 
 -- ---- histories
-
-pub some_letters : (b : ℕ) (bytes : List ℕ) (ended : Bool) → (letter_count (record { bytes = b ∷ bytes; ended = ended }) == 0) ≡ false
-some_letters b bytes ended = grind arith
 
 nothing_in : (s t : Side) (m : ℕ) → bytes_in t (bytes_at m s []) ≡ []
 nothing_in side.Client side.Client m = refl

@@ -1,5 +1,5 @@
 -- Letters that were handed to the lane, where the desk failed amid their lines.
-use Rattle.std.proofs.Common.{◌≡◌, ℕ, Bool, true, false, cond, List, [], ◌∷◌, ◌++◌, length, take, drop, Some, refl, sym, ap, ◌∙◌, subst, append_assoc, inl, inr, take-append-drop}
+use Rattle.std.proofs.Common.{◌≡◌, ℕ, Bool, true, false, cond, List, [], ◌∷◌, ◌++◌, length, take, drop, Some, refl, sym, ap, ◌∙◌, subst, append_assoc, inr, take-append-drop}
 use Rattle.std.specs.List.{concat}
 use Rattle.std.proofs.lemmas.List.{append-nil}
 use Rattle.std.proofs.lemmas.List.Folds.{concat-append}
@@ -17,9 +17,8 @@ use Rattle.cf_view.specs.Octets.{IsOctets}
 use Rattle.cf_view.specs.declared.Endpoint.{Endpoint}
 use Rattle.cf_view.specs.declared.Side.{Side}
 use Rattle.std.proofs.Math.Seq.{drop-append_seam}
-use Rattle.cf_session.proofs.Amid.{amid_after, part_longer}
-use Rattle.cf_session.proofs.Lanes.{some_letters}
-use Rattle.cf_session.proofs.Telling.{told_lines}
+use Rattle.cf_session.proofs.Amid.{amid_after, amid_put, part_longer}
+use Rattle.cf_session.proofs.Fed.{some_letters}
 use Rattle.cf_outside.specs.Frames.{EmitsAndLogs}
 use Rattle.cf_session.specs.Broken.{IsPartOf}
 use Rattle.cf_session.specs.Told.{told, with_both}
@@ -46,18 +45,8 @@ module _ (asset : Asset) (client : Endpoint) (now : ℕ) (s : Side) (h : List El
         works = record { judged = ks; are_judged = are; is_work = refl };
         lines = more ++ (missing ++ behind);
         log_is = goes ∙ ap (λ xs. xs ++ behind) split ∙ append_assoc (w.log ++ more) missing behind ∙ append_assoc w.log more (missing ++ behind);
-        amid = record {
-          gone = [];
-          left = [];
-          are_sent = refl;
-          put = more;
-          missing = missing ++ behind;
-          are_lines = refl;
-          is_told = told_lines d0 d1 more packets added;
-          packet_part = inl packet_part;
-          line_part = subst (λ xs. IsPartOf xs d0.line_part d1.line_part) (sym (concat-append missing behind))
-              (part_longer (concat missing) (concat behind) d0.line_part d1.line_part (inr (some, of_part)));
-        };
+        amid = amid_put more (missing ++ behind) d0 d1 refl packets packet_part added
+            (subst (λ xs. IsPartOf xs d0.line_part d1.line_part) (sym (concat-append missing behind)) (part_longer (concat missing) (concat behind) d0.line_part d1.line_part (inr (some, of_part))));
       }
 
 module _ (nothing : NothingTaken) (join : JudgedJoin) (asset : Asset) (client : ℕ) (now : ℕ) (s : Side) (h : List Element) where

@@ -37,33 +37,6 @@ answer_table true true false = refl
 answer_gives : (r : Role) (es : List LegEvent) (e : LegEvent) → is_no_answer (clock_answer r es e) ≡ gives_up r es e
 answer_gives r es e = answer_table (fires r es e) _ _
 
--- what a clock call did
-record Ticked (ends : Ends) (new : LegValue) (q : Queue) (es : List LegEvent) (now : ℕ) (before after : Option (List SentValue)) : Type 0 where
-  pub stands : IsLegBetween ends new q (clocked now (fired_at ends es (clocked now [])) ∷ es)
-  pub right : IsRight ends es (clocked now (fired_at ends es (clocked now [])))
-  pub packets : after ≡ with_segments before now (fired_at ends es (clocked now []))
-
-ticked_own : (leg new : LegValue) (q : Queue) (given : ClockAnswer) (es : List LegEvent) (now : ℕ) (b a : Option (List SentValue)) → Clocked now leg new q given b a → new.ends ≡ leg.ends → IsLegOf leg (marks q) es → is_settled es ≡ true → IsQueueOf q (stream_after es) →
-    Ticked leg.ends new q es now b a
-ticked_own leg new q given es now b a h same stands settled queue =
-    let s = h.stands es settled stands queue in
-    let right : IsRight leg.ends es (clocked now h.outs) = subst (λ n. IsRight n es (clocked now h.outs)) same s.of_right.0 in
-    let e : h.outs ≡ fired_at leg.ends es (clocked now []) = right.fired in
-    record {
-      stands = record { is = same; stands = subst (λ o. IsLegOf new (marks q) (clocked now o ∷ es)) e s };
-      right = subst (λ o. IsRight leg.ends es (clocked now o)) e right;
-      packets = h.packets ∙ ap (with_segments b now) e;
-    }
-
-ticked_of : (ends : Ends) (leg new : LegValue) (q : Queue) (given : ClockAnswer) (es : List LegEvent) (now : ℕ) (b a : Option (List SentValue)) → Clocked now leg new q given b a → new.ends ≡ leg.ends → IsLegBetween ends leg q es → is_settled es ≡ true → IsQueueOf q (stream_after es) →
-    Ticked ends new q es now b a
-ticked_of ends leg new q given es now b a h same s settled queue = subst (λ n. Ticked n new q es now b a) s.is (ticked_own leg new q given es now b a h same s.stands settled queue)
-
-gives_up_is : (ends : Ends) (leg new : LegValue) (q : Queue) (given : ClockAnswer) (es : List LegEvent) (now : ℕ) (b a : Option (List SentValue)) → Clocked now leg new q given b a → IsLegBetween ends leg q es → is_settled es ≡ true → IsQueueOf q (stream_after es) →
-    is_no_answer given ≡ gives_up ends.role es (clocked now [])
-gives_up_is ends leg new q given es now b a h s settled queue =
-    ap is_no_answer (h.answer es settled s.stands queue) ∙ ap (λ (n : Ends). is_no_answer (clock_answer n.role es (clocked now h.outs))) s.is ∙ answer_gives ends.role es (clocked now h.outs)
-
 -- what a clock call of a leg answers, what it tells, and what stands after it
 pub record TickedAs (ends : Ends) (es : List LegEvent) (now : ℕ) (given : ClockAnswer) (new : LegValue) (q : Queue) (old after : Told) : Type 0 where
   pub answer : is_no_answer given ≡ gives_up ends.role es (clocked now [])
@@ -75,12 +48,15 @@ pub ticked_as : {leg new : LegValue} {q q' : Queue} {given : ClockAnswer} {es : 
     IsLegBetween ends leg q es → is_settled es ≡ true → IsQueueOf q whole → stream_after es ≡ whole → TickedAs ends es now given new q' t0 t1
 ticked_as {leg} {new} {q} {q'} {given} {es} {now} {whole} ends t0 t1 h same kept lines stands settled queue said =
     let own = subst (IsQueueOf q) (sym said) queue in
-    let a = ticked_of ends leg new q given es now t0.packets t1.packets h same stands settled own in
+    let s = h.stands es settled stands.stands own in
+    let right : IsRight ends es (clocked now h.outs) = subst (λ n. IsRight n es (clocked now h.outs)) (same ∙ stands.is) s.of_right.0 in
+    let e : h.outs ≡ fired_at ends es (clocked now []) = right.fired in
     record {
-      answer = gives_up_is ends leg new q given es now t0.packets t1.packets h stands settled own;
-      right = a.right;
-      told = told_by t0 t1 now (fired_at ends es (clocked now [])) a.packets lines;
-      stands = subst (λ x. IsLegBetween ends new x (clocked now (fired_at ends es (clocked now [])) ∷ es)) (sym kept) a.stands;
+      answer = ap is_no_answer (h.answer es settled stands.stands own) ∙ ap (λ (n : Ends). is_no_answer (clock_answer n.role es (clocked now h.outs))) stands.is
+          ∙ answer_gives ends.role es (clocked now h.outs);
+      right = subst (λ o. IsRight ends es (clocked now o)) e right;
+      told = told_by t0 t1 now _ (h.packets ∙ ap (with_segments t0.packets now) e) lines;
+      stands = record { is = same ∙ stands.is; stands = subst (λ x. IsLegOf new (marks x) (clocked now (fired_at ends es (clocked now [])) ∷ es)) (sym kept) (subst (λ o. IsLegOf new (marks q) (clocked now o ∷ es)) e s) };
     }
 
 -- ---- a speech

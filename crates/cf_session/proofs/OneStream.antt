@@ -1,8 +1,8 @@
 -- One stream towards each side of a session.
-use Rattle.std.proofs.Common.{◌≡◌, ℕ, zero, suc, Bool, true, false, ◌&&◌, ◌||◌, inl, inr, List, [], ◌∷◌, ◌++◌, map, Option, Some, None, refl, sym, ap, ◌∙◌, subst, arith}
+use Rattle.std.proofs.Common.{◌≡◌, ℕ, zero, suc, Bool, true, false, ◌&&◌, ◌||◌, ◌⊎◌, inl, inr, List, [], ◌∷◌, ◌++◌, map, Option, Some, None, refl, sym, ap, ◌∙◌, subst, arith}
 use Rattle.std.specs.Prelude.{slice_get}
 use Rattle.std.specs.List.{list_any}
-use Rattle.std.proofs.lemmas.Bool.{cases_Bool, false≢true, true≢false}
+use Rattle.std.proofs.lemmas.Bool.{false≢true, or_cases, or_left, or_right}
 use Rattle.std.proofs.lemmas.List.{append-nil, map-append}
 use Rattle.std.proofs.lemmas.List.Folds.{list_any-append}
 use Rattle.std.proofs.lemmas.Option.{same_Some}
@@ -30,8 +30,9 @@ use Rattle.cf_view.specs.declared.Side.TheVariants as side
 use Rattle.cf_session.proofs.Fed.{other_bytes}
 use Rattle.cf_session.specs.Event.{AreEvents, EndsPacket, EndsTick, IsEvent}
 use Rattle.cf_session.specs.Laws.{IsFront, IsReassembly, Part, parts_in, parts_of}
-use Rattle.cf_session.specs.Session.{Flow, SessionEvent, client_of, clients, controllers, history, work_of}
-use Rattle.cf_session.specs.Work.{Work, Works, fed_at, no_work, work_by}
+use Rattle.cf_session.specs.Session.{Flow, SessionEvent, client_of, history, work_of}
+use Rattle.cf_session.specs.Turn.{leg_in}
+use Rattle.cf_session.specs.Work.{Work, Works, fed_at, no_work}
 
 -- ---- an End among the items is one of the history
 
@@ -59,27 +60,15 @@ completed_end p s earlier e items c h =
     ∙ list_any-append (is_end s) (map (placed e.moment) (map (Took e.side) c.more)) (map (placed e.moment) (last_after c.was e.side e.letters.ended c.tail))
     ∙ ap (λ b. b || list_any (is_end s) (map (placed e.moment) (last_after c.was e.side e.letters.ended c.tail))) (took_none s e.side e.moment c.more)) ∙ h)
 
-pub or_true : (a b : Bool) → (a ≡ true) → (a || b) ≡ true
-or_true true b e = refl
-or_true false b e = absurd (false≢true e)
-
-or_right : (a b : Bool) → (b ≡ true) → (a || b) ≡ true
-or_right true b e = refl
-or_right false b e = e
-
-or_else : (a b : Bool) → (a || b) ≡ true → a ≡ false → b ≡ true
-or_else true b e f = absurd (true≢false f)
-or_else false b e f = e
-
 items_end : (p : Protocol) (s : Side) (earlier later : List Element) (items : List Placed) → AreItems p earlier later items → list_any (is_end s) items ≡ true → ended_of s later ≡ true
 items_end p s earlier [] items are h = absurd (false≢true (sym (ap (list_any (is_end s)) are) ∙ h))
 items_end p s earlier (e ∷ later) items are h =
     let now = are.0 in
     let next = are.1 in
     let split : (list_any (is_end s) now || list_any (is_end s) next) ≡ true = sym (list_any-append (is_end s) now next) ∙ sym (ap (list_any (is_end s)) are.4) ∙ h in
-    elim (cases_Bool (list_any (is_end s) now)) [
-      | inl a ↦ or_true (is_side s e.side && e.letters.ended) (ended_of s later) (completed_end p s earlier e now are.2 a)
-      | inr a ↦ or_right (is_side s e.side && e.letters.ended) (ended_of s later) (items_end p s (earlier ++ e ∷ []) later next are.3 (or_else (list_any (is_end s) now) (list_any (is_end s) next) split a))
+    elim (or_cases (list_any (is_end s) now) (list_any (is_end s) next) split) [
+      | inl a ↦ or_left (is_side s e.side && e.letters.ended) (ended_of s later) (completed_end p s earlier e now are.2 a)
+      | inr a ↦ or_right (is_side s e.side && e.letters.ended) (ended_of s later) (items_end p s (earlier ++ e ∷ []) later next are.3 a)
     ]
 
 placed_end : (s : Side) (js : List Judged) → list_any (is_end s) (map place_of js) ≡ has_ended s js
@@ -90,7 +79,7 @@ judged_end : (asset : Asset) (client : ℕ) (s : Side) (h : List Element) (js : 
 judged_end asset client s h js a e =
     items_end asset.protocol s [] h a.items a.are_items
     (ap (list_any (is_end s)) a.are_first ∙ list_any-append (is_end s) (map place_of js) a.dropped
-    ∙ or_true (list_any (is_end s) (map place_of js)) (list_any (is_end s) a.dropped) (placed_end s js ∙ e))
+    ∙ or_left (list_any (is_end s) (map place_of js)) (list_any (is_end s) a.dropped) (placed_end s js ∙ e))
 
 -- ---- the streams of the lane go on
 
@@ -98,10 +87,8 @@ works_none : (asset : Asset) (client : Endpoint) → Works asset client [] no_wo
 works_none asset client = record { judged = []; are_judged = record { items = []; are_items = refl; dropped = []; are_first = refl; goes_on = refl; fates = tt }; is_work = refl }
 
 works_one : (f : Flow) (limit : ℕ) (es : List SessionEvent) (e : SessionEvent) → IsEvent f limit es e → Works f.asset (client_of f) (history es) (work_of es) → Works f.asset (client_of f) (history (e ∷ es)) e.work
-works_one f limit [] e h w = subst (λ x. Works f.asset (client_of f) ([] ++ x) e.work) (sym h.fed) (subst (Works f.asset (client_of f) []) (sym h.work) w)
-works_one f limit (d ∷ es) e (inl h) w =
-    subst (λ x. Works f.asset (client_of f) (history (d ∷ es) ++ x) e.work) (sym h.fed)
-    (subst (λ x. Works f.asset (client_of f) x e.work) (sym (append-nil (history (d ∷ es)))) (subst (Works f.asset (client_of f) (history (d ∷ es))) (sym h.work) w))
+works_one f limit [] e h w = rw (h.fed, h.work) w
+works_one f limit (d ∷ es) e (inl h) w = rw (h.fed, append-nil (history (d ∷ es)), h.work) w
 works_one f limit (d ∷ es) e (inr h) w = h.5.work
 
 pub works_of : (f : Flow) (limit : ℕ) (es : List SessionEvent) → AreEvents f limit es → Works f.asset (client_of f) (history es) (work_of es)
@@ -124,6 +111,15 @@ outputs_on : (asset : Asset) (client : Endpoint) (to : Side) (js ks : List Judge
 outputs_on asset client side.Client js ks g = g.to_client
 outputs_on asset client side.Controller js ks g = g.to_controller
 
+-- the lane's stream to a side
+abbrev pub stream_of : Side → Work → Stream
+stream_of side.Client w = w.to_client
+stream_of side.Controller w = w.to_controller
+
+is_stream : (to : Side) (asset : Asset) (client : Endpoint) {h : List Element} (w : Work) (a : Works asset client h w) → stream_of to w ≡ stream_to asset to a.judged
+is_stream side.Client asset client w a = ap (λ (x : Work). x.to_client) a.is_work
+is_stream side.Controller asset client w a = ap (λ (x : Work). x.to_controller) a.is_work
+
 module _ (go : StreamsGoOn) (quiet : QuietBehindEnd) (f : Flow) (limit : ℕ) where
   judged_extend : (es : List SessionEvent) (e : SessionEvent) (to : Side) → AreEvents f limit (e ∷ es) → (a : Works f.asset (client_of f) (history es) (work_of es)) → (b : Works f.asset (client_of f) (history (e ∷ es)) e.work) →
       Extends (stream_to f.asset to a.judged) (stream_to f.asset to b.judged)
@@ -137,63 +133,50 @@ module _ (go : StreamsGoOn) (quiet : QuietBehindEnd) (f : Flow) (limit : ℕ) wh
             let none = quiet f.asset (client_of f).address (history es) e.fed a.judged g.ms to a.are_judged (subst (AreJudged f.asset (client_of f).address (history (e ∷ es))) g.all b.are_judged) d still in
             same_stream (stream_to f.asset to b.judged) (stream_to f.asset to a.judged)
             (outputs_on f.asset (client_of f) to a.judged b.judged g ∙ ap (λ xs. outputs f.asset to [] a.judged ++ xs) none ∙ append-nil (outputs f.asset to [] a.judged))
-            (ap (has_ended (other to)) g.all ∙ list_any-append (λ j. ends (other to) j.item) a.judged g.ms ∙ or_true (has_ended (other to) a.judged) (has_ended (other to) g.ms) d ∙ sym d));
+            (ap (has_ended (other to)) g.all ∙ list_any-append (λ j. ends (other to) j.item) a.judged g.ms ∙ or_left (has_ended (other to) a.judged) (has_ended (other to) g.ms) d ∙ sym d));
       }
 
-  work_on : (to : Side) (stream : Work → Stream) → ((asset : Asset) (client : Endpoint) (js : List Judged) → stream (work_by asset client js) ≡ stream_to asset to js) →
-      (es : List SessionEvent) (e : SessionEvent) → AreEvents f limit (e ∷ es) → Extends (stream (work_of es)) (stream e.work)
-  work_on to stream is es e are =
+  work_on : (to : Side) (es : List SessionEvent) (e : SessionEvent) → AreEvents f limit (e ∷ es) → Extends (stream_of to (work_of es)) (stream_of to e.work)
+  work_on to es e are =
       let a = works_of f limit es are.1 in
       let b = works_of f limit (e ∷ es) are in
-      subst (λ (x : Stream). Extends x (stream e.work)) (sym (ap stream a.is_work ∙ is f.asset (client_of f) a.judged))
-      (subst (λ (x : Stream). Extends (stream_to f.asset to a.judged) x) (sym (ap stream b.is_work ∙ is f.asset (client_of f) b.judged)) (judged_extend es e to are a b))
+      subst (λ (x : Stream). Extends x (stream_of to e.work)) (sym (is_stream to f.asset (client_of f) (work_of es) a))
+      (subst (λ (x : Stream). Extends (stream_to f.asset to a.judged) x) (sym (is_stream to f.asset (client_of f) e.work b)) (judged_extend es e to are a b))
 
 -- ---- what a leg was to say
-
--- the ending says the stream, or leaves what was said
-record Says (before whole : Stream) (x : Ending) : Type 0 where
-  grows : Extends before (stream_at x before)
-  on : Extends (stream_at x before) whole
-
-says_still : (before whole : Stream) (x : Ending) → stream_at x before ≡ before → Extends before whole → Says before whole x
-says_still before whole x e h = record { grows = subst (Extends before) (sym e) (extends_none before); on = subst (λ w. Extends w whole) (sym e) h }
 
 pub tick_still : (before : Stream) (c : Option CutReason) (x : Ending) → EndsTick c x → stream_at x before ≡ before
 tick_still before None x h = ap (λ y. stream_at y before) h
 tick_still before (Some r) x h = ap (λ y. stream_at y before) h.1
 
-packet_says : (before whole : Stream) (roomy : Bool) (c : Option CutReason) (x : Ending) → Extends before whole → EndsPacket c whole roomy x → Says before whole x
-packet_says before whole roomy None x e h = subst (Says before whole) (sym h.1) (record { grows = e; on = extends_none whole })
-packet_says before whole roomy (Some r) x e h = says_still before whole x (ap (λ y. stream_at y before) h.1) e
+packet_says : (before w : Stream) (roomy : Bool) (c : Option CutReason) (x : Ending) → EndsPacket c w roomy x → (stream_at x before ≡ before) ⊎ ((c ≡ None) × (stream_at x before ≡ w))
+packet_says before w roomy None x h = inr (refl, ap (λ y. stream_at y before) h.1)
+packet_says before w roomy (Some r) x h = inl (ap (λ y. stream_at y before) h.1)
 
-controller_says : (f : Flow) (limit : ℕ) (es : List SessionEvent) (e : SessionEvent) → IsEvent f limit es e → Extends (stream_after (controllers es)) e.work.to_controller → Says (stream_after (controllers es)) e.work.to_controller e.controller.ending
-controller_says f limit [] e h x = subst (λ (l : LegEvent). Says no_letters e.work.to_controller l.ending) (sym h.controller) (record { grows = extends_none no_letters; on = x })
-controller_says f limit (d ∷ es) e (inl h) x = says_still _ _ e.controller.ending (tick_still _ e.cut e.controller.ending h.controller_ending) x
-controller_says f limit (d ∷ es) e (inr h) x = packet_says _ _ _ e.cut e.controller.ending x h.5.controller_ending
-
-client_says : (f : Flow) (limit : ℕ) (es : List SessionEvent) (e : SessionEvent) → IsEvent f limit es e → Extends (stream_after (clients es)) e.work.to_client → Says (stream_after (clients es)) e.work.to_client e.client.ending
-client_says f limit [] e h x = says_still no_letters e.work.to_client e.client.ending (ap (λ (l : LegEvent). stream_at l.ending no_letters) h.client) x
-client_says f limit (d ∷ es) e (inl h) x = says_still _ _ e.client.ending (tick_still _ e.cut e.client.ending h.client_ending) x
-client_says f limit (d ∷ es) e (inr h) x = packet_says _ _ _ e.cut e.client.ending x h.5.client_ending
+-- a leg was to say what it was before, or, where nothing cut, the lane's stream to its peer
+pub leg_says : (f : Flow) (limit : ℕ) (es : List SessionEvent) (e : SessionEvent) (s : Side) → IsEvent f limit es e →
+    (stream_after (map (leg_in s) (e ∷ es)) ≡ stream_after (map (leg_in s) es)) ⊎ ((e.cut ≡ None) × (stream_after (map (leg_in s) (e ∷ es)) ≡ stream_of s e.work))
+leg_says f limit [] e side.Client h = inl (ap (λ (l : LegEvent). stream_at l.ending no_letters) h.client)
+leg_says f limit [] e side.Controller h = inl (ap (λ (l : LegEvent). stream_at l.ending no_letters) h.controller)
+leg_says f limit (d ∷ es) e side.Client (inl h) = inl (tick_still _ e.cut e.client.ending h.client_ending)
+leg_says f limit (d ∷ es) e side.Controller (inl h) = inl (tick_still _ e.cut e.controller.ending h.controller_ending)
+leg_says f limit (d ∷ es) e side.Client (inr h) = packet_says _ _ _ e.cut e.client.ending h.5.client_ending
+leg_says f limit (d ∷ es) e side.Controller (inr h) = packet_says _ _ _ e.cut e.controller.ending h.5.controller_ending
 
 pub record Grown (es : List LegEvent) (whole : Stream) : Type 0 where
   pub grows : Grows es
   pub on : Extends (stream_after es) whole
 
-module _ (go : StreamsGoOn) (quiet : QuietBehindEnd) (f : Flow) (limit : ℕ) where
-  pub controller_grown : (es : List SessionEvent) → AreEvents f limit es → Grown (controllers es) (work_of es).to_controller
-  controller_grown [] h = record { grows = tt; on = extends_none no_letters }
-  controller_grown (e ∷ es) h =
-      let g = controller_grown es h.1 in
-      let s = controller_says f limit es e h.0 (extends_both _ _ _ g.on (work_on go quiet f limit side.Controller (λ w. w.to_controller) (λ a c js. refl) es e h)) in
-      record { grows = (s.grows, g.grows); on = s.on }
-
-  pub client_grown : (es : List SessionEvent) → AreEvents f limit es → Grown (clients es) (work_of es).to_client
-  client_grown [] h = record { grows = tt; on = extends_none no_letters }
-  client_grown (e ∷ es) h =
-      let g = client_grown es h.1 in
-      let s = client_says f limit es e h.0 (extends_both _ _ _ g.on (work_on go quiet f limit side.Client (λ w. w.to_client) (λ a c js. refl) es e h)) in
-      record { grows = (s.grows, g.grows); on = s.on }
+pub grown : (go : StreamsGoOn) (quiet : QuietBehindEnd) (f : Flow) (limit : ℕ) (s : Side) (es : List SessionEvent) → AreEvents f limit es → Grown (map (leg_in s) es) (stream_of s (work_of es))
+grown go quiet f limit side.Client [] h = record { grows = tt; on = extends_none no_letters }
+grown go quiet f limit side.Controller [] h = record { grows = tt; on = extends_none no_letters }
+grown go quiet f limit s (e ∷ es) h =
+    let g = grown go quiet f limit s es h.1 in
+    let on = extends_both _ _ _ g.on (work_on go quiet f limit s es e h) in
+    elim (leg_says f limit es e s h.0) [
+      | inl same ↦ record { grows = (subst (Extends _) (sym same) (extends_none _), g.grows); on = subst (λ x. Extends x (stream_of s e.work)) (sym same) on }
+      | inr said ↦ record { grows = (subst (Extends _) (sym said.1) on, g.grows); on = subst (λ x. Extends x (stream_of s e.work)) (sym said.1) (extends_none _) }
+    ]
 
 -- ---- parts
 

@@ -1,6 +1,6 @@
 -- A session is sound after a packet that did not cut it.
 use Rattle.std.proofs.lemmas.Option.{none-some}
-use Rattle.std.proofs.Common.{◌≡◌, ◌≢◌, ℕ, Bool, true, false, cond, ◌&&◌, Option, Some, None, refl, sym, ap, ◌∙◌, subst, arith}
+use Rattle.std.proofs.Common.{◌≡◌, ◌≢◌, ℕ, Bool, true, false, cond, Option, Some, None, refl, sym, ap, ◌∙◌, subst, arith}
 use Rattle.std.specs.Option.{is_some, option_or}
 use Rattle.std.proofs.lemmas.Bool.{true≢false, and_parts}
 use Rattle.cf_audit.specs.declared.CutReason.{CutReason}
@@ -12,7 +12,6 @@ use Rattle.cf_policy.specs.Within.{IsAssetWithin}
 use Rattle.cf_policy.specs.declared.Asset.{Asset}
 use Rattle.cf_rebuild.specs.ReceiveWindow.{Window, base_of}
 use Rattle.cf_view.specs.declared.Side.{Side}
-use Rattle.cf_view.specs.declared.Side.TheVariants as side
 use Rattle.cf_session.proofs.Heards.{full_of}
 use Rattle.cf_session.specs.Cuts.{cut_by, is_reset}
 use Rattle.cf_session.specs.Parts.{SessionValue}
@@ -25,30 +24,21 @@ some_closed o e n = true≢false (sym e ∙ ap is_some n)
 -- what the code asks is why the session is cut
 pub reason_is : {x y : SessionValue} {closed reset : Bool} {full why : Option CutReason} (s : Side) (given : LegAnswer) (cut : Option CutReason) →
     x ≡ y → closed ≡ is_some x.closed → reset ≡ is_reset given → full ≡ full_of y → why ≡ cut_by closed reset s cut full → why ≡ cut_by (is_some y.closed) (is_reset given) s cut (full_of y)
-reason_is {x} {y} {closed} {reset} {full} s given cut same c r l asked =
-    asked
-    ∙ ap (λ b. cut_by b reset s cut full) (c ∙ ap (λ (z : SessionValue). is_some z.closed) same)
-    ∙ ap (λ b. cut_by (is_some y.closed) b s cut full) r
-    ∙ ap (λ o. cut_by (is_some y.closed) (is_reset given) s cut o) l
+reason_is s given cut same c r l asked = rw (c, r, l, same) at asked
 
--- where nothing cuts, the lane did not
-lane_none : (closed reset : Bool) (s : Side) (cut full : Option CutReason) → None ≡ cut_by closed reset s cut full → (closed ≡ true → cut ≡ None) → cut ≡ None
-lane_none true reset s cut full e done = done refl
-lane_none false true side.Client cut full e done = absurd (none-some _ e)
-lane_none false true side.Controller cut full e done = absurd (none-some _ e)
-lane_none false false s None full e done = refl
-lane_none false false s (Some r) full e done = absurd (none-some r e)
+-- where nothing cuts, the lane did not, and in a session that is not closed no stream is full
+uncut_by : (closed reset : Bool) (s : Side) (cut full : Option CutReason) → None ≡ cut_by closed reset s cut full → (closed ≡ true → cut ≡ None) → (cut ≡ None) × (closed ≡ false → full ≡ None)
+uncut_by true reset s cut full e done = (done refl, λ c. absurd (true≢false c))
+uncut_by false true s cut full e done = absurd (none-some _ e)
+uncut_by false false s None full e done = (refl, λ c. sym e)
+uncut_by false false s (Some r) full e done = absurd (none-some r e)
+
+uncut_at : (s : Side) (given : LegAnswer) (cut : Option CutReason) (x : SessionValue) → IsSteady x cut → None ≡ cut_by (is_some x.closed) (is_reset given) s cut (full_of x) →
+    (cut ≡ None) × (is_some x.closed ≡ false → full_of x ≡ None)
+uncut_at s given cut x steady because = uncut_by (is_some x.closed) (is_reset given) s cut (full_of x) because (λ b. steady.uncut (some_closed x.closed b))
 
 pub lane_uncut : (s : Side) (given : LegAnswer) (cut : Option CutReason) (x : SessionValue) → IsSteady x cut → None ≡ cut_by (is_some x.closed) (is_reset given) s cut (full_of x) → cut ≡ None
-lane_uncut s given cut x steady because = lane_none (is_some x.closed) (is_reset given) s cut (full_of x) because (λ b. steady.uncut (some_closed x.closed b))
-
--- and no stream is full
-full_none : (closed reset : Bool) (s : Side) (cut full : Option CutReason) → None ≡ cut_by closed reset s cut full → closed ≡ false → full ≡ None
-full_none true reset s cut full e c = absurd (true≢false c)
-full_none false true side.Client cut full e c = absurd (none-some _ e)
-full_none false true side.Controller cut full e c = absurd (none-some _ e)
-full_none false false s None full e c = sym e
-full_none false false s (Some r) full e c = absurd (none-some r e)
+lane_uncut s given cut x steady because = (uncut_at s given cut x steady because).0
 
 short_by : (s : SessionValue) (cut : Option CutReason) (o : Option ℕ) → s.closed ≡ o → IsSteady s cut → (is_some o ≡ false → full_of s ≡ None) → IsShort s
 short_by s cut None e h full =
@@ -57,7 +47,7 @@ short_by s cut None e h full =
 short_by s cut (Some m) e h full = h.short (some_closed s.closed (ap is_some e))
 
 pub is_short : (s : Side) (given : LegAnswer) (cut : Option CutReason) (x : SessionValue) → IsSteady x cut → None ≡ cut_by (is_some x.closed) (is_reset given) s cut (full_of x) → IsShort x
-is_short s given cut x steady because = short_by x cut x.closed refl steady (full_none (is_some x.closed) (is_reset given) s cut (full_of x) because)
+is_short s given cut x steady because = short_by x cut x.closed refl steady (uncut_at s given cut x steady because).1
 
 short_on : (s1 s2 : SessionValue) → OnlySpeaks s1 s2 → IsShort s1 → IsShort s2
 short_on s1 s2 o h =

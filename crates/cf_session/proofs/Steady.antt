@@ -17,18 +17,11 @@ small_base false consumed pending h = omega (arith, h)
 pub few_open : (w : Window) → length w.pending < 300 → w.edge ≤ base_of w + 16384 → open_places w ≤ 16684
 few_open w few near = (let b = small_base w.ended w.consumed (length w.pending) few in omega (arith, b, near))
 
--- with both edges moved there is room again
-room_again : (kept debt a b : ℕ) → kept ≤ 16384 → debt ≤ 5300 → a ≤ 16684 → b ≤ 16684 → kept + debt + 2 * (a + b) ≤ 90112
-room_again kept debt a b h g i j = omega (arith, h, g, i, j)
-
--- the room after a speech of the client's end, whether the edge moved or not
-pub room_after : (roomy : Bool) (kept debt a a' b : ℕ) → kept + debt + 2 * (a + b) ≤ 90112 → debt ≤ 5300 → (roomy ≡ true → kept ≤ 16384) → a' ≤ 16684 → (roomy ≡ false → a' ≡ a) → b ≤ 16684 → kept + debt + 2 * (a' + b) ≤ 90112
-room_after true kept debt a a' b room few short x same y = room_again kept debt a' b (short refl) few x y
-room_after false kept debt a a' b room few short x same y = rw (same refl) room
-
-room_with : (roomy : Bool) (kept debt a b b' : ℕ) → kept + debt + 2 * (a + b) ≤ 90112 → debt ≤ 5300 → (roomy ≡ true → kept ≤ 16384) → a ≤ 16684 → b' ≤ 16684 → (roomy ≡ false → b' ≡ b) → kept + debt + 2 * (a + b') ≤ 90112
-room_with true kept debt a b b' room few short x y same = room_again kept debt a b' (short refl) few x y
-room_with false kept debt a b b' room few short x y same = rw (same refl) room
+-- the room after a speech: where both edges may move, little is kept
+room_by : (roomy : Bool) (kept kept' debt a a' b b' : ℕ) → kept + debt + 2 * (a + b) ≤ 90112 → debt ≤ 5300 → (roomy ≡ true → kept ≤ 16384) → kept' ≡ kept → a' ≤ 16684 → b' ≤ 16684 → (roomy ≡ false → a' ≡ a) → (roomy ≡ false → b' ≡ b) →
+    kept' + debt + 2 * (a' + b') ≤ 90112
+room_by true kept kept' debt a a' b b' room few short k x y same other = (let s = short refl in omega (arith, few, s, k, x, y))
+room_by false kept kept' debt a a' b b' room few short k x y same other = rw (k, same refl, other refl) room
 
 -- what a speech leaves of a window with few bytes pending
 record Widened (roomy : Bool) (old new : Window) : Type 0 where
@@ -67,89 +60,52 @@ said old new sent = record {
   ended = ap (λ (x : Queue). x.ended) sent;
 }
 
--- the same after a speech of the controller's end
-module _ (s : SessionValue) (n : LegValue) (q : Queue) (roomy : Bool) (h : IsSteady s None) (w : Widens roomy s.controller.window n.window) (sent : q ≡ record s.to_controller { sent = q.sent })
-    (few_c : roomy ≡ true → length s.to_client.kept ≤ 16384) (few_k : roomy ≡ true → length s.to_controller.kept ≤ 16384) (near : s.client.window.edge ≤ base_of s.client.window + 16384) where
+-- a window that stays
+still : (roomy : Bool) (w : Window) → length w.pending < 300 → w.edge ≤ base_of w + 16384 → Widened roomy w w
+still roomy w rest near = record { base = refl; ended = refl; consumed = refl; rest = rest; few = few_open w rest near; shut = λ _. refl }
+
+-- after a speech of either end, or of both
+module _ {s : SessionValue} (roomy : Bool) (h : IsSteady s None) (n m : LegValue) (c k : Queue) (passive : IsPassive n.ends.role) (a : Widened roomy s.client.window n.window) (b : Widened roomy s.controller.window m.window)
+    (x : Said s.to_client c) (y : Said s.to_controller k) (few_c : roomy ≡ true → length s.to_client.kept ≤ 16384) (few_k : roomy ≡ true → length s.to_controller.kept ≤ 16384) where
   abbrev next : SessionValue
-  next = record s { controller = n; to_controller = q }
-
-  own : Widened roomy s.controller.window n.window
-  own = widened roomy s.controller.window n.window w (h.controller_rest refl)
-
-  queue : Said s.to_controller q
-  queue = said s.to_controller q sent
-
-  few_client : open_places s.client.window ≤ 16684
-  few_client = few_open s.client.window (h.client_rest refl) near
+  next = record s { client = n; controller = m; to_client = c; to_controller = k }
 
   short_now : IsShort s → IsShort next
-  short_now x = record {
-    client_letters = x.client_letters;
-    controller_letters = (let a = x.controller_letters in omega (arith, a, queue.letters));
-    client_taken = x.client_taken;
-    controller_taken = (let a = x.controller_taken in omega (arith, a, own.base));
+  short_now g = record {
+    client_letters = (let z = g.client_letters in omega (arith, z, x.letters));
+    controller_letters = (let z = g.controller_letters in omega (arith, z, y.letters));
+    client_taken = (let z = g.client_taken in omega (arith, z, a.base));
+    controller_taken = (let z = g.controller_taken in omega (arith, z, b.base));
   }
 
-  pub steady_first : IsSteady next None
-  steady_first = record {
-    passive = h.passive;
+  steady_by : IsSteady next None
+  steady_by = record {
+    passive = passive;
     limit = h.limit;
-    client_base = h.client_base;
-    controller_base = (let a = h.controller_base in omega (arith, a, own.base));
-    client_rest = h.client_rest;
-    controller_rest = λ _. own.rest;
-    client_open = λ e. queue.ended ∙ h.client_open e;
-    controller_open = λ e. h.controller_open (sym own.ended ∙ e);
-    client_done = h.client_done;
-    controller_done = λ e. own.ended ∙ h.controller_done e;
+    client_base = (let z = h.client_base in omega (arith, z, a.base));
+    controller_base = (let z = h.controller_base in omega (arith, z, b.base));
+    client_rest = λ _. a.rest;
+    controller_rest = λ _. b.rest;
+    client_open = λ e. y.ended ∙ h.client_open (sym a.ended ∙ e);
+    controller_open = λ e. x.ended ∙ h.controller_open (sym b.ended ∙ e);
+    client_done = λ e. a.ended ∙ h.client_done e;
+    controller_done = λ e. b.ended ∙ h.controller_done e;
     uncut = h.uncut;
     short = λ e. short_now (h.short e);
-    commands = (let a = h.commands in omega (arith, a, own.consumed));
+    commands = (let z = h.commands in omega (arith, z, a.consumed, b.consumed));
     owed = h.owed;
-    client_room = room_with roomy (length s.to_client.kept) (debt s.lane) (open_places s.client.window) (open_places s.controller.window) (open_places n.window) h.client_room h.owed few_c few_client own.few own.shut;
-    controller_room = subst (λ m. m + debt s.lane + 2 * (open_places s.client.window + open_places n.window) ≤ 90112) (sym queue.kept)
-        (room_with roomy (length s.to_controller.kept) (debt s.lane) (open_places s.client.window) (open_places s.controller.window) (open_places n.window) h.controller_room h.owed few_k few_client own.few own.shut);
+    client_room = room_by roomy (length s.to_client.kept) _ _ (open_places s.client.window) _ (open_places s.controller.window) _ h.client_room h.owed few_c x.kept a.few b.few a.shut b.shut;
+    controller_room = room_by roomy (length s.to_controller.kept) _ _ (open_places s.client.window) _ (open_places s.controller.window) _ h.controller_room h.owed few_k y.kept a.few b.few a.shut b.shut;
   }
 
-module _ (s : SessionValue) (n : LegValue) (q : Queue) (roomy : Bool) (h : IsSteady s None) (ends : n.ends ≡ s.client.ends) (w : Widens roomy s.client.window n.window) (sent : q ≡ record s.to_client { sent = q.sent })
-    (few_c : roomy ≡ true → length s.to_client.kept ≤ 16384) (few_k : roomy ≡ true → length s.to_controller.kept ≤ 16384) (near : s.controller.window.edge ≤ base_of s.controller.window + 16384) where
-  abbrev new : SessionValue
-  new = record s { client = n; to_client = q }
+-- of the controller's end
+pub steady_first : {s : SessionValue} (n : LegValue) (q : Queue) (roomy : Bool) → IsSteady s None → Widens roomy s.controller.window n.window → q ≡ record s.to_controller { sent = q.sent } →
+    (roomy ≡ true → length s.to_client.kept ≤ 16384) → (roomy ≡ true → length s.to_controller.kept ≤ 16384) → s.client.window.edge ≤ base_of s.client.window + 16384 → IsSteady (record s { controller = n; to_controller = q }) None
+steady_first {s} n q roomy h w sent few_c few_k near =
+    steady_by roomy h s.client n s.to_client q h.passive (still roomy _ (h.client_rest refl) near) (widened roomy _ _ w (h.controller_rest refl)) (said _ _ refl) (said _ _ sent) few_c few_k
 
-  own_client : Widened roomy s.client.window n.window
-  own_client = widened roomy s.client.window n.window w (h.client_rest refl)
-
-  queue_client : Said s.to_client q
-  queue_client = said s.to_client q sent
-
-  few_other : open_places s.controller.window ≤ 16684
-  few_other = few_open s.controller.window (h.controller_rest refl) near
-
-  short_on : IsShort s → IsShort new
-  short_on x = record {
-    client_letters = (let a = x.client_letters in omega (arith, a, queue_client.letters));
-    controller_letters = x.controller_letters;
-    client_taken = (let a = x.client_taken in omega (arith, a, own_client.base));
-    controller_taken = x.controller_taken;
-  }
-
-  pub steady_on : IsSteady new None
-  steady_on = record {
-    passive = subst (λ (x : _). IsPassive x.role) (sym ends) h.passive;
-    limit = h.limit;
-    client_base = (let a = h.client_base in omega (arith, a, own_client.base));
-    controller_base = h.controller_base;
-    client_rest = λ _. own_client.rest;
-    controller_rest = h.controller_rest;
-    client_open = λ e. h.client_open (sym own_client.ended ∙ e);
-    controller_open = λ e. queue_client.ended ∙ h.controller_open e;
-    client_done = λ e. own_client.ended ∙ h.client_done e;
-    controller_done = h.controller_done;
-    uncut = h.uncut;
-    short = λ e. short_on (h.short e);
-    commands = (let a = h.commands in omega (arith, a, own_client.consumed));
-    owed = h.owed;
-    client_room = subst (λ m. m + debt s.lane + 2 * (open_places n.window + open_places s.controller.window) ≤ 90112) (sym queue_client.kept)
-        (room_after roomy (length s.to_client.kept) (debt s.lane) (open_places s.client.window) (open_places n.window) (open_places s.controller.window) h.client_room h.owed few_c own_client.few own_client.shut few_other);
-    controller_room = room_after roomy (length s.to_controller.kept) (debt s.lane) (open_places s.client.window) (open_places n.window) (open_places s.controller.window) h.controller_room h.owed few_k own_client.few own_client.shut few_other;
-  }
+-- of the client's end
+pub steady_on : {s : SessionValue} (n : LegValue) (q : Queue) (roomy : Bool) → IsSteady s None → n.ends ≡ s.client.ends → Widens roomy s.client.window n.window → q ≡ record s.to_client { sent = q.sent } →
+    (roomy ≡ true → length s.to_client.kept ≤ 16384) → (roomy ≡ true → length s.to_controller.kept ≤ 16384) → s.controller.window.edge ≤ base_of s.controller.window + 16384 → IsSteady (record s { client = n; to_client = q }) None
+steady_on {s} n q roomy h ends w sent few_c few_k near =
+    steady_by roomy h n s.controller q s.to_controller (subst (λ (x : _). IsPassive x.role) (sym ends) h.passive) (widened roomy _ _ w (h.client_rest refl)) (still roomy _ (h.controller_rest refl) near) (said _ _ sent) (said _ _ refl) few_c few_k

@@ -21,14 +21,10 @@ more-none None = refl
 more-none (Some xs) = ap Some (sym (append-nil xs))
 
 pub both_both : (t : Told) (a b : List Sent) (x y : List (List ℕ)) → with_both (with_both t a x) b y ≡ with_both t (a ++ b) (x ++ y)
-both_both t a b x y =
-    ap (λ ps. let r : Told = record { packets = ps; lines = with_more (with_more t.lines x) y } in r) (more-more t.packets (map emitted a) (map emitted b) ∙ ap (with_more t.packets) (sym (map-append emitted a b)))
-    ∙ ap (λ ls. let r : Told = record { packets = with_more t.packets (map emitted (a ++ b)); lines = ls } in r) (more-more t.lines x y)
+both_both t a b x y = rw (more-more t.packets (map emitted a) (map emitted b), more-more t.lines x y, map-append emitted a b) refl
 
 pub both_nothing : (t : Told) → with_both t [] [] ≡ t
-both_nothing t =
-    ap (λ ps. let r : Told = record { packets = ps; lines = with_more t.lines [] } in r) (sym (more-none t.packets))
-    ∙ ap (λ ls. let r : Told = record { packets = t.packets; lines = ls } in r) (sym (more-none t.lines))
+both_nothing t = rw (← more-none t.packets, ← more-none t.lines) refl
 
 pub at-append : (now : ℕ) (ps qs : List PacketValue) → at now (ps ++ qs) ≡ at now ps ++ at now qs
 at-append now ps qs = map-append (λ p. let s : Sent = record { moment = now; packet = p } in s) ps qs
@@ -57,10 +53,7 @@ told_lines a b ls e d =
 
 -- a line about the client of an asset, which are those of a flow
 pub line_is : {asset : Asset} {client : Endpoint} {now moment : ℕ} (f : Flow) (what : WhatValue) → f.asset ≡ asset → client ≡ client_of f → now ≡ moment → line_about asset client now what ≡ line f moment what
-line_is {asset} {client} {now} {moment} f what is source at =
-    ap (λ (e : Endpoint). line_about asset e now what) source
-    ∙ ap (λ (a : Asset). line_about a (client_of f) now what) (sym is)
-    ∙ ap (λ n. line_about f.asset (client_of f) n what) at
+line_is f what is source at = rw (source, is, at) refl
 
 -- one call after another
 pub then_told : (t0 t1 t2 : Told) (a b : List Sent) (x y : List (List ℕ)) → t1 ≡ with_both t0 a x → t2 ≡ with_both t1 b y → t2 ≡ with_both t0 (a ++ b) (x ++ y)

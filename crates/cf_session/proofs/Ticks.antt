@@ -1,18 +1,18 @@
 -- The first half of an event of a session.
 use Rattle.std.proofs.Common.{◌≡◌, ℕ, ◌+◌, Bool, true, false, not, ◌&&◌, List, [], ◌∷◌, ◌++◌, cond, Option, Some, None, refl, sym, ap, ◌∙◌, subst, append_assoc, inl}
 use Rattle.std.specs.Prelude.{nat_lt}
-use Rattle.std.specs.Option.{is_some, option_or}
+use Rattle.std.specs.Option.{is_some}
 use Rattle.std.proofs.Math.Bool.{or-false}
 use Rattle.std.proofs.lemmas.Bool.{false≢true}
 use Rattle.std.proofs.lemmas.List.{append-nil}
 use Rattle.cf_audit.specs.Line.{Cut as CutLine}
 use Rattle.cf_audit.specs.declared.CutReason.{CutReason}
 use Rattle.cf_audit.specs.declared.CutReason.TheVariants as reason
-use Rattle.cf_lane.specs.History.{Element, ended_of, taken}
+use Rattle.cf_lane.specs.History.{taken}
 use Rattle.cf_leg.specs.Calls.{Clocked}
 use Rattle.cf_leg.specs.Emits.{IsRight, fired_at, repeats}
-use Rattle.cf_leg.specs.Event.{Cut, Ending, LegEvent, Unspoken, begun, clocked, moment}
-use Rattle.cf_leg.specs.Heard.{acked, offers, opened}
+use Rattle.cf_leg.specs.Event.{Cut, Ending, LegEvent, Unspoken, begun, clocked}
+use Rattle.cf_leg.specs.Heard.{offers, opened}
 use Rattle.cf_leg.specs.LegValue.{LegValue, marks}
 use Rattle.cf_leg.specs.Timer.{fires, tries}
 use Rattle.cf_leg.specs.Told.{greeting}
@@ -21,15 +21,17 @@ use Rattle.cf_leg.specs.declared.Ends.{Ends}
 use Rattle.cf_outq.specs.SendQueue.{IsQueueOf, Queue}
 use Rattle.cf_packet.specs.Packet.{PacketValue}
 use Rattle.cf_stream.specs.FirstCopy.{IsTaken, first_copy}
+use Rattle.cf_view.specs.declared.Side.{Side}
 use Rattle.cf_view.specs.declared.Side.TheVariants as side
+use Rattle.cf_session.proofs.Heards.{tick_closed}
 use Rattle.cf_session.proofs.Legs.{EventsBegin, TickedAs, ticked_as}
-use Rattle.cf_session.proofs.Options.{later_same, or_none}
+use Rattle.cf_session.proofs.Options.{or_none}
 use Rattle.cf_session.proofs.Telling.{at-append, then_sent, then_told}
 use Rattle.cf_session.specs.Cuts.{clock_cut, gives_up}
 use Rattle.cf_session.specs.Event.{AreRight, EndsTick, IsTick}
 use Rattle.cf_session.specs.Parts.{IsLaneAfter, IsLegBetween, SessionValue}
-use Rattle.cf_session.specs.Sent.{at, line}
-use Rattle.cf_session.specs.Session.{Flow, SessionEvent, client_ends, client_of, clients, closed_at, controller_ends, controllers, history, is_closed, is_done, is_expired, is_past}
+use Rattle.cf_session.specs.Sent.{at, line, sent_first}
+use Rattle.cf_session.specs.Session.{Flow, SessionEvent, client_ends, client_of, clients, closed_at, controller_ends, controllers, history, is_expired, is_past}
 use Rattle.cf_session.specs.Stands.{IsSessionOf, Ticks, TicksBy, life_by}
 use Rattle.cf_session.specs.Told.{Told, with_both}
 use Rattle.cf_session.specs.Turn.{RightCuts}
@@ -62,7 +64,7 @@ client_fires f es e now = fired_at (client_ends f) (clients (e ∷ es)) (clocked
 
 module _ (f : Flow) (es : List SessionEvent) (e : SessionEvent) (now : ℕ) where
   -- the controller's leg had its clock call, and the client's had one or not
-  abbrev tick_event : (fc fd : List PacketValue) (called : Bool) (x y : Ending) (cut : Option CutReason) → SessionEvent
+  abbrev pub tick_event : (fc fd : List PacketValue) (called : Bool) (x y : Ending) (cut : Option CutReason) → SessionEvent
   tick_event fc fd called x y cut = record {
     controller = record (clocked now fc) { ending = x };
     client = record (clocked now fd) { ticked = called; ending = y };
@@ -92,20 +94,6 @@ module _ (f : Flow) (es : List SessionEvent) (e : SessionEvent) (now : ℕ) wher
   abbrev pub ticking_at : List PacketValue → List PacketValue → SessionEvent
   ticking_at fc fd = record { controller = clocked now fc; client = clocked now fd; fed = []; work = e.work; cut = None }
 
-  same_history : (fc fd : List PacketValue) → history (ticking_at fc fd ∷ e ∷ es) ≡ history (e ∷ es)
-  same_history fc fd = append-nil (history (e ∷ es))
-
-  same_closed : (fc fd : List PacketValue) → is_closed f (ticking_at fc fd ∷ e ∷ es) ≡ is_closed f (e ∷ es)
-  same_closed fc fd =
-      ap (λ (h : List Element). (ended_of side.Client h && ended_of side.Controller h)
-      && (is_done e.work.to_client (acked (client_ends f).role (clients (e ∷ es))) && is_done e.work.to_controller (acked (controller_ends f).role (controllers (e ∷ es)))))
-      (append-nil (history (e ∷ es)))
-
-  closed_same : (fc fd : List PacketValue) → closed_at f (ticking_at fc fd ∷ e ∷ es) ≡ closed_at f (e ∷ es)
-  closed_same fc fd =
-      ap (λ b. option_or (closed_at f (e ∷ es)) (cond b (Some (now + 1)) None)) (same_closed fc fd)
-      ∙ later_same (closed_at f es) (is_closed f (e ∷ es)) (moment e.client) (now + 1)
-
   -- neither peer was silent for too long
   pub open_tick : gives_up (controller_ends f).role (controllers (e ∷ es)) (clocked now []) ≡ false → gives_up (client_ends f).role (clients (e ∷ es)) (clocked now []) ≡ false →
       (fc fd : List PacketValue) → IsRight (controller_ends f) (controllers (e ∷ es)) (clocked now fc) → IsRight (client_ends f) (clients (e ∷ es)) (clocked now fd) →
@@ -133,9 +121,7 @@ module _ (f : Flow) (es : List SessionEvent) (e : SessionEvent) (now : ℕ) wher
     live_told t0 t1 t2 a b = record {
       kept = early;
       is_tick = live_tick;
-      told = then_sent t0 t1 t2 now fc_at fd_at a b
-          ∙ ap (λ ps. with_both t0 (at now (ps ++ fd_at)) []) (sym (append-nil fc_at))
-          ∙ ap (λ ps. with_both t0 (at now ((fc_at ++ []) ++ ps)) []) (sym (append-nil fd_at));
+      told = rw (append-nil fc_at, append-nil fd_at) (then_sent t0 t1 t2 now fc_at fd_at a b);
     }
 
     pub live_stands : (client controller : LegValue) (to_client to_controller : Queue) →
@@ -143,7 +129,7 @@ module _ (f : Flow) (es : List SessionEvent) (e : SessionEvent) (now : ℕ) wher
         IsQueueOf to_client e.work.to_client → IsQueueOf to_controller e.work.to_controller → client.window ≡ s.client.window → controller.window ≡ s.controller.window →
         IsSessionOf f (e ∷ es) (ticking_at fc_at fd_at) (record s { client = client; controller = controller; to_client = to_client; to_controller = to_controller })
     live_stands client controller to_client to_controller lc ld qc qd wc wd =
-        let same = sym (same_history fc_at fd_at) in
+        let same = sym (append-nil (history (e ∷ es))) in
         record {
           parts = record {
             client = lc;
@@ -158,7 +144,7 @@ module _ (f : Flow) (es : List SessionEvent) (e : SessionEvent) (now : ℕ) wher
             };
           };
           events = (inl live_tick, stands.events);
-          closed = stands.closed ∙ sym (closed_same fc_at fd_at);
+          closed = stands.closed ∙ sym (tick_closed f (e ∷ es) (ticking_at fc_at fd_at) live_tick);
           going = refl;
           uncut = stands.uncut;
           source = stands.source;
@@ -167,48 +153,6 @@ module _ (f : Flow) (es : List SessionEvent) (e : SessionEvent) (now : ℕ) wher
         }
 
 -- ---- a cut in the first half
-
-silent_cut : (a b : Bool) → a ≡ true → cond a (Some (reason.NoAnswer side.Controller)) (cond b (Some (reason.NoAnswer side.Client)) None) ≡ Some (reason.NoAnswer side.Controller)
-silent_cut a b e = ap (λ x. cond x (Some (reason.NoAnswer side.Controller)) (cond b (Some (reason.NoAnswer side.Client)) None)) e
-
-silent_client : (a b : Bool) → a ≡ false → b ≡ true → cond a (Some (reason.NoAnswer side.Controller)) (cond b (Some (reason.NoAnswer side.Client)) None) ≡ Some (reason.NoAnswer side.Client)
-silent_client a b d e = ap (λ x. cond x (Some (reason.NoAnswer side.Controller)) (cond b (Some (reason.NoAnswer side.Client)) None)) d ∙ ap (λ x. cond x (Some (reason.NoAnswer side.Client)) None) e
-
--- a clock call and then the two RSTs
-told_cut : (t0 t1 t2 : Told) (now : ℕ) (ps qs : List PacketValue) (p q : PacketValue) (bytes : List (List ℕ)) → t1 ≡ with_both t0 (at now (ps ++ qs)) [] → t2 ≡ with_both t1 (at now (p ∷ q ∷ [])) bytes →
-    t2 ≡ with_both t0 (at now ((ps ++ qs) ++ p ∷ q ∷ [])) bytes
-told_cut t0 t1 t2 now ps qs p q bytes a b =
-    then_told t0 t1 t2 (at now (ps ++ qs)) (at now (p ∷ q ∷ [])) [] bytes a b
-    ∙ ap (λ xs. with_both t0 xs bytes) (sym (at-append now (ps ++ qs) (p ∷ q ∷ [])))
-
-module _ (f : Flow) (es : List SessionEvent) (e : SessionEvent) (now : ℕ) (early : is_expired f (e ∷ es) now ≡ false) where
-  module _ (fc : List PacketValue) (fired : fc ≡ fired_at (controller_ends f) (controllers (e ∷ es)) (clocked now [])) (silent : gives_up (controller_ends f).role (controllers (e ∷ es)) (clocked now []) ≡ true)
-      (cuts : RightCuts f (controllers (e ∷ es)) (clients (e ∷ es)) (clocked now fc) (begun now)) where
-    abbrev pub controller_silent : SessionEvent
-    controller_silent = record {
-      controller = record (clocked now fc) { ending = Cut cuts.to_controller };
-      client = record (begun now) { ending = Cut cuts.to_client };
-      fed = [];
-      work = e.work;
-      cut = Some (reason.NoAnswer side.Controller);
-    }
-
-    pub silent_tick : IsTick f (e ∷ es) now controller_silent
-    silent_tick = is_tick f es e now fc [] false (Cut cuts.to_controller) (Cut cuts.to_client) (Some (reason.NoAnswer side.Controller)) (record { controller = cuts.controller_right; client = cuts.client_right }) (sym (ap not silent))
-        (sym (silent_cut (gives_up (controller_ends f).role (controllers (e ∷ es)) (clocked now [])) (gives_up (client_ends f).role (clients (e ∷ es)) (begun now)) silent))
-        (cuts.to_controller, refl) (cuts.to_client, refl)
-
-    pub silent_ticks : (t0 t1 t2 : Told) → t1 ≡ with_both t0 (at now fc) [] → t2 ≡ with_both t1 (at now (cuts.to_controller ∷ cuts.to_client ∷ [])) (line f now (CutLine (reason.NoAnswer side.Controller)) ∷ []) →
-        Ticks f (e ∷ es) now t0 t2 controller_silent
-    silent_ticks t0 t1 t2 first told = record {
-      kept = early;
-      is_tick = silent_tick;
-      told =
-          (let nothing : t1 ≡ with_both t0 (at now (fc ++ [])) [] = first ∙ ap (λ xs. with_both t0 (at now xs) []) (sym (append-nil fc)) in
-          told_cut t0 t1 t2 now fc [] cuts.to_controller cuts.to_client _ nothing told
-          ∙ ap (λ xs. with_both t0 (at now xs) (line f now (CutLine (reason.NoAnswer side.Controller)) ∷ []))
-          (ap (λ xs. xs ++ cuts.to_controller ∷ cuts.to_client ∷ []) (append-nil fc) ∙ sym (append_assoc fc (cuts.to_controller ∷ []) (cuts.to_client ∷ []))));
-    }
 
 none_fires : (a b : Bool) (ps : List PacketValue) → (a && not b) ≡ true → cond (a && b) ps [] ≡ []
 none_fires true true ps e = absurd (false≢true e)
@@ -219,36 +163,46 @@ none_fires false b ps e = absurd (false≢true e)
 pub silent_fires : (ends : Ends) (es : List LegEvent) (now : ℕ) → gives_up ends.role es (clocked now []) ≡ true → fired_at ends es (clocked now []) ≡ []
 silent_fires ends es now e = none_fires (fires ends.role es (clocked now [])) (nat_lt (tries ends.role es) 6) (repeats ends es) e
 
-module _ (f : Flow) (es : List SessionEvent) (e : SessionEvent) (now : ℕ) (early : is_expired f (e ∷ es) now ≡ false) where
-  module _ (fc fd : List PacketValue) (fired : fc ≡ fired_at (controller_ends f) (controllers (e ∷ es)) (clocked now [])) (fired_client : fd ≡ fired_at (client_ends f) (clients (e ∷ es)) (clocked now []))
-      (quiet : gives_up (controller_ends f).role (controllers (e ∷ es)) (clocked now []) ≡ false) (silent : gives_up (client_ends f).role (clients (e ∷ es)) (clocked now []) ≡ true)
-      (cuts : RightCuts f (controllers (e ∷ es)) (clients (e ∷ es)) (clocked now fc) (clocked now fd)) where
-    abbrev pub client_silent : SessionEvent
-    client_silent = record {
-      controller = record (clocked now fc) { ending = Cut cuts.to_controller };
-      client = record (clocked now fd) { ending = Cut cuts.to_client };
-      fed = [];
-      work = e.work;
-      cut = Some (reason.NoAnswer side.Client);
-    }
+-- the peer of a side was silent for too long. The client's leg had its clock call or not, and sent nothing
+pub record IsSilent (f : Flow) (es : List SessionEvent) (e : SessionEvent) (now : ℕ) (fd : List PacketValue) (called : Bool) (s : Side) : Type 0 where
+  pub due : called ≡ not (gives_up (controller_ends f).role (controllers (e ∷ es)) (clocked now []))
+  pub why : Some (reason.NoAnswer s) ≡ clock_cut f (e ∷ es) (tick_event f es e now [] fd called Unspoken Unspoken None)
+  pub nothing : fd ≡ []
 
-    pub client_silent_tick : IsTick f (e ∷ es) now client_silent
-    client_silent_tick = is_tick f es e now fc fd true (Cut cuts.to_controller) (Cut cuts.to_client) (Some (reason.NoAnswer side.Client)) (record { controller = cuts.controller_right; client = cuts.client_right }) (sym (ap not quiet))
-        (sym (silent_client (gives_up (controller_ends f).role (controllers (e ∷ es)) (clocked now [])) (gives_up (client_ends f).role (clients (e ∷ es)) (clocked now [])) quiet silent))
-        (cuts.to_controller, refl) (cuts.to_client, refl)
+pub silent_controller : (f : Flow) (es : List SessionEvent) (e : SessionEvent) (now : ℕ) → gives_up (controller_ends f).role (controllers (e ∷ es)) (clocked now []) ≡ true →
+    IsSilent f es e now [] false side.Controller
+silent_controller f es e now h = record { due = rw h refl; why = rw h refl; nothing = refl }
 
-    pub client_silent_ticks : (t0 t1 t2 t3 : Told) → t1 ≡ with_both t0 (at now fc) [] → t2 ≡ with_both t1 (at now fd) [] →
-        t3 ≡ with_both t2 (at now (cuts.to_controller ∷ cuts.to_client ∷ [])) (line f now (CutLine (reason.NoAnswer side.Client)) ∷ []) → Ticks f (e ∷ es) now t0 t3 client_silent
-    client_silent_ticks t0 t1 t2 t3 first second told = record {
-      kept = early;
-      is_tick = client_silent_tick;
-      told =
-          (let none : fd ≡ [] = fired_client ∙ silent_fires (client_ends f) (clients (e ∷ es)) now silent in
-          told_cut t0 t2 t3 now fc fd cuts.to_controller cuts.to_client _ (then_sent t0 t1 t2 now fc fd first second) told
-          ∙ ap (λ xs. with_both t0 (at now xs) (line f now (CutLine (reason.NoAnswer side.Client)) ∷ []))
-          (ap (λ d. (fc ++ d) ++ cuts.to_controller ∷ cuts.to_client ∷ []) none ∙ ap (λ xs. xs ++ cuts.to_controller ∷ cuts.to_client ∷ []) (append-nil fc)
-          ∙ sym (append_assoc fc (cuts.to_controller ∷ []) (cuts.to_client ∷ [])) ∙ ap (λ d. (fc ++ cuts.to_controller ∷ []) ++ (d ++ cuts.to_client ∷ [])) (sym none)));
-    }
+pub silent_client : (f : Flow) (es : List SessionEvent) (e : SessionEvent) (now : ℕ) → gives_up (controller_ends f).role (controllers (e ∷ es)) (clocked now []) ≡ false →
+    gives_up (client_ends f).role (clients (e ∷ es)) (clocked now []) ≡ true → IsSilent f es e now (client_fires f es e now) true side.Client
+silent_client f es e now quiet h = record { due = rw quiet refl; why = rw (quiet, h) refl; nothing = silent_fires (client_ends f) (clients (e ∷ es)) now h }
+
+-- what the clock calls sent and both RSTs, as they stand in the event
+both_sent : (fc fd : List PacketValue) (p q : PacketValue) → fd ≡ [] → (fc ++ fd) ++ p ∷ q ∷ [] ≡ (fc ++ p ∷ []) ++ (fd ++ q ∷ [])
+both_sent fc fd p q none = rw (none, append-nil fc) (sym (append_assoc fc (p ∷ []) (q ∷ [])))
+
+pub and_nothing : (t0 t1 : Told) (now : ℕ) (ps : List PacketValue) → t1 ≡ with_both t0 (at now ps) [] → t1 ≡ with_both t0 (at now (ps ++ [])) []
+and_nothing t0 t1 now ps h = rw (append-nil ps) h
+
+module _ {f : Flow} {es : List SessionEvent} {e : SessionEvent} {now : ℕ} {fd : List PacketValue} {called : Bool} {s : Side} (silent : IsSilent f es e now fd called s)
+    (early : is_expired f (e ∷ es) now ≡ false) (fc : List PacketValue) (cuts : RightCuts f (controllers (e ∷ es)) (clients (e ∷ es)) (clocked now fc) (record (clocked now fd) { ticked = called })) where
+  abbrev pub silent_event : SessionEvent
+  silent_event = tick_event f es e now fc fd called (Cut cuts.to_controller) (Cut cuts.to_client) (Some (reason.NoAnswer s))
+
+  pub silent_tick : IsTick f (e ∷ es) now silent_event
+  silent_tick = is_tick f es e now fc fd called (Cut cuts.to_controller) (Cut cuts.to_client) (Some (reason.NoAnswer s))
+      (record { controller = cuts.controller_right; client = cuts.client_right }) silent.due silent.why (cuts.to_controller, refl) (cuts.to_client, refl)
+
+  pub silent_sent : at now (fc ++ fd) ++ at now (cuts.to_controller ∷ cuts.to_client ∷ []) ≡ sent_first silent_event
+  silent_sent = sym (at-append now (fc ++ fd) (cuts.to_controller ∷ cuts.to_client ∷ [])) ∙ ap (at now) (both_sent fc fd cuts.to_controller cuts.to_client silent.nothing)
+
+  pub silent_ticks : (t0 t1 t2 : Told) → t1 ≡ with_both t0 (at now (fc ++ fd)) [] → t2 ≡ with_both t1 (at now (cuts.to_controller ∷ cuts.to_client ∷ [])) (line f now (CutLine (reason.NoAnswer s)) ∷ []) →
+      Ticks f (e ∷ es) now t0 t2 silent_event
+  silent_ticks t0 t1 t2 first told = record {
+    kept = early;
+    is_tick = silent_tick;
+    told = then_told t0 t1 t2 _ _ [] _ first told ∙ ap (λ xs. with_both t0 xs (line f now (CutLine (reason.NoAnswer s)) ∷ [])) silent_sent;
+  }
 
 pub ticks_live : (f : Flow) (es : List SessionEvent) (now : ℕ) (y : SessionValue) (old new : Told) (closed : Option ℕ) → (t : SessionEvent) → Ticks f es now old new t → IsSessionOf f es t y →
     closed ≡ closed_at f (t ∷ es) → TicksBy f es now y old new (life_by closed)

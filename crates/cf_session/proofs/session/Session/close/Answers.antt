@@ -1,4 +1,4 @@
-use Rattle.std.proofs.Common.{◌≡◌, ℕ, ◌&&◌, not, true, false, cond, [], ◌∷◌, sym, ap, ◌∙◌, subst}
+use Rattle.std.proofs.Common.{◌≡◌, ℕ, true, false, [], ◌∷◌, refl, ap, ◌∙◌, subst}
 use Rattle.std.specs.Option.{is_some}
 use Rattle.cf_audit.specs.Line.{Close}
 use Rattle.cf_lane.specs.Log.{line_about}
@@ -14,12 +14,7 @@ use Rattle.cf_session.proofs.session.Session.close.Goals as goal
 -- the line of a session that is done and was not closed
 closing : (asset : Asset) (now : ℕ) {s r : SessionValue} {admitted refused : ℕ} → s ≡ r → true ≡ is_done_now r → false ≡ is_some s.closed → admitted ≡ s.lane.admitted → refused ≡ s.lane.refused →
     line_about asset s.source now (Close admitted refused) ∷ [] ≡ closing_lines asset r now
-closing asset now {s} {r} {admitted} {refused} same done open_ a f =
-    let test : (is_done_now s && not (is_some s.closed)) ≡ true = ap (λ b. b && not (is_some s.closed)) (ap is_done_now same ∙ sym done) ∙ ap not (sym open_) in
-    ap (λ n. line_about asset s.source now (Close n refused) ∷ []) a
-    ∙ ap (λ n. line_about asset s.source now (Close s.lane.admitted n) ∷ []) f
-    ∙ ap (λ b. cond b (line_about asset s.source now (Close s.lane.admitted s.lane.refused) ∷ []) []) (sym test)
-    ∙ ap (λ (x : SessionValue). closing_lines asset x now) same
+closing asset now same done open_ a f = rw (a, f, same, ← done, ← (open_ ∙ ap (λ (x : SessionValue). is_some x.closed) same)) refl
 
 pub returns-clause-told : goal.returns-clause-told
 returns-clause-told g c =

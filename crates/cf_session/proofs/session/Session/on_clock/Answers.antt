@@ -2,7 +2,7 @@ use Rattle.std.proofs.Common.{◌∷◌, refl, sym, ◌∙◌, subst}
 use Rattle.std.proofs.lemmas.Result.{IfOk-weaker}
 use Rattle.cf_leg.specs.Event.{begun, clocked}
 use Rattle.cf_outq.specs.SendQueue.{IsQueueOf}
-use Rattle.cf_session.proofs.Ticks.{client_begins, client_fires, client_silent_ticks, client_ticks, controller_fires, controller_ticks, live_stands, live_told, silent_ticks, ticks_live, unexpired}
+use Rattle.cf_session.proofs.Ticks.{and_nothing, client_begins, client_fires, client_ticks, controller_fires, controller_ticks, live_stands, live_told, silent_client, silent_controller, silent_ticks, ticks_live, unexpired}
 use Rattle.cf_session.specs.Session.{clients, controllers}
 use Rattle.cf_session.specs.Stands.{IsSessionOf, TicksBy}
 use Rattle.cf_session.specs.Told.{told}
@@ -10,7 +10,7 @@ use Rattle.std.proofs.lemmas.Result.{on_err_weaker}
 use Rattle.cf_outside.proofs.Desks.{puts_both}
 use Rattle.cf_session.proofs.Amid.{on_err}
 use Rattle.cf_session.proofs.Telling.{then_sent}
-use Rattle.cf_session.proofs.TicksAmid.{client_cut_failed, client_failed, controller_cut_failed, controller_failed}
+use Rattle.cf_session.proofs.TicksAmid.{client_failed, controller_failed, silent_cut_failed}
 use Rattle.cf_session.proofs.session.Session.on_clock.Goals as goal
 
 pub returns-then-is_silent-clause-ticks : goal.returns-then-is_silent-clause-ticks
@@ -19,10 +19,12 @@ returns-then-is_silent-clause-ticks g c =
     let now = c.args.now in
     let s = subst (IsSessionOf f es e) (sym c.self.view_is) stands in
     let early = unexpired s c.args.now c.is_over.ensures c.if-is_over.false in
-    let a = controller_ticks s (told (g.D.Desk.value c.args.desk.now)) (told (g.D.Desk.value c.on_clock.new.desk)) c.in_ok-on_clock.ensures.clocked c.on_clock.ensures.ends c.on_clock.ensures.queue c.on_clock.ensures.frame.lines in
+    let t0 = told (g.D.Desk.value c.args.desk.now) in
+    let t1 = told (g.D.Desk.value c.on_clock.new.desk) in
+    let a = controller_ticks s t0 t1 c.in_ok-on_clock.ensures.clocked c.on_clock.ensures.ends c.on_clock.ensures.queue c.on_clock.ensures.frame.lines in
     let silent = sym a.answer ∙ sym c.is_silent.ensures ∙ c.if-is_silent.true in
     let cuts = h.1 f (controllers (e ∷ es)) (clients (e ∷ es)) (clocked now (controller_fires f es e now)) (begun now) is s.source a.stands (client_begins s c.events_begin.ensures now) in
-    let ticks = silent_ticks f es e now early (controller_fires f es e now) refl silent cuts.rsts _ _ _ a.told cuts.gets in
+    let ticks = silent_ticks (silent_controller f es e now silent) early (controller_fires f es e now) cuts.rsts t0 t1 _ (and_nothing t0 t1 now (controller_fires f es e now) a.told) cuts.gets in
     subst (TicksBy f (e ∷ es) now _ _ _) (sym h.0) (_, ticks, refl)) c.cut_at.ensures.cuts
 
 pub returns-then-is_silent-2-clause-ticks : goal.returns-then-is_silent-2-clause-ticks
@@ -39,7 +41,7 @@ returns-then-is_silent-2-clause-ticks g c =
     let fc = controller_fires f es e now in
     let fd = client_fires f es e now in
     let cuts = h.1 f (controllers (e ∷ es)) (clients (e ∷ es)) (clocked now fc) (clocked now fd) is s.source a.stands b.stands in
-    let ticks = client_silent_ticks f es e now early fc fd refl refl quiet silent cuts.rsts _ _ _ _ a.told b.told cuts.gets in
+    let ticks = silent_ticks (silent_client f es e now quiet silent) early fc cuts.rsts _ _ _ (then_sent _ _ _ now fc fd a.told b.told) cuts.gets in
     subst (TicksBy f (e ∷ es) now _ _ _) (sym h.0) (_, ticks, refl)) c.cut_at-then-is_silent-2.ensures.cuts
 
 pub returns-clause-ticks : goal.returns-clause-ticks
@@ -63,7 +65,7 @@ returns-in_err-on_clock-clause-broken g c =
     on_err c.from_residual.result (λ f es e is stands.
     let s = subst (IsSessionOf f es e) (sym c.self.view_is) stands in
     let early = unexpired s c.args.now c.is_over.ensures c.if-is_over.false in
-    controller_failed f es e _ s c.args.now early (g.D.Desk.value c.args.desk.now) (g.D.Desk.value c.args.desk.now) (g.D.Desk.value c.on_clock.new.desk) c.in_err-on_clock.ensures.broken c.on_clock.ensures.frame)
+    controller_failed f es e c.args.now _ s early (g.D.Desk.value c.args.desk.now) (g.D.Desk.value c.args.desk.now) (g.D.Desk.value c.on_clock.new.desk) c.in_err-on_clock.ensures.broken c.on_clock.ensures.frame)
 
 pub returns-then-is_silent-clause-broken : goal.returns-then-is_silent-clause-broken
 returns-then-is_silent-clause-broken g c =
@@ -76,7 +78,7 @@ returns-then-is_silent-clause-broken g c =
     let a = controller_ticks s (told d0) (told d1) c.in_ok-on_clock.ensures.clocked c.on_clock.ensures.ends c.on_clock.ensures.queue c.on_clock.ensures.frame.lines in
     let silent = sym a.answer ∙ sym c.is_silent.ensures ∙ c.if-is_silent.true in
     let cuts = h f (controllers (e ∷ es)) (clients (e ∷ es)) (clocked now (controller_fires f es e now)) (begun now) is s.source a.stands (client_begins s c.events_begin.ensures now) in
-    controller_cut_failed f es e _ s now early d0 d1 (g.D.Desk.value c.cut_at.new.desk) a.told c.in_ok-on_clock.ensures.frame.rest silent cuts) c.cut_at.ensures.broken
+    silent_cut_failed (silent_controller f es e now silent) early (controller_fires f es e now) d0 d1 (g.D.Desk.value c.cut_at.new.desk) (and_nothing (told d0) (told d1) now (controller_fires f es e now) a.told) c.in_ok-on_clock.ensures.frame.rest cuts) c.cut_at.ensures.broken
 
 pub returns-in_err-on_clock-2-clause-broken : goal.returns-in_err-on_clock-2-clause-broken
 returns-in_err-on_clock-2-clause-broken g c =
@@ -87,7 +89,7 @@ returns-in_err-on_clock-2-clause-broken g c =
     let early = unexpired s c.args.now c.is_over.ensures c.if-is_over.false in
     let a = controller_ticks s (told d0) (told d1) c.in_ok-on_clock.ensures.clocked c.on_clock.ensures.ends c.on_clock.ensures.queue c.on_clock.ensures.frame.lines in
     let quiet = sym a.answer ∙ sym c.is_silent.ensures ∙ c.if-is_silent.false in
-    client_failed f es e _ s c.args.now early d0 d1 (g.D.Desk.value c.on_clock-2.new.desk) a.told c.in_ok-on_clock.ensures.frame.rest quiet c.in_err-on_clock-2.ensures.broken c.on_clock-2.ensures.frame)
+    client_failed f es e c.args.now _ s early d0 d1 (g.D.Desk.value c.on_clock-2.new.desk) a.told c.in_ok-on_clock.ensures.frame.rest quiet c.in_err-on_clock-2.ensures.broken c.on_clock-2.ensures.frame)
 
 pub returns-then-is_silent-2-clause-broken : goal.returns-then-is_silent-2-clause-broken
 returns-then-is_silent-2-clause-broken g c =
@@ -106,4 +108,4 @@ returns-then-is_silent-2-clause-broken g c =
     let fd = client_fires f es e now in
     let cuts = h f (controllers (e ∷ es)) (clients (e ∷ es)) (clocked now fc) (clocked now fd) is s.source a.stands b.stands in
     let frame = puts_both d0 d1 d2 c.in_ok-on_clock.ensures.frame.rest c.in_ok-on_clock-2.ensures.frame.rest in
-    client_cut_failed f es e _ s now early d0 d2 (g.D.Desk.value c.cut_at-then-is_silent-2.new.desk) quiet silent (then_sent (told d0) (told d1) (told d2) now fc fd a.told b.told) frame cuts) c.cut_at-then-is_silent-2.ensures.broken
+    silent_cut_failed (silent_client f es e now quiet silent) early fc d0 d2 (g.D.Desk.value c.cut_at-then-is_silent-2.new.desk) (then_sent (told d0) (told d1) (told d2) now fc fd a.told b.told) frame cuts) c.cut_at-then-is_silent-2.ensures.broken

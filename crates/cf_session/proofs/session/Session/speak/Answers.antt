@@ -51,7 +51,6 @@ returns-clause-says g c = λ flow x y cs ds w v at_c at_d may stands.
 
 pub returns-clause-steady : goal.returns-clause-steady
 returns-clause-steady g c =
-    let middle : SessionValue = record { client = c.self-2.inside.client; controller = c.self-2.inside.controller; lane = c.self-2.inside.lane; to_client = c.self-2.inside.to_client; to_controller = c.self-2.inside.to_controller; closed = c.self-2.inside.closed; limit = c.self-2.inside.limit; source = c.self-2.inside.source } in
     let path = c.self-2.view_is ∙ c.greet_client.ensures.same in
     let steady = subst (λ s. IsSteady s _) (sym c.self-2.view_is) c.in_ok-greet_client.ensures.steady in
     let kept_c : length c.self-2.inside.to_client.kept ≡ length c.self.inside.to_client.kept = ap (λ (s : SessionValue). length s.to_client.kept) path in
@@ -59,7 +58,7 @@ returns-clause-steady g c =
     let base : base_of c.self-2.inside.controller.window ≡ base_of c.self.inside.controller.window = ap (λ (s : SessionValue). base_of s.controller.window) path ∙ ap (λ (w : Window). base_of w) c.in_ok-speak.ensures.window.same in
     let edge : c.self-2.inside.controller.window.edge ≡ c.speak.new.self.window.edge = ap (λ (s : SessionValue). s.controller.window.edge) path in
     let near = c.in_ok-speak.ensures.window.near in
-    steady_on middle c.speak-2.new.self c.speak-2.new.queue c.are_small-roomy.result steady c.in_ok-speak-2.ensures.ends c.in_ok-speak-2.ensures.window c.in_ok-speak-2.ensures.queue
+    steady_on c.speak-2.new.self c.speak-2.new.queue c.are_small-roomy.result steady c.in_ok-speak-2.ensures.ends c.in_ok-speak-2.ensures.window c.in_ok-speak-2.ensures.queue
     (λ e. (let k = (c.are_small-roomy.ensures.kept e).0 in omega (arith, k, kept_c))) (λ e. (let k = (c.are_small-roomy.ensures.kept e).1 in omega (arith, k, kept_k))) (omega (arith, near, base, edge))
 
 pub returns-clause-only : goal.returns-clause-only
@@ -81,9 +80,8 @@ returns-clause-only g c =
 
 pub greet_client-requires-clause-steady : goal.greet_client-requires-clause-steady
 greet_client-requires-clause-steady g c =
-    let s : SessionValue = record { client = c.self.inside.client; controller = c.self.inside.controller; lane = c.self.inside.lane; to_client = c.self.inside.to_client; to_controller = c.self.inside.to_controller; closed = c.self.inside.closed; limit = c.self.inside.limit; source = c.self.inside.source } in
     let steady = subst (λ s. IsSteady s _) (sym c.self.view_is) c.requires.steady in
-    steady_first s c.speak.new.self c.speak.new.queue c.are_small-roomy.result steady c.in_ok-speak.ensures.window c.in_ok-speak.ensures.queue
+    steady_first c.speak.new.self c.speak.new.queue c.are_small-roomy.result steady c.in_ok-speak.ensures.window c.in_ok-speak.ensures.queue
     (λ e. (c.are_small-roomy.ensures.kept e).0) (λ e. (c.are_small-roomy.ensures.kept e).1) c.has_ended.ensures.bounds.near
 
 pub returns-in_err-speak-clause-broken : goal.returns-in_err-speak-clause-broken
