@@ -1,6 +1,5 @@
 -- Two lists of right events in which the same is asked are one.
-use Rattle.std.proofs.Common.{◌≡◌, ℕ, Bool, cond, ◌&&◌, List, [], ◌∷◌, refl, sym, ◌∙◌, ap, subst}
-use Rattle.std.specs.Prelude.{nat_lt, nat_le}
+use Rattle.std.proofs.Common.{◌≡◌, ℕ, Bool, cond, List, [], ◌∷◌, refl, sym, ◌∙◌, ap, subst}
 use Rattle.cf_packet.specs.Packet.{PacketValue}
 use Rattle.cf_stream.proofs.Taken.{same_taken}
 use Rattle.cf_stream.specs.FirstCopy.{first_copy}
@@ -9,10 +8,9 @@ use Rattle.cf_stream.specs.Stream.{Stream, letter_count}
 use Rattle.cf_leg.proofs.Events.{own_same, peer_same}
 use Rattle.cf_leg.proofs.Fixed.{same_speech}
 use Rattle.cf_leg.specs.Asked.{AllAsked, SameAsked, SameCame, SameEnding}
-use Rattle.cf_leg.specs.Emits.{AllRight, Cuts, Greets, IsGreeting, IsRight, cut_packet, repeats, rst, syn_ack_for}
+use Rattle.cf_leg.specs.Emits.{AllRight, Cuts, Greets, IsGreeting, IsRight, cut_packet, fired_at, rst, syn_ack_for}
 use Rattle.cf_leg.specs.Event.{Came, Nothing, Greeting, Packet, Ending, Unspoken, Spoke, Cut, LegEvent}
 use Rattle.cf_leg.specs.Heard.{offers, opened}
-use Rattle.cf_leg.specs.Timer.{armed, due, tries}
 use Rattle.cf_leg.specs.Told.{is_greeted, letters_sent_at}
 use Rattle.cf_leg.specs.declared.ends.Ends.{Ends}
 use Rattle.cf_leg.specs.declared.ends.Role.{Role}
@@ -70,17 +68,11 @@ same_event ends es e f h k s =
   where
     fired : e.fired ≡ f.fired
     fired =
-        h.fired
-        ∙ ap (λ (n : ℕ). cond ((e.ticked && (armed ends.role es && nat_le (due ends.role es) n)) && nat_lt (tries ends.role es) 6) (repeats ends es) []) s.tick
-        ∙ ap (λ (b : Bool). cond ((b && (armed ends.role es && nat_le (due ends.role es) f.tick)) && nat_lt (tries ends.role es) 6) (repeats ends es) []) s.ticked
-        ∙ sym k.fired
+        h.fired ∙ (let x : fired_at ends es e ≡ fired_at ends es f = rw (s.tick, s.ticked) refl in x) ∙ sym k.fired
 
     moved : e ≡ record f { ending = e.ending }
     moved =
-        ap (λ (n : ℕ). record e { tick = n }) s.tick
-        ∙ ap (λ (b : Bool). record e { tick = f.tick; ticked = b }) s.ticked
-        ∙ ap (λ (ps : List PacketValue). record e { tick = f.tick; ticked = f.ticked; fired = ps }) fired
-        ∙ ap (λ (c : Came). record e { tick = f.tick; ticked = f.ticked; fired = f.fired; came = c }) (same_came ends es e.came f.came h.came k.came s.came)
+        rw (s.tick, s.ticked, fired, same_came ends es e.came f.came h.came k.came s.came) refl
 
 pub same_events : (ends : Ends) (es fs : List LegEvent) → AllRight ends es → AllRight ends fs → AllAsked es fs → es ≡ fs
 same_events ends [] [] a b s = refl

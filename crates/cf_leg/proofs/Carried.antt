@@ -1,17 +1,17 @@
 -- What segments carry of the list that their letters were cut from.
 use Rattle.std.proofs.lemmas.Option.{none-some}
 use Rattle.std.proofs.Common.{◌≡◌, ℕ, suc, ◌+◌, ◌-◌, ◌<◌, ◌≤◌, min, Bool, true, false, cond, ◌&&◌, List, [], ◌∷◌, length, take, drop, get_or, refl, sym, ◌∙◌, ap, subst, arith, ℤ, pos, negsuc, inl, inr, Option, Some, None, length-take, length-drop}
-use Rattle.std.specs.Prelude.{MatchBool, ◌==◌, nat_lt}
+use Rattle.std.specs.Prelude.{◌==◌, nat_lt}
 use Rattle.std.proofs.lemmas.Bool.{and_parts, cases_lt, cases_Bool, eqb-true, lt-ltb, le-ltb, eq-eqb}
 use Rattle.std.proofs.lemmas.List.{get_or-drop, get_or-take, get_or_append_left, length-append}
 use Rattle.std.specs.Option.{option_or}
 use Rattle.cf_packet.specs.Packet.{PacketValue}
 use Rattle.cf_stream.specs.Position.{sequence_number, position}
 use Rattle.cf_stream.specs.Stream.{Stream, Letter, Byte, End, Carries, Extends, IsPart, letter_at, letter_count, letter_from, no_letters, part}
-use Rattle.cf_leg.proofs.Speech.{carried_segment, position_ahead, segment_stream}
+use Rattle.cf_leg.proofs.Speech.{carried_segment, position_ahead, says_as, segment_stream}
 use Rattle.cf_leg.specs.Emits.{Pieces, SaysIf, piece}
 use Rattle.cf_leg.specs.OneStream.{CarryAll, first_in, letter_in}
-use Rattle.cf_leg.specs.Segment.{letters_in, segment}
+use Rattle.cf_leg.specs.Segment.{letters_in}
 use Rattle.cf_leg.specs.Told.{letters_sent_by, letters_sent_by_all}
 use Rattle.cf_leg.specs.declared.ends.Advertised.{Advertised}
 use Rattle.cf_leg.specs.declared.ends.Way.{Way}
@@ -160,23 +160,10 @@ module _ (way : Way) (t : Advertised) (s whole : Stream) (x : Extends s whole) (
       ]
 
   pub carry_said : (due : Bool) (from : ℕ) (outs : List PacketValue) → SaysIf way t due s mss edge from outs → CarryAll whole way.own from outs
-  carry_said due from outs h = by (nat_lt from (min edge (letter_count s))) h
-    where
-      empty : (d : Bool) → CarryAll whole way.own from (cond d (segment way t (sequence_number way.own from) no_letters ∷ []) [])
-      empty true = (carries_none whole _, tt)
-      empty false = tt
-
-      by : (b : Bool) → MatchBool b (Pieces way t s mss edge from outs) (outs ≡ cond due (segment way t (sequence_number way.own from) no_letters ∷ []) []) → CarryAll whole way.own from outs
-      by true p = carry_pieces from outs p
-      by false e = subst (λ (ps : List PacketValue). CarryAll whole way.own from ps) (sym e) (empty due)
+  carry_said due from outs = says_as way t due s mss edge from outs (λ ps. CarryAll whole way.own from ps) (λ below p. carry_pieces from outs p) (λ past d. (carries_none whole _, tt)) (λ past d. tt)
 
   pub said_some : (due : Bool) (from : ℕ) (outs : List PacketValue) → SaysIf way t due s mss edge from outs → (q : ℕ) → from ≤ q → q < letters_sent_by_all way.own from outs → (l : Letter) × (first_in way.own from outs q ≡ Some l)
-  said_some due from outs h q low high = by (nat_lt from (min edge (letter_count s))) h
-    where
-      same : (d : Bool) → letters_sent_by_all way.own from (cond d (segment way t (sequence_number way.own from) no_letters ∷ []) []) ≡ from
-      same true = carried_segment way t (sequence_number way.own from) no_letters from refl ∙ omega arith
-      same false = refl
-
-      by : (b : Bool) → MatchBool b (Pieces way t s mss edge from outs) (outs ≡ cond due (segment way t (sequence_number way.own from) no_letters ∷ []) []) → (l : Letter) × (first_in way.own from outs q ≡ Some l)
-      by true p = pieces_some from outs p q low high
-      by false e = (let still = ap (λ (ps : List PacketValue). letters_sent_by_all way.own from ps) e ∙ same due in absurd (omega (arith, low, high, still)))
+  said_some due from outs h q low = says_as way t due s mss edge from outs (λ ps. q < letters_sent_by_all way.own from ps → (l : Letter) × (first_in way.own from ps q ≡ Some l))
+      (λ below p high. pieces_some from outs p q low high)
+      (λ past d high. (let still = carried_segment way t (sequence_number way.own from) no_letters from refl in absurd (omega (arith, low, high, still))))
+      (λ past d high. absurd (omega (arith, low, high))) h

@@ -17,9 +17,9 @@ use Rattle.cf_stream.proofs.Extends.{extends_none}
 use Rattle.cf_outside.specs.Desk.{DeskValue, SentValue}
 use Rattle.cf_leg.specs.Calls.{AreQuietBeforeDue, ClockBreaks, Clocked, SendsAgain, answer_again, greeting_as, greeting_of, oldest, is_due}
 use Rattle.cf_leg.specs.Emits.{IsGreeting, fired_at, again, repeats, repeat_open, send_mss, peer_mss, mss_in, syn, syn_ack_for}
-use Rattle.cf_leg.specs.Event.{Came, Nothing, Greeting, Packet, Ending, Unspoken, Spoke, Cut, LegEvent, clocked, stream_after, is_settled}
+use Rattle.cf_leg.specs.Event.{Came, Nothing, Greeting, Packet, Ending, Unspoken, Spoke, Cut, LegEvent, begun, clocked, stream_after, is_settled}
 use Rattle.cf_leg.specs.Heard.{opened, acked}
-use Rattle.cf_leg.specs.LegValue.{LegValue, IsLegOf, armed_before, is_open, marks, owed_now, phase_of}
+use Rattle.cf_leg.specs.LegValue.{LegValue, IsLegOf, Marks, armed_before, is_open, marks, owed_now, phase_of}
 use Rattle.cf_leg.specs.Timer.{armed, clock_answer, due, tries, fires, backoff, second}
 use Rattle.cf_leg.specs.Told.{told, letters_sent, letters_sent_by_all, greeting, is_greeted, own_number, peer_number, syn_ack, seq_of}
 use Rattle.cf_leg.specs.declared.ends.ClockAnswer.{ClockAnswer}
@@ -77,26 +77,30 @@ settled_owes r (e ∷ es) h = by e.came e.ending h
     by c (Cut p) k = absurd (false≢true k)
 
 -- ---- the step
-module _ (leg : LegValue) (q : Queue) (now : ℕ) (es : List LegEvent) (settled : is_settled es ≡ true) (h : IsLegOf leg (marks q) es) where
+module _ (leg : LegValue) (m : Marks) (now : ℕ) (es : List LegEvent) (settled : is_settled es ≡ true) (h : IsLegOf leg m es) where
   pub fires_is : (outs : List PacketValue) → fires leg.ends.role es (clocked now outs) ≡ is_due leg now
   fires_is outs =
       ap (λ (b : Bool). b && nat_le (due leg.ends.role es) now) (sym (h.of_running ∙ settled_armed leg.ends.role es settled))
       ∙ ap (λ (n : ℕ). leg.running && nat_le n now) (sym h.of_deadline)
 
-  pub clocked_stands : (outs : List PacketValue) (deadline fired : ℕ) → outs ≡ fired_at leg.ends es (clocked now outs)
+  -- an event that has just begun, after a clock call or without one
+  abbrev begins : Bool → List PacketValue → LegEvent
+  begins ticked outs = record { tick = now; ticked = ticked; fired = outs; came = Nothing; ending = Unspoken }
+
+  pub idle_stands : (ticked : Bool) (outs : List PacketValue) (deadline fired : ℕ) → outs ≡ fired_at leg.ends es (begins ticked outs)
       → letters_sent_by_all (own_number leg.ends.role es) (letters_sent leg.ends.role es) outs ≡ letters_sent leg.ends.role es
       → deadline ≡ cond (nat_lt 0 (length outs)) (now + backoff (tries leg.ends.role es + 1)) (due leg.ends.role es)
       → fired ≡ cond (nat_lt 0 (length outs)) (tries leg.ends.role es + 1) (tries leg.ends.role es)
-      → IsLegOf (record leg { deadline = deadline; fired = fired }) (marks q) (clocked now outs ∷ es)
-  clocked_stands outs deadline fired right c d f = record {
+      → IsLegOf (record leg { deadline = deadline; fired = fired }) m (begins ticked outs ∷ es)
+  idle_stands ticked outs deadline fired right c d f = record {
     of_right = (record { over = settled; fired = right; came = tt; ending = tt }, h.of_right);
-    of_phase = h.of_phase ∙ ap (λ (b : Bool). phase_of b (is_greeted es)) (sym (opened_idle now true outs es leg.ends.role)) ∙ ap (λ (b : Bool). phase_of (opened leg.ends.role (clocked now outs ∷ es)) b) (sym (greeted_idle now true outs es));
-    of_own = h.of_own ∙ sym (own_idle now true outs es leg.ends.role);
-    of_other = h.of_other ∙ sym (peer_idle now true outs es leg.ends.role);
-    of_mss = h.of_mss ∙ ap send_mss (sym (mss_idle now true outs es leg.ends.role));
+    of_phase = h.of_phase ∙ ap (λ (b : Bool). phase_of b (is_greeted es)) (sym (opened_idle now ticked outs es leg.ends.role)) ∙ ap (λ (b : Bool). phase_of (opened leg.ends.role (begins ticked outs ∷ es)) b) (sym (greeted_idle now ticked outs es));
+    of_own = h.of_own ∙ sym (own_idle now ticked outs es leg.ends.role);
+    of_other = h.of_other ∙ sym (peer_idle now ticked outs es leg.ends.role);
+    of_mss = h.of_mss ∙ ap send_mss (sym (mss_idle now ticked outs es leg.ends.role));
     of_base = h.of_base ∙ ap (λ (u : Advertised). u.base) (sym told_still);
     of_edge = h.of_edge ∙ ap (λ (u : Advertised). u.edge) (sym told_still);
-    of_first = λ o g. told_still ∙ h.of_first (sym (opened_idle now true outs es leg.ends.role) ∙ o) (sym (greeted_idle now true outs es) ∙ g);
+    of_first = λ o g. told_still ∙ h.of_first (sym (opened_idle now ticked outs es leg.ends.role) ∙ o) (sym (greeted_idle now ticked outs es) ∙ g);
     of_window = h.of_window;
     of_sent = h.of_sent ∙ sym c;
     of_edge_shown = h.of_edge_shown;
@@ -105,12 +109,16 @@ module _ (leg : LegValue) (q : Queue) (now : ℕ) (es : List LegEvent) (settled 
     of_owes = h.of_owes ∙ settled_owes leg.ends.role es settled;
     of_running = h.of_running ∙ settled_armed leg.ends.role es settled;
     of_deadline = d ∙ ap (λ (b : Bool). cond (b || false) (now + 1 + second) (cond (nat_lt 0 (length outs)) (now + backoff (tries leg.ends.role es + 1)) (due leg.ends.role es)))
-        (sym (ap (λ (b : Bool). b && not (armed leg.ends.role es)) (armed_idle now true outs es leg.ends.role) ∙ and_not (armed leg.ends.role es)));
+        (sym (ap (λ (b : Bool). b && not (armed leg.ends.role es)) (armed_idle now ticked outs es leg.ends.role) ∙ and_not (armed leg.ends.role es)));
     of_fired = f;
   }
     where
-      told_still : told leg.ends.role (clocked now outs ∷ es) ≡ told leg.ends.role es
-      told_still = fired_tells leg.ends es h.of_right (tells_up leg.ends es h.of_right) (clocked now outs) right
+      told_still : told leg.ends.role (begins ticked outs ∷ es) ≡ told leg.ends.role es
+      told_still = fired_tells leg.ends es h.of_right (tells_up leg.ends es h.of_right) (begins ticked outs) right
+
+-- a leg whose event begins without a clock call
+pub begun_stands : (leg : LegValue) (m : Marks) (tick : ℕ) (es : List LegEvent) → is_settled es ≡ true → IsLegOf leg m es → IsLegOf leg m (begun tick ∷ es)
+begun_stands leg m tick es settled h = idle_stands leg m tick es settled h false [] leg.deadline leg.fired refl refl h.of_deadline h.of_fired
 
 -- ---- the segment that goes out again
 module _ (leg : LegValue) (q : Queue) (es : List LegEvent) (h : IsLegOf leg (marks q) es) where
@@ -130,8 +138,8 @@ pub quiet_of : (leg : LegValue) (q : Queue) (now : ℕ) (before : Option (List S
 quiet_of leg q now before k = record {
   outs = [];
   packets = refl;
-  stands = λ es st h s. clocked_stands leg q now es st h [] leg.deadline leg.fired (rw (fires_is leg q now es st h [] ∙ k) refl) refl h.of_deadline h.of_fired;
-  answer = λ es st h s. rw (fires_is leg q now es st h [] ∙ k) refl;
+  stands = λ es st h s. idle_stands leg (marks q) now es st h true [] leg.deadline leg.fired (rw (fires_is leg (marks q) now es st h [] ∙ k) refl) refl h.of_deadline h.of_fired;
+  answer = λ es st h s. rw (fires_is leg (marks q) now es st h [] ∙ k) refl;
 }
 
 not_due : (running : Bool) (deadline now : ℕ) → now < cond running deadline (2 ^ 64 - 1) → (running && nat_le deadline now) ≡ false
@@ -145,15 +153,15 @@ pub spent_of : (leg : LegValue) (q : Queue) (now : ℕ) (before : Option (List S
 spent_of leg q now before k m = record {
   outs = [];
   packets = refl;
-  stands = λ es st h s. clocked_stands leg q now es st h [] leg.deadline leg.fired (rw (fires_is leg q now es st h [] ∙ k, ← h.of_fired, m) refl) refl h.of_deadline h.of_fired;
-  answer = λ es st h s. rw (fires_is leg q now es st h [] ∙ k, ← h.of_fired, m) refl;
+  stands = λ es st h s. idle_stands leg (marks q) now es st h true [] leg.deadline leg.fired (rw (fires_is leg (marks q) now es st h [] ∙ k, ← h.of_fired, m) refl) refl h.of_deadline h.of_fired;
+  answer = λ es st h s. rw (fires_is leg (marks q) now es st h [] ∙ k, ← h.of_fired, m) refl;
 }
 
 module _ (leg : LegValue) (q : Queue) (iq : IsQueue q) (now : ℕ) (before after : DeskValue) (failed : Bool)
     (k : is_due leg now ≡ true) (m : nat_lt leg.fired 6 ≡ true) (a : SendsAgain leg q now before after failed)
     (es : List LegEvent) (st : is_settled es ≡ true) (h : IsLegOf leg (marks q) es) (s : IsQueueOf q (stream_after es)) where
   fires_now : fires leg.ends.role es (clocked now (a.out ∷ [])) ≡ true
-  fires_now = fires_is leg q now es st h (a.out ∷ []) ∙ k
+  fires_now = fires_is leg (marks q) now es st h (a.out ∷ []) ∙ k
 
   few : nat_lt (tries leg.ends.role es) 6 ≡ true
   few = ap (λ (n : ℕ). nat_lt n 6) (sym h.of_fired) ∙ m
@@ -183,7 +191,7 @@ module _ (leg : LegValue) (q : Queue) (iq : IsQueue q) (now : ℕ) (before after
       (fired_repeats leg.ends es h.of_right (stream_after es) (extends_none (stream_after es)) (omega (arith, count, iq.limit)) (omega (arith, h.of_sent, s.sent)) (omega arith) (clocked now (a.out ∷ [])) again_is).same
 
   pub again_stands : IsLegOf (record leg { deadline = now + backoff (leg.fired + 1); fired = leg.fired + 1 }) (marks q) (clocked now (a.out ∷ []) ∷ es)
-  again_stands = clocked_stands leg q now es st h (a.out ∷ []) (now + backoff (leg.fired + 1)) (leg.fired + 1)
+  again_stands = idle_stands leg (marks q) now es st h true (a.out ∷ []) (now + backoff (leg.fired + 1)) (leg.fired + 1)
       again_is carries_still (ap (λ (n : ℕ). now + backoff (n + 1)) h.of_fired) (ap (λ (n : ℕ). n + 1) h.of_fired)
 
   given_is : answer_again leg q ≡ cond (opened leg.ends.role es && not (nat_lt (acked leg.ends.role es) (letters_sent leg.ends.role es))) answers.Probed answers.Repeated

@@ -1,6 +1,6 @@
 -- What is told never moves back.
 use Rattle.std.proofs.lemmas.Option.{none-some}
-use Rattle.std.proofs.Common.{◌≡◌, ℕ, ◌+◌, ◌-◌, ◌^◌, ◌%◌, ◌⊎◌, ◌<◌, ◌≤◌, Bool, true, false, cond, ◌&&◌, ◌||◌, List, [], ◌∷◌, ◌++◌, length, refl, sym, ◌∙◌, ap, subst, arith, inl, inr, Option, Some, None}
+use Rattle.std.proofs.Common.{◌≡◌, ℕ, ◌+◌, ◌-◌, ◌^◌, ◌%◌, ◌⊎◌, ◌<◌, ◌≤◌, Bool, true, false, cond, ◌||◌, List, [], ◌∷◌, ◌++◌, length, refl, sym, ◌∙◌, ap, subst, arith, inl, inr, Option, Some, None}
 use Rattle.std.specs.Prelude.{MatchBool, nat_lt}
 use Rattle.std.specs.Option.{option_or, is_some}
 use Rattle.std.proofs.lemmas.Bool.{cases_lt, cases_Bool, le-ltb, or_parts, true≢false, false≢true}
@@ -9,16 +9,15 @@ use Rattle.cf_stream.proofs.Taken.{same_taken, some_taken, taken_extends}
 use Rattle.cf_stream.specs.FirstCopy.{IsTaken, Offer, first_copy, offered}
 use Rattle.cf_stream.specs.Position.{place_or_zero, position, sequence_number}
 use Rattle.cf_stream.specs.Stream.{End, Letter, Stream, letter_count, no_letters}
-use Rattle.cf_leg.proofs.Events.{greeting_right, open_is_greeted, option_or_none}
+use Rattle.cf_leg.proofs.Events.{cut_as, fired_as, greeting_right, open_is_greeted, option_or_none}
 use Rattle.cf_leg.proofs.Speech.{position_ahead, told_segment}
 use Rattle.cf_leg.proofs.Spoken.{told_said}
 use Rattle.cf_leg.proofs.Streams.{count_grows}
-use Rattle.cf_leg.specs.Emits.{AllRight, EndsBy, Greets, IsGreeting, IsRight, SpeaksOpen, again, cut_packet, fired_at, peer_mss, piece, repeat_open, repeats, rst, send_mss, syn_ack_for, to_tell, way_of}
+use Rattle.cf_leg.specs.Emits.{AllRight, EndsBy, Greets, IsGreeting, IsRight, SpeaksOpen, cut_packet, fired_at, peer_mss, piece, repeat_open, rst, send_mss, syn_ack_for, to_tell, way_of}
 use Rattle.cf_leg.specs.Event.{Came, Nothing, Greeting, Packet, Ending, Unspoken, Spoke, Cut, LegEvent, greeted_by, said_by, stream_after}
 use Rattle.cf_leg.specs.Heard.{acked, counts, end_state, offers, offers_by, opened, opens, owed, shown, text_place}
 use Rattle.cf_leg.specs.LegValue.{first_told}
 use Rattle.cf_leg.specs.Segment.{letters_in, segment}
-use Rattle.cf_leg.specs.Timer.{fires, tries}
 use Rattle.cf_leg.specs.Told.{greeting, greeting_in, is_greeted, letters_sent, letters_sent_at, own_number, peer_number, told, told_at, told_by, told_by_all}
 use Rattle.cf_leg.specs.declared.ends.Ends.{Ends}
 use Rattle.cf_leg.specs.declared.ends.Role.{Role}
@@ -78,21 +77,11 @@ module _ (ends : Ends) (es : List LegEvent) (all : AllRight ends es) (h : TellsU
       by false = of ((own_number ends.role es + acked ends.role es) % 2 ^ 32) no_letters
 
   pub fired_tells : (e : LegEvent) → e.fired ≡ fired_at ends es e → told_at ends.role es e ≡ told ends.role es
-  fired_tells e f = ap (λ (ps : List PacketValue). told_by_all (peer_number ends.role es) (told ends.role es) ps) f ∙ by (fires ends.role es e && nat_lt (tries ends.role es) 6)
-    where
-      first : opened ends.role es ≡ false → (g : Option PacketValue) → greeting es ≡ g → told_by_all (peer_number ends.role es) (told ends.role es) (again g) ≡ told ends.role es
-      first o None k = refl
-      first o (Some p) k =
-          (let t = h.first o (ap is_some k) in
-          greeting_tells ends ends.role es p (told ends.role es) (greeting_right ends es all p k) (ap (λ (u : Advertised). u.base) t ∙ first_base ends.role) (λ _. inr t) ∙ sym t)
-
-      of : (b : Bool) → opened ends.role es ≡ b → told_by_all (peer_number ends.role es) (told ends.role es) (cond b (repeat_open ends es ∷ []) (again (greeting es))) ≡ told ends.role es
-      of true o = open_tells
-      of false o = first o (greeting es) refl
-
-      by : (b : Bool) → told_by_all (peer_number ends.role es) (told ends.role es) (cond b (repeats ends es) []) ≡ told ends.role es
-      by true = of (opened ends.role es) refl
-      by false = refl
+  fired_tells e f = ap (λ (ps : List PacketValue). told_by_all (peer_number ends.role es) (told ends.role es) ps) f
+      ∙ fired_as (λ ps. told_by_all (peer_number ends.role es) (told ends.role es) ps ≡ told ends.role es) ends es e refl
+      (λ p o k. (let t = h.first o (ap is_some k) in
+      greeting_tells ends ends.role es p (told ends.role es) (greeting_right ends es all p k) (ap (λ (u : Advertised). u.base) t ∙ first_base ends.role) (λ _. inr t) ∙ sym t))
+      (λ o. open_tells)
 
 -- ---- the packet half
 some_last : (o : Option PacketValue) (p : PacketValue) → is_some (option_or o (Some p)) ≡ true
@@ -100,16 +89,7 @@ some_last None p = refl
 some_last (Some q) p = refl
 
 cut_tells : (ends : Ends) (es : List LegEvent) (from count : ℕ) (r : Role) (other : ℕ) (t : Advertised) → told_by other t (cut_packet ends es from count r) ≡ t
-cut_tells ends es from count (role.Active own) other t = by (opened ends.role es)
-  where
-    by : (b : Bool) → told_by other t (cond b (rst ends (sequence_number own from) (sequence_number (peer_number ends.role es) count) 20) (rst ends (sequence_number own 0) 0 4)) ≡ t
-    by true = refl
-    by false = refl
-cut_tells ends es from count (role.Passive n mss) other t = by (is_greeted es)
-  where
-    by : (b : Bool) → told_by other t (cond b (rst ends (sequence_number (own_number ends.role es) from) (sequence_number n count) 20) (rst ends 0 (sequence_number n 0) 20)) ≡ t
-    by true = refl
-    by false = refl
+cut_tells ends es from count r other t = cut_as (λ p. told_by other t p ≡ t) ends es from count r (λ n a. refl) (λ n. refl)
 
 option_or_some : (o : Option Letter) (x : Option Letter) (l : Letter) → o ≡ Some l → option_or o x ≡ Some l
 option_or_some o x l e = ap (λ (y : Option Letter). option_or y x) e

@@ -1,13 +1,15 @@
 -- What of a list of events does not depend on how the last one ends, and what an event in which nothing came leaves.
 use Rattle.std.proofs.Common.{◌≡◌, ℕ, ◌≤◌, max, Bool, true, false, cond, ◌&&◌, ◌||◌, List, [], ◌∷◌, refl, sym, ◌∙◌, ap, not, subst, arith, Option, Some, None, inl, inr, ◌+◌, length}
-use Rattle.std.proofs.lemmas.Bool.{cases_Bool, true≢false, false≢true}
+use Rattle.std.proofs.lemmas.Bool.{and_right, cases_Bool, cond_both, true≢false, false≢true}
+use Rattle.std.proofs.lemmas.Bool.Decides.{nat_tests}
+use Rattle.std.specs.Prelude.{nat_lt}
 use Rattle.std.specs.Option.{option_or, is_some}
 use Rattle.cf_packet.specs.Packet.{PacketValue}
 use Rattle.std.proofs.lemmas.Option.{same_Some}
 use Rattle.cf_rebuild.specs.ReceiveWindow.{base_of}
 use Rattle.cf_stream.specs.Stream.{letter_count}
 use Rattle.cf_leg.specs.LegValue.{IsLegOf, LegValue, Marks, is_open, phase_of}
-use Rattle.cf_leg.specs.Emits.{AllRight, Greets, IsGreeting, peer_mss}
+use Rattle.cf_leg.specs.Emits.{AllRight, Greets, IsGreeting, again, cut_packet, fired_at, peer_mss, repeat_open, rst}
 use Rattle.cf_stream.specs.Position.{place_or_zero}
 use Rattle.cf_leg.specs.declared.ends.Ends.{Ends}
 use Rattle.cf_leg.specs.Event.{Came, Nothing, Greeting, Packet, Ending, LegEvent, greeted_by}
@@ -112,3 +114,25 @@ acked_grows at (Packet p) before = by (counts at p)
     by : (b : Bool) → before ≤ cond b (max before (place_or_zero (ack_place at p))) before
     by true = omega arith
     by false = omega arith
+
+-- ---- what was open or had greeted before arms nothing
+pub arms_nothing : (o0 g0 : Bool) (a a0 n : ℕ) → a0 ≤ a → (o0 ≡ false → g0 ≡ true) → (nat_lt a n && not (cond o0 (nat_lt a0 n) g0)) ≡ false
+arms_nothing true g0 a a0 n l k = grind (arith, nat_tests, l)
+arms_nothing false g0 a a0 n l k = rw (k refl) (and_right (nat_lt a n) false refl)
+
+-- ---- what an end sends, case by case
+
+-- a firing sends nothing, the greeting again, or the repeat of an open end
+pub fired_as : (P : List PacketValue → Type 0) (ends : Ends) (es : List LegEvent) (e : LegEvent) → P []
+    → ((p : PacketValue) → opened ends.role es ≡ false → greeting es ≡ Some p → P (p ∷ [])) → (opened ends.role es ≡ true → P (repeat_open ends es ∷ [])) → P (fired_at ends es e)
+fired_as P ends es e none first repeat = cond_both _ _ _ P (λ _. cond_both _ _ _ P repeat (λ o. by o (greeting es) refl)) (λ _. none)
+  where
+    by : opened ends.role es ≡ false → (g : Option PacketValue) → greeting es ≡ g → P (again g)
+    by o None k = none
+    by o (Some p) k = first p o k
+
+-- a cut sends an RST, with or without an acknowledgment
+pub cut_as : (P : PacketValue → Type 0) (ends : Ends) (es : List LegEvent) (from count : ℕ) (r : Role)
+    → ((number ack : ℕ) → P (rst ends number ack 20)) → ((number : ℕ) → P (rst ends number 0 4)) → P (cut_packet ends es from count r)
+cut_as P ends es from count (role.Active own) f g = cond_both _ _ _ P (λ _. f _ _) (λ _. g _)
+cut_as P ends es from count (role.Passive other mss) f g = cond_both _ _ _ P (λ _. f _ _) (λ _. f _ _)

@@ -4,7 +4,7 @@ use Rattle.std.proofs.Common.{◌≡◌, ℕ, ◌+◌, ◌<◌, ◌≤◌, max, 
 use Rattle.std.specs.Prelude.{nat_lt, int_le, ◌≤ℤ◌}
 use Rattle.std.proofs.lemmas.Int.{ints}
 use Rattle.std.specs.Option.{option_or, is_some}
-use Rattle.std.proofs.lemmas.Bool.{true≢false, false≢true, ltb-true, ltb-false, and_parts, or_left, or_parts}
+use Rattle.std.proofs.lemmas.Bool.{true≢false, false≢true, and_parts, or_left, or_parts}
 use Rattle.cf_outq.specs.SendQueue.{Queue}
 use Rattle.cf_packet.specs.Packet.{PacketValue}
 use Rattle.cf_rebuild.specs.ReceiveWindow.{Window}
@@ -14,7 +14,7 @@ use Rattle.cf_stream.specs.Position.{place_or_zero}
 use Rattle.cf_stream.specs.Stream.{letter_count}
 use Rattle.cf_leg.proofs.Clocked.{own_idle, peer_idle, mss_idle, greeted_idle, armed_idle}
 use Rattle.cf_leg.proofs.Counts.{counts_is}
-use Rattle.cf_leg.proofs.Events.{and_not, open_is_greeted, acked_grows, option_or_none, or_cases, opens_greeted, phase_is_open}
+use Rattle.cf_leg.proofs.Events.{and_not, arms_nothing, open_is_greeted, acked_grows, option_or_none, or_cases, opens_greeted, phase_is_open}
 use Rattle.cf_leg.proofs.Phases.{active_opened, open_opens_not, first_active}
 use Rattle.cf_leg.specs.Calls.{Counts, Heard, end_state_of, is_greeted_phase, leg_opened, queue_opened, leg_counted, queue_counted, other_by, mss_by, edge_by, rises_by}
 use Rattle.cf_leg.specs.Emits.{peer_mss, send_mss, mss_in}
@@ -111,18 +111,7 @@ edge_heard (role.Passive other mss) true x before window count k p w = rw (k ref
 -- ---- a packet arms nothing
 pub no_arming : (o o0 g : Bool) (a a0 n : ℕ) → a0 ≤ a → (o0 ≡ true → o ≡ true) → (o ≡ true → o0 ≡ false → g ≡ true)
     → (cond o (nat_lt a n) g && not (cond o0 (nat_lt a0 n) g)) ≡ false
-no_arming true true g a a0 n l m k = by (nat_lt a n) (nat_lt a0 n) refl refl
-  where
-    by : (x y : Bool) → nat_lt a n ≡ x → nat_lt a0 n ≡ y → (x && not y) ≡ false
-    by true true s t = refl
-    by true false s t = absurd (omega (arith, ltb-true a n s, ltb-false a0 n t, l))
-    by false y s t = refl
-no_arming true false g a a0 n l m k = by (nat_lt a n) g (k refl refl)
-  where
-    by : (x y : Bool) → y ≡ true → (x && not y) ≡ false
-    by true true s = refl
-    by true false s = absurd (false≢true s)
-    by false y s = refl
+no_arming true o0 g a a0 n l m k = arms_nothing o0 g a a0 n l (k refl)
 no_arming false true g a a0 n l m k = absurd (false≢true (m refl))
 no_arming false false g a a0 n l m k = and_not g
 

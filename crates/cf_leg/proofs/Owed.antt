@@ -1,18 +1,18 @@
 -- One segment without letters goes out where one is owed and no letter goes out.
-use Rattle.std.proofs.Common.{◌≡◌, ℕ, ◌+◌, ◌<◌, min, Bool, true, false, cond, ◌&&◌, ◌||◌, List, [], ◌∷◌, refl, sym, ◌∙◌, ap, subst, arith}
-use Rattle.std.specs.Prelude.{MatchBool, ◌==◌, nat_lt}
-use Rattle.std.proofs.lemmas.Bool.{ltb-true, ne_eqb}
+use Rattle.std.proofs.Common.{◌≡◌, ℕ, ◌+◌, ◌<◌, min, Bool, true, false, cond, ◌&&◌, ◌||◌, List, [], ◌∷◌, refl, ◌∙◌, ap, subst, arith}
+use Rattle.std.specs.Prelude.{MatchBool, ◌==◌}
+use Rattle.std.proofs.lemmas.Bool.{ne_eqb}
 use Rattle.cf_packet.specs.Packet.{PacketValue}
 use Rattle.cf_stream.proofs.Taken.{same_taken}
 use Rattle.cf_stream.specs.FirstCopy.{IsTaken, first_copy}
 use Rattle.cf_stream.specs.Position.{sequence_number}
-use Rattle.cf_stream.specs.Stream.{Stream, letter_count, no_letters}
+use Rattle.cf_stream.specs.Stream.{Stream, letter_count}
 use Rattle.cf_leg.proofs.Saying.{piece_some, send_mss_some}
-use Rattle.cf_leg.proofs.Speech.{segment_letters}
+use Rattle.cf_leg.proofs.Speech.{says_as, segment_letters}
 use Rattle.cf_leg.specs.Emits.{IsRight, Pieces, SaysIf, SpeaksOpen, differs, empties, letters_of_all, peer_mss, piece, send_mss, to_tell, way_of}
 use Rattle.cf_leg.specs.Event.{Spoke, LegEvent}
 use Rattle.cf_leg.specs.Heard.{offers, opened, owed, shown}
-use Rattle.cf_leg.specs.Segment.{letters_of, segment}
+use Rattle.cf_leg.specs.Segment.{letters_of}
 use Rattle.cf_leg.specs.Told.{letters_sent_at, told_at}
 use Rattle.cf_leg.specs.declared.ends.Ends.{Ends}
 use Rattle.cf_leg.specs.declared.ends.Advertised.{Advertised}
@@ -36,19 +36,12 @@ module _ (way : Way) (t : Advertised) (s : Stream) (mss edge : ℕ) (m : 0 < mss
       omega (arith, count, some)
 
   said_once : (due : Bool) (from : ℕ) (outs : List PacketValue) → SaysIf way t due s mss edge from outs → empties outs ≡ cond ((letters_of_all outs == 0) && due) 1 0
-  said_once due from outs h = by (nat_lt from (min edge (letter_count s))) refl h
-    where
-      of : (d : Bool) → empties (cond d (segment way t (sequence_number way.own from) no_letters ∷ []) []) ≡ cond ((letters_of_all (cond d (segment way t (sequence_number way.own from) no_letters ∷ []) []) == 0) && d) 1 0
-      of true = refl
-      of false = refl
-
-      by : (b : Bool) → nat_lt from (min edge (letter_count s)) ≡ b
-          → MatchBool b (Pieces way t s mss edge from outs) (outs ≡ cond due (segment way t (sequence_number way.own from) no_letters ∷ []) []) → empties outs ≡ cond ((letters_of_all outs == 0) && due) 1 0
-      by true k p =
-          (let carry = pieces_carry from outs (ltb-true from (min edge (letter_count s)) k) p in
-          let none : (letters_of_all outs == 0) ≡ false = ne_eqb (letters_of_all outs) 0 (λ z. omega (arith, carry, z)) in
-          rw none (pieces_full from outs p))
-      by false k e = subst (λ (ps : List PacketValue). empties ps ≡ cond ((letters_of_all ps == 0) && due) 1 0) (sym e) (of due)
+  said_once due from outs = says_as way t due s mss edge from outs (λ ps. empties ps ≡ cond ((letters_of_all ps == 0) && due) 1 0)
+      (λ below p.
+      (let carry = pieces_carry from outs below p in
+      let none : (letters_of_all outs == 0) ≡ false = ne_eqb (letters_of_all outs) 0 (λ z. omega (arith, carry, z)) in
+      rw none (pieces_full from outs p)))
+      (λ past d. rw d refl) (λ past d. rw d refl)
 
 pub owed_once : (ends : Ends) (es : List LegEvent) (e : LegEvent) (whole : Stream) (roomy : Bool) (outs : List PacketValue) (taken : Stream)
     → IsRight ends es (record e { ending = Spoke whole roomy outs }) → opened ends.role (record e { ending = Spoke whole roomy outs } ∷ es) ≡ true

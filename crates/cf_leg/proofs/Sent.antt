@@ -1,22 +1,21 @@
 -- What the segments of one event carry, and how many letters have gone out after it.
 use Rattle.std.proofs.lemmas.Option.{none-some}
-use Rattle.std.proofs.Common.{◌≡◌, ℕ, suc, ◌+◌, ◌%◌, ◌^◌, ◌<◌, ◌≤◌, min, max, Bool, true, false, cond, ◌&&◌, List, [], ◌∷◌, ◌++◌, refl, sym, ◌∙◌, ap, subst, arith, ℤ, pos, negsuc, inl, inr, Option, Some, None, ◌+ℤ◌}
+use Rattle.std.proofs.Common.{◌≡◌, ℕ, suc, ◌+◌, ◌%◌, ◌^◌, ◌<◌, ◌≤◌, min, max, Bool, true, false, cond, List, [], ◌∷◌, ◌++◌, refl, sym, ◌∙◌, ap, subst, arith, ℤ, pos, negsuc, inl, inr, Some, ◌+ℤ◌}
 use Rattle.std.specs.Prelude.{MatchBool, ◌==◌, nat_lt}
 use Rattle.std.proofs.lemmas.Bool.{cases_Bool, ltb-true}
 use Rattle.cf_packet.specs.Packet.{PacketValue}
 use Rattle.cf_stream.specs.Position.{place_or_zero, position, sequence_number}
 use Rattle.cf_stream.specs.Stream.{Stream, Letter, Carries, Extends, letter_count, letter_from, no_letters}
 use Rattle.cf_leg.proofs.Carried.{at_inside, carries_none, carry_piece, carry_said, from_inside, said_some, some_right}
-use Rattle.cf_leg.proofs.Events.{greeting_right, option_or_none}
+use Rattle.cf_leg.proofs.Events.{cut_as, fired_as, greeting_right, option_or_none}
 use Rattle.cf_leg.proofs.Reach.{carried_after}
 use Rattle.cf_leg.proofs.Speech.{piece_short, position_behind, segment_letters, segment_stream}
-use Rattle.cf_leg.specs.Emits.{AllRight, EndsBy, Greets, IsGreeting, IsRight, SpeaksOpen, again, cut_packet, fired_at, peer_mss, piece, repeat_open, repeats, rst, send_mss, way_of}
+use Rattle.cf_leg.specs.Emits.{AllRight, EndsBy, Greets, IsGreeting, IsRight, SpeaksOpen, cut_packet, fired_at, peer_mss, piece, repeat_open, rst, send_mss, way_of}
 use Rattle.cf_leg.specs.Event.{Came, Nothing, Greeting, Packet, Ending, Unspoken, Spoke, Cut, LegEvent, greeted_by, said_by, sent_in, stream_after, stream_at}
 use Rattle.cf_leg.specs.Heard.{acked, opened, shown}
 use Rattle.cf_leg.specs.OneStream.{CarryAll, first_in, letter_in}
 use Rattle.cf_leg.specs.Segment.{letters_in, segment}
-use Rattle.cf_leg.specs.Timer.{fires, tries}
-use Rattle.cf_leg.specs.Told.{greeting, is_greeted, letters_sent, letters_sent_at, letters_sent_by, letters_sent_by_all, own_number, peer_number, told}
+use Rattle.cf_leg.specs.Told.{letters_sent, letters_sent_at, letters_sent_by, letters_sent_by_all, own_number, told}
 use Rattle.cf_leg.specs.declared.ends.Ends.{Ends}
 use Rattle.cf_leg.specs.declared.ends.Role.{Role}
 use Rattle.cf_leg.specs.declared.ends.Role.TheVariants as role
@@ -84,16 +83,7 @@ greeting_empty ends (role.Active own) p h = ap letters_in h
 greeting_empty ends (role.Passive other mss) p h = ap letters_in h
 
 cut_empty : (ends : Ends) (es : List LegEvent) (from count : ℕ) (r : Role) → letters_in (cut_packet ends es from count r) ≡ no_letters
-cut_empty ends es from count (role.Active own) = by (opened ends.role es)
-  where
-    by : (b : Bool) → letters_in (cond b (rst ends (sequence_number own from) (sequence_number (peer_number ends.role es) count) 20) (rst ends (sequence_number own 0) 0 4)) ≡ no_letters
-    by true = refl
-    by false = refl
-cut_empty ends es from count (role.Passive other mss) = by (is_greeted es)
-  where
-    by : (b : Bool) → letters_in (cond b (rst ends (sequence_number (own_number ends.role es) from) (sequence_number other count) 20) (rst ends 0 (sequence_number other 0) 20)) ≡ no_letters
-    by true = refl
-    by false = refl
+cut_empty ends es from count r = cut_as (λ p. letters_in p ≡ no_letters) ends es from count r (λ n a. refl) (λ n. refl)
 
 -- ---- a firing
 module _ (ends : Ends) (es : List LegEvent) (all : AllRight ends es) (whole : Stream) (x : Extends (stream_after es) whole) (limit : letter_count whole ≤ 2 ^ 31)
@@ -141,19 +131,12 @@ module _ (ends : Ends) (es : List LegEvent) (all : AllRight ends es) (whole : St
           })
 
   pub fired_repeats : (e : LegEvent) → e.fired ≡ fired_at ends es e → Repeats whole (own_number ends.role es) (letters_sent ends.role es) e.fired
-  fired_repeats e f = subst (λ (ps : List PacketValue). Repeats whole (own_number ends.role es) (letters_sent ends.role es) ps) (sym f) (by (fires ends.role es e && nat_lt (tries ends.role es) 6))
-    where
-      first : (g : Option PacketValue) → greeting es ≡ g → Repeats whole (own_number ends.role es) (letters_sent ends.role es) (again g)
-      first None k = repeats_none whole (own_number ends.role es) (letters_sent ends.role es)
-      first (Some p) k = repeats_empty whole (own_number ends.role es) (letters_sent ends.role es) p (greeting_empty ends ends.role p (greeting_right ends es all p k))
-
-      of : (b : Bool) → Repeats whole (own_number ends.role es) (letters_sent ends.role es) (cond b (repeat_open ends es ∷ []) (again (greeting es)))
-      of true = open_repeats
-      of false = first (greeting es) refl
-
-      by : (b : Bool) → Repeats whole (own_number ends.role es) (letters_sent ends.role es) (cond b (repeats ends es) [])
-      by true = of (opened ends.role es)
-      by false = repeats_none whole (own_number ends.role es) (letters_sent ends.role es)
+  fired_repeats e f =
+      let own = own_number ends.role es in
+      let sent = letters_sent ends.role es in
+      subst (λ (ps : List PacketValue). Repeats whole own sent ps) (sym f)
+      (fired_as (λ ps. Repeats whole own sent ps) ends es e (repeats_none whole own sent)
+      (λ p o k. repeats_empty whole own sent p (greeting_empty ends ends.role p (greeting_right ends es all p k))) (λ o. open_repeats))
 
 -- ---- the packet half
 module _ (ends : Ends) (es : List LegEvent) (e : LegEvent) (whole : Stream) where

@@ -1,12 +1,12 @@
 -- What segments tell and carry, read again.
-use Rattle.std.proofs.Common.{◌≡◌, ℕ, ◌+◌, ◌-◌, ◌/◌, ◌%◌, ◌^◌, ◌<◌, ◌≤◌, min, max, Bool, true, false, cond, not, ◌&&◌, List, [], ◌∷◌, length, refl, ◌∙◌, ap, arith, pos, ◌+ℤ◌, ◌-ℤ◌, inl, inr, length-take, length-drop}
-use Rattle.std.specs.Prelude.{◌==◌, nat_lt}
-use Rattle.std.proofs.lemmas.Bool.{and_parts, cases_Bool, eqb-true, ltb-true, lt-ltb, le-ltb}
+use Rattle.std.proofs.Common.{◌≡◌, ℕ, ◌+◌, ◌-◌, ◌/◌, ◌%◌, ◌^◌, ◌<◌, ◌≤◌, min, max, Bool, true, false, cond, not, ◌&&◌, List, [], ◌∷◌, length, refl, ◌∙◌, ap, arith, pos, ◌+ℤ◌, ◌-ℤ◌, inl, inr, length-take, length-drop, subst, sym}
+use Rattle.std.specs.Prelude.{MatchBool, ◌==◌, nat_lt}
+use Rattle.std.proofs.lemmas.Bool.{and_parts, cases_Bool, cond_both, eqb-true, ltb-false, ltb-true, lt-ltb, le-ltb}
 use Rattle.std.proofs.lemmas.Int.{ints}
 use Rattle.cf_packet.specs.Packet.{PacketValue}
 use Rattle.cf_stream.specs.Position.{place_or_zero, sequence_number, position, signed32}
-use Rattle.cf_stream.specs.Stream.{Stream, letter_count}
-use Rattle.cf_leg.specs.Emits.{Pieces, piece}
+use Rattle.cf_stream.specs.Stream.{Stream, letter_count, no_letters}
+use Rattle.cf_leg.specs.Emits.{Pieces, SaysIf, piece}
 use Rattle.cf_leg.specs.Segment.{segment, has_ack, has_rst, letters_in, letters_of}
 use Rattle.cf_leg.specs.Told.{told_by, told_by_all, letters_sent_by, letters_sent_by_all}
 use Rattle.cf_leg.specs.declared.ends.Advertised.{Advertised}
@@ -122,3 +122,15 @@ module _ (way : Way) (t : Advertised) (whole : Stream) (mss edge : ℕ) where
       rw h.1 (carried_segment way t (sequence_number way.own from) (piece whole mss edge from) from refl) in
       let short = piece_short whole mss edge from h.0 in
       rw one (carried_pieces (from + letter_count (piece whole mss edge from)) ps h.2 ∙ omega (arith, short, h.0))
+
+-- ---- a speech is the pieces of what is left, or, where nothing is, a segment without letters or none
+pub says_as : (way : Way) (t : Advertised) (due : Bool) (whole : Stream) (mss edge from : ℕ) (outs : List PacketValue) (P : List PacketValue → Type 0)
+    → (from < min edge (letter_count whole) → Pieces way t whole mss edge from outs → P outs)
+    → (min edge (letter_count whole) ≤ from → due ≡ true → P (segment way t (sequence_number way.own from) no_letters ∷ []))
+    → (min edge (letter_count whole) ≤ from → due ≡ false → P []) → SaysIf way t due whole mss edge from outs → P outs
+says_as way t due whole mss edge from outs P some one none h = by (nat_lt from (min edge (letter_count whole))) refl h
+  where
+    by : (x : Bool) → nat_lt from (min edge (letter_count whole)) ≡ x
+        → MatchBool x (Pieces way t whole mss edge from outs) (outs ≡ cond due (segment way t (sequence_number way.own from) no_letters ∷ []) []) → P outs
+    by true k p = some (ltb-true from (min edge (letter_count whole)) k) p
+    by false k e = (let past = ltb-false from (min edge (letter_count whole)) k in subst P (sym e) (cond_both due _ _ P (one past) (none past)))

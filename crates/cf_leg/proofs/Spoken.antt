@@ -1,7 +1,7 @@
 -- A leg that spoke stands for the events with the speech.
 use Rattle.std.proofs.Common.{◌≡◌, ℕ, ◌+◌, ◌^◌, ◌<◌, ◌≤◌, min, max, Bool, true, false, cond, not, ◌&&◌, ◌||◌, List, [], ◌∷◌, ◌++◌, Option, refl, sym, ◌∙◌, ap, subst, arith, inl, inr}
 use Rattle.std.specs.Prelude.{MatchBool, nat_lt, ◌==◌}
-use Rattle.std.proofs.lemmas.Bool.{cases_Bool, not-false, or_parts, true≢false, false≢true, eqb-true, ltb-true, ltb-false}
+use Rattle.std.proofs.lemmas.Bool.{cases_Bool, not-false, or_parts, true≢false, false≢true, eqb-true}
 use Rattle.cf_outq.specs.SendQueue.{Queue, queue_length}
 use Rattle.cf_outq.specs.SendQueue.{IsQueueOf}
 use Rattle.cf_packet.specs.Packet.{PacketValue}
@@ -13,15 +13,14 @@ use Rattle.cf_leg.specs.Calls.{AddressBreaks, Addressed, SpeakingBreaks, Spoken,
 use Rattle.cf_stream.specs.Position.{sequence_number}
 use Rattle.cf_stream.specs.Stream.{Stream, letter_count, no_letters}
 use Rattle.cf_leg.proofs.Reach.{carried_after}
-use Rattle.cf_leg.proofs.Events.{open_is, taken_is, opens_greeted, or_cases, own_same, peer_same, mss_same, open_is_greeted, no_greeting, acked_grows}
+use Rattle.cf_leg.proofs.Events.{arms_nothing, open_is, taken_is, opens_greeted, or_cases, own_same, peer_same, mss_same, open_is_greeted, no_greeting, acked_grows}
 use Rattle.cf_leg.proofs.Broken.{broken_before}
 use Rattle.cf_leg.proofs.Pieces.{count_is}
-use Rattle.cf_leg.proofs.Speech.{told_pieces, told_segment}
-use Rattle.cf_leg.specs.Emits.{Pieces, SaysIf, SpeaksOpen, differs, to_tell, send_mss, peer_mss}
+use Rattle.cf_leg.proofs.Speech.{says_as, told_pieces, told_segment}
+use Rattle.cf_leg.specs.Emits.{SaysIf, SpeaksOpen, differs, to_tell, send_mss, peer_mss}
 use Rattle.cf_leg.specs.Event.{Unspoken, Spoke, LegEvent, moment, greeted_by, stream_after}
 use Rattle.cf_leg.specs.Heard.{opened, opens, end_state, counted, acked, offers, owed}
 use Rattle.cf_leg.specs.Timer.{armed, due, tries, rises, has_fired, second, backoff}
-use Rattle.cf_leg.specs.Segment.{segment}
 use Rattle.cf_leg.specs.LegValue.{LegValue, IsLeg, IsLegOf, first_told, arms, is_open, marks, phase_of, told_of, way_at}
 use Rattle.cf_leg.specs.Told.{told, told_at, letters_sent, letters_sent_at, told_by_all, letters_sent_by_all, is_greeted, own_number, peer_number}
 use Rattle.cf_leg.specs.declared.ends.Phase.{Phase}
@@ -40,17 +39,10 @@ same_told t u h =
 module _ (way : Way) (b t : Advertised) (owes : Bool) (whole : Stream) (mss shown sent : ℕ) (outs : List PacketValue)
     (low : b.base ≤ t.base) (high : t.base < b.base + 2 ^ 31) (e : t.base ≤ t.edge) where
   pub told_said : SaysIf way t (owes || differs b t) whole mss shown sent outs → told_by_all way.other b outs ≡ t
-  told_said h = by (nat_lt sent (min shown (letter_count whole))) refl h
-    where
-      after : (d : Bool) → (owes || differs b t) ≡ d → told_by_all way.other b (cond d (segment way t (sequence_number way.own sent) no_letters ∷ []) []) ≡ t
-      after true k = told_segment way t (sequence_number way.own sent) no_letters b low high e
-      after false k = same_told b t (or_parts owes (differs b t) k).1
-
-      by : (x : Bool) → nat_lt sent (min shown (letter_count whole)) ≡ x
-          → MatchBool x (Pieces way t whole mss shown sent outs) (outs ≡ cond (owes || differs b t) (segment way t (sequence_number way.own sent) no_letters ∷ []) [])
-          → told_by_all way.other b outs ≡ t
-      by true k p = told_pieces way t whole mss shown e b sent outs low high (ltb-true sent (min shown (letter_count whole)) k) p
-      by false k p = ap (λ (ps : List PacketValue). told_by_all way.other b ps) p ∙ after (owes || differs b t) refl
+  told_said = says_as way t (owes || differs b t) whole mss shown sent outs (λ ps. told_by_all way.other b ps ≡ t)
+      (λ below p. told_pieces way t whole mss shown e b sent outs low high below p)
+      (λ past d. told_segment way t (sequence_number way.own sent) no_letters b low high e)
+      (λ past d. same_told b t (or_parts owes (differs b t) d).1)
 
 -- ---- what is to be told
 module _ (leg : LegValue) (i : IsLeg leg) (w : IsWindow leg.window) (roomy : Bool) where
@@ -88,18 +80,7 @@ deadline_is false false false rises soon later k = refl
 pub still_arms : (o o0 g g0 : Bool) (a a0 n n0 : ℕ) → a0 ≤ a → (o ≡ true → o0 ≡ false → g0 ≡ true)
     → (cond o (nat_lt a n0) g && not (cond o0 (nat_lt a0 n0) g0)) ≡ true → (cond o (nat_lt a n) g && not (cond o0 (nat_lt a0 n0) g0)) ≡ true
 still_arms false o0 g g0 a a0 n n0 l k h = h
-still_arms true false g g0 a a0 n n0 l k h = absurd (by g0 (k refl refl) (nat_lt a n0) h)
-  where
-    by : (x : Bool) → x ≡ true → (y : Bool) → (y && not x) ≡ true → ⊥
-    by true e true f = false≢true f
-    by true e false f = false≢true f
-    by false e y f = false≢true e
-still_arms true true g g0 a a0 n n0 l k h = absurd (by (nat_lt a n0) (nat_lt a0 n0) refl refl h)
-  where
-    by : (x y : Bool) → nat_lt a n0 ≡ x → nat_lt a0 n0 ≡ y → (x && not y) ≡ true → ⊥
-    by true true e f m = false≢true m
-    by true false e f m = omega (arith, ltb-true a n0 e, ltb-false a0 n0 f, l)
-    by false y e f m = false≢true m
+still_arms true o0 g g0 a a0 n n0 l k h = absurd (true≢false (sym h ∙ arms_nothing o0 g0 a a0 n0 l (k refl)))
 
 -- ---- the step
 pub parts_told : (b n t u : ℕ) (T : Advertised) → b ≡ T.base → n ≡ T.edge → ◌≡◌ {A = Advertised} (record { base = b; edge = n }) T
