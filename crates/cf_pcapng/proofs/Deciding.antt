@@ -1,5 +1,5 @@
 -- Which of the ten tests decides.
-use Rattle.std.proofs.Common.{◌≡◌, ℕ, ◌+◌, ◌<◌, ◌≤◌, Bool, true, false, not, nat_lt, if◌then◌else◌, List, [], ◌∷◌, ◌++◌, length, take, refl, sym, ap, ◌∙◌, arith}
+use Rattle.std.proofs.Common.{◌≡◌, ℕ, ◌+◌, ◌<◌, ◌≤◌, Bool, true, false, not, nat_lt, if◌then◌else◌, List, [], ◌∷◌, ◌++◌, length, take, refl, sym, ap, ◌∙◌, subst, arith}
 use Rattle.std.proofs.lemmas.Bool.Decides.{nat_tests}
 use Rattle.std.proofs.lemmas.Grind.{take-set_at}
 use Rattle.std.proofs.Math.ListN.{set}
@@ -14,26 +14,20 @@ use Rattle.cf_pcapng.specs.declared.block.TheConstants.{REFUSED_BLOCK, REFUSED_S
 abbrev pub three : (a b c : Bool) (n p q : ℕ) → Found → Found
 three a b c n p q z = if a then Needs n else (if b then Refuses p else (if c then Refuses q else z))
 
--- none applies
-through : (a b c : Bool) (n p q l used : ℕ) (z : Found) → three a b c n p q (Is Other l) ≡ Is Other used → (l ≡ used) × (three a b c n p q z ≡ z)
-through true b c n p q l used z e = cc
-through false true c n p q l used z e = cc
-through false false true n p q l used z e = cc
-through false false false n p q l used z e = (cc, refl)
+-- octets that are refused, or too few
+abbrev pub IsStop : Found → Type 0
+IsStop (Is block used) = ⊥
+IsStop (Needs count) = Unit {0}
+IsStop (Refuses number) = Unit {0}
 
 -- one applies
-kept_needs : (a b c : Bool) (n p q l m : ℕ) (z : Found) → three a b c n p q (Is Other l) ≡ Needs m → three a b c n p q z ≡ Needs m
-kept_needs true b c n p q l m z e = e
-kept_needs false true c n p q l m z e = e
-kept_needs false false true n p q l m z e = e
-kept_needs false false false n p q l m z e = cc
+stopped : (a b c : Bool) (n p q l : ℕ) (f z : Found) → IsStop f → three a b c n p q (Is Other l) ≡ f → three a b c n p q z ≡ f
+stopped true b c n p q l f z stop e = e
+stopped false true c n p q l f z stop e = e
+stopped false false true n p q l f z stop e = e
+stopped false false false n p q l f z stop e = absurd (subst IsStop (sym e) stop)
 
-kept_refuses : (a b c : Bool) (n p q l m : ℕ) (z : Found) → three a b c n p q (Is Other l) ≡ Refuses m → three a b c n p q z ≡ Refuses m
-kept_refuses true b c n p q l m z e = e
-kept_refuses false true c n p q l m z e = e
-kept_refuses false false true n p q l m z e = e
-kept_refuses false false false n p q l m z e = cc
-
+-- none applies
 passed_by : (a b c : Bool) (n p q l used : ℕ) → three a b (not c) n p q (Is Other l) ≡ Is Other used → (a ≡ false) × (b ≡ false) × (c ≡ true) × (l ≡ used)
 passed_by true b c n p q l used e = cc
 passed_by false true c n p q l used e = cc
@@ -59,26 +53,17 @@ module _ (interfaces : List Interface) (big : Bool) (xs : List ℕ) where
       if nat_lt (length xs) told_length then Needs told_length
       else (if differs big xs then Refuses REFUSED_BLOCK else last_of interfaces big xs (kind_at big xs))
 
-  abbrev a : Bool
-  a = nat_lt (length xs) (least_told xs)
-
-  abbrev b : Bool
-  b = is_wrong_section big xs
-
-  abbrev c : Bool
-  c = not (is_allowed told_length (kind_at big xs))
-
-  pub block_needs : (m : ℕ) → size_in big xs ≡ Needs m → block_in interfaces big xs ≡ Needs m
+  pub block_stops : (f : Found) → IsStop f → size_in big xs ≡ f → block_in interfaces big xs ≡ f
   unfolding size_in block_in
-  block_needs m e = kept_needs a b c (least_told xs) REFUSED_SECTION REFUSED_BLOCK told_length m rest e
-
-  pub block_refuses : (m : ℕ) → size_in big xs ≡ Refuses m → block_in interfaces big xs ≡ Refuses m
-  unfolding size_in block_in
-  block_refuses m e = kept_refuses a b c (least_told xs) REFUSED_SECTION REFUSED_BLOCK told_length m rest e
+  block_stops f stop e =
+      stopped (nat_lt (length xs) (least_told xs)) (is_wrong_section big xs) (not (is_allowed told_length (kind_at big xs)))
+      (least_told xs) REFUSED_SECTION REFUSED_BLOCK told_length f rest stop e
 
   block_sized : (used : ℕ) → size_in big xs ≡ Is Other used → (told_length ≡ used) × (block_in interfaces big xs ≡ rest)
-  unfolding size_in block_in
-  block_sized used e = through a b c (least_told xs) REFUSED_SECTION REFUSED_BLOCK told_length used rest e
+  unfolding block_in
+  block_sized used e =
+      let (told, right, allowed, is) = passed big xs used e in
+      (is, rw (told, right, allowed) refl)
 
   pub block_cut : (used : ℕ) → size_in big xs ≡ Is Other used → length xs < used → block_in interfaces big xs ≡ Needs used
   block_cut used e l =
@@ -101,9 +86,9 @@ module _ (interfaces : List Interface) (big : Bool) (xs : List ℕ) where
   block_whole used e l d = block_there used e l ∙ rw d refl
 
 -- what a reader answers, and what it keeps
-module _ (section : Section) (xs : List ℕ) (big : Bool) (order : big ≡ order_at section.big_endian xs) where
+module _ (view section : Section) (xs : List ℕ) (big : Bool) (same : view ≡ section) (order : big ≡ order_at view.big_endian xs) where
   at : (f : Found) → block_in section.interfaces big xs ≡ f → block_at section xs ≡ f
-  at f e = ap (λ o. block_in section.interfaces o xs) (sym order) ∙ e
+  at f e = ap (λ o. block_in section.interfaces o xs) (sym (order ∙ ap (λ (s : Section). order_at s.big_endian xs) same)) ∙ e
 
   pub told_at : (f : Found) → block_in section.interfaces big xs ≡ f → answer_of f ≡ answer_of (block_at section xs)
   told_at f e = ap answer_of (sym (at f e))
@@ -111,10 +96,10 @@ module _ (section : Section) (xs : List ℕ) (big : Bool) (order : big ≡ order
   pub kept_at : (f : Found) → block_in section.interfaces big xs ≡ f → after_found section f ≡ after_found section (block_at section xs)
   kept_at f e = ap (after_found section) (sym (at f e))
 
-  pub whole_at : (interfaces : List Interface) (used : ℕ) (f : Found) → interfaces ≡ section.interfaces → Is Other used ≡ size_in big xs → used ≤ length xs →
-      differs big xs ≡ false → f ≡ last_of interfaces big xs (kind_at big xs) → f ≡ block_at section xs
-  whole_at interfaces used f same e l d is =
-      is ∙ ap (λ all. last_of all big xs (kind_at big xs)) same
+  pub whole_at : (used : ℕ) (f : Found) → Is Other used ≡ size_in big xs → used ≤ length xs →
+      differs big xs ≡ false → f ≡ last_of view.interfaces big xs (kind_at big xs) → f ≡ block_at section xs
+  whole_at used f e l d is =
+      is ∙ ap (λ (s : Section). last_of s.interfaces big xs (kind_at big xs)) same
       ∙ sym (at (last_of section.interfaces big xs (kind_at big xs)) (block_whole section.interfaces big xs used (sym e) l d))
 
 -- one interface more

@@ -1,71 +1,61 @@
 use Rattle.std.proofs.Common.{◌≡◌, ◌<◌, length, take, sym, ap, ◌∙◌, arith, length-take}
-use Rattle.cf_pcapng.specs.Block.{Needs, Refuses, block_at, order_at}
-use Rattle.cf_pcapng.specs.Section.{Section}
+use Rattle.cf_pcapng.specs.Block.{Needs, Refuses, block_at, kind_at, last_of}
 use Rattle.cf_pcapng.specs.declared.block.TheConstants.{REFUSED_BLOCK}
 use Rattle.cf_pcapng.specs.Answers.{answer_of, whole_block_value}
 use Rattle.cf_pcapng.specs.Blocks.{after_found}
-use Rattle.cf_pcapng.proofs.Deciding.{block_cut, block_differs, block_needs, block_refuses, kept_at, one_more, told_at, whole_at}
+use Rattle.cf_pcapng.proofs.Deciding.{block_cut, block_differs, block_stops, kept_at, one_more, told_at, whole_at}
 use Rattle.cf_pcapng.proofs.reader.Reader.next_block.Goals as goal
 use Rattle.cf_pcapng.proofs.reader.Reader.next_block.Goals.{After-whole_in}
 
 pub returns-in-Need-clause-found : goal.returns-in-Need-clause-found
 returns-in-Need-clause-found c =
-    let order = c.order_in-big_endian.ensures ∙ ap (λ (s : Section). order_at s.big_endian c.args.bytes.now) c.self.view_is in
-    told_at c.args.self.now c.args.bytes.now c.order_in-big_endian.result order (Needs c.in-Need.count)
-    (block_needs c.args.self.now.interfaces c.order_in-big_endian.result c.args.bytes.now c.in-Need.count (sym c.in-Need.ensures.size))
+    told_at _ c.args.self.now c.args.bytes.now c.order_in-big_endian.result c.self.view_is c.order_in-big_endian.ensures (Needs c.in-Need.count)
+    (block_stops c.args.self.now.interfaces c.order_in-big_endian.result c.args.bytes.now (Needs c.in-Need.count) tt (sym c.in-Need.ensures.size))
 
 pub returns-in-Need-clause-section : goal.returns-in-Need-clause-section
 returns-in-Need-clause-section c =
-    let order = c.order_in-big_endian.ensures ∙ ap (λ (s : Section). order_at s.big_endian c.args.bytes.now) c.self.view_is in
-    kept_at c.args.self.now c.args.bytes.now c.order_in-big_endian.result order (Needs c.in-Need.count)
-    (block_needs c.args.self.now.interfaces c.order_in-big_endian.result c.args.bytes.now c.in-Need.count (sym c.in-Need.ensures.size))
+    kept_at _ c.args.self.now c.args.bytes.now c.order_in-big_endian.result c.self.view_is c.order_in-big_endian.ensures (Needs c.in-Need.count)
+    (block_stops c.args.self.now.interfaces c.order_in-big_endian.result c.args.bytes.now (Needs c.in-Need.count) tt (sym c.in-Need.ensures.size))
 
 pub returns-in-Refused-clause-found : goal.returns-in-Refused-clause-found
 returns-in-Refused-clause-found c =
-    let order = c.order_in-big_endian.ensures ∙ ap (λ (s : Section). order_at s.big_endian c.args.bytes.now) c.self.view_is in
-    told_at c.args.self.now c.args.bytes.now c.order_in-big_endian.result order (Refuses c.in-Refused.number)
-    (block_refuses c.args.self.now.interfaces c.order_in-big_endian.result c.args.bytes.now c.in-Refused.number (sym c.in-Refused.ensures.size))
+    told_at _ c.args.self.now c.args.bytes.now c.order_in-big_endian.result c.self.view_is c.order_in-big_endian.ensures (Refuses c.in-Refused.number)
+    (block_stops c.args.self.now.interfaces c.order_in-big_endian.result c.args.bytes.now (Refuses c.in-Refused.number) tt (sym c.in-Refused.ensures.size))
 
 pub returns-in-Refused-clause-section : goal.returns-in-Refused-clause-section
 returns-in-Refused-clause-section c =
-    let order = c.order_in-big_endian.ensures ∙ ap (λ (s : Section). order_at s.big_endian c.args.bytes.now) c.self.view_is in
-    kept_at c.args.self.now c.args.bytes.now c.order_in-big_endian.result order (Refuses c.in-Refused.number)
-    (block_refuses c.args.self.now.interfaces c.order_in-big_endian.result c.args.bytes.now c.in-Refused.number (sym c.in-Refused.ensures.size))
+    kept_at _ c.args.self.now c.args.bytes.now c.order_in-big_endian.result c.self.view_is c.order_in-big_endian.ensures (Refuses c.in-Refused.number)
+    (block_stops c.args.self.now.interfaces c.order_in-big_endian.result c.args.bytes.now (Refuses c.in-Refused.number) tt (sym c.in-Refused.ensures.size))
 
 pub returns-then-bytes-used-clause-found : goal.returns-then-bytes-used-clause-found
 returns-then-bytes-used-clause-found c =
-    let order = c.order_in-big_endian.ensures ∙ ap (λ (s : Section). order_at s.big_endian c.args.bytes.now) c.self.view_is in
-    told_at c.args.self.now c.args.bytes.now c.order_in-big_endian.result order (Needs c.in-Size.used)
+    told_at _ c.args.self.now c.args.bytes.now c.order_in-big_endian.result c.self.view_is c.order_in-big_endian.ensures (Needs c.in-Size.used)
     (block_cut c.args.self.now.interfaces c.order_in-big_endian.result c.args.bytes.now c.in-Size.used (sym c.in-Size.ensures.size) c.if-bytes-used.true)
 
 pub returns-then-bytes-used-clause-section : goal.returns-then-bytes-used-clause-section
 returns-then-bytes-used-clause-section c =
-    let order = c.order_in-big_endian.ensures ∙ ap (λ (s : Section). order_at s.big_endian c.args.bytes.now) c.self.view_is in
-    kept_at c.args.self.now c.args.bytes.now c.order_in-big_endian.result order (Needs c.in-Size.used)
+    kept_at _ c.args.self.now c.args.bytes.now c.order_in-big_endian.result c.self.view_is c.order_in-big_endian.ensures (Needs c.in-Size.used)
     (block_cut c.args.self.now.interfaces c.order_in-big_endian.result c.args.bytes.now c.in-Size.used (sym c.in-Size.ensures.size) c.if-bytes-used.true)
 
 pub returns-then-differs-clause-found : goal.returns-then-differs-clause-found
 returns-then-differs-clause-found c =
-    let order = c.order_in-big_endian.ensures ∙ ap (λ (s : Section). order_at s.big_endian c.args.bytes.now) c.self.view_is in
-    told_at c.args.self.now c.args.bytes.now c.order_in-big_endian.result order (Refuses REFUSED_BLOCK)
+    told_at _ c.args.self.now c.args.bytes.now c.order_in-big_endian.result c.self.view_is c.order_in-big_endian.ensures (Refuses REFUSED_BLOCK)
     (block_differs c.args.self.now.interfaces c.order_in-big_endian.result c.args.bytes.now c.in-Size.used (sym c.in-Size.ensures.size)
     c.if-bytes-used.false (sym c.differs.ensures ∙ c.if-differs.true))
 
 pub returns-then-differs-clause-section : goal.returns-then-differs-clause-section
 returns-then-differs-clause-section c =
-    let order = c.order_in-big_endian.ensures ∙ ap (λ (s : Section). order_at s.big_endian c.args.bytes.now) c.self.view_is in
-    kept_at c.args.self.now c.args.bytes.now c.order_in-big_endian.result order (Refuses REFUSED_BLOCK)
+    kept_at _ c.args.self.now c.args.bytes.now c.order_in-big_endian.result c.self.view_is c.order_in-big_endian.ensures (Refuses REFUSED_BLOCK)
     (block_differs c.args.self.now.interfaces c.order_in-big_endian.result c.args.bytes.now c.in-Size.used (sym c.in-Size.ensures.size)
     c.if-bytes-used.false (sym c.differs.ensures ∙ c.if-differs.true))
 
 -- what the whole block says
 is_block : (c : After-whole_in) → whole_block_value c.in-Size.used c.whole_in.result ≡ block_at c.args.self.now c.args.bytes.now
 is_block c =
-    let order = c.order_in-big_endian.ensures ∙ ap (λ (s : Section). order_at s.big_endian c.args.bytes.now) c.self.view_is in
-    whole_at c.args.self.now c.args.bytes.now c.order_in-big_endian.result order (take c.self.inside.count c.deref.result.now) c.in-Size.used
-    (whole_block_value c.in-Size.used c.whole_in.result)
-    (ap (take c.self.inside.count) c.deref.ensures.value ∙ ap (λ (s : Section). s.interfaces) c.self.view_is)
-    c.in-Size.ensures.size c.if-bytes-used.false (sym c.differs.ensures ∙ c.if-differs.false) c.whole_in.ensures.found
+    whole_at (record { big_endian = c.self.inside.big_endian; interfaces = take c.self.inside.count c.self.inside.slots.items }) c.args.self.now c.args.bytes.now
+    c.order_in-big_endian.result c.self.view_is c.order_in-big_endian.ensures c.in-Size.used (whole_block_value c.in-Size.used c.whole_in.result)
+    c.in-Size.ensures.size c.if-bytes-used.false (sym c.differs.ensures ∙ c.if-differs.false)
+    (c.whole_in.ensures.found ∙ ap (λ slots. last_of (take c.self.inside.count slots) c.order_in-big_endian.result c.args.bytes.now (kind_at c.order_in-big_endian.result c.args.bytes.now)) c.deref.ensures.value)
 
 pub returns-in-Begins-clause-found : goal.returns-in-Begins-clause-found
 returns-in-Begins-clause-found c =
