@@ -2,6 +2,7 @@ use Rattle.std.proofs.Common.{◌≡◌, ◌<◌, length, take, sym, ap, ◌∙�
 use Rattle.cf_pcapng.specs.Block.{Needs, Refuses, block_at, kind_at, last_of}
 use Rattle.cf_pcapng.specs.declared.block.TheConstants.{REFUSED_BLOCK}
 use Rattle.cf_pcapng.specs.Answers.{answer_of, whole_block_value}
+use Rattle.cf_pcapng.specs.declared.block.WholeBlock.{WholeBlock}
 use Rattle.cf_pcapng.specs.Blocks.{after_found}
 use Rattle.cf_pcapng.proofs.Deciding.{block_cut, block_differs, block_stops, kept_at, one_more, told_at, whole_at}
 use Rattle.cf_pcapng.proofs.reader.Reader.next_block.Goals as goal
@@ -57,50 +58,40 @@ is_block c =
     c.in-Size.ensures.size c.if-bytes-used.false (sym c.differs.ensures ∙ c.if-differs.false)
     (c.whole_in.ensures.found ∙ ap (λ slots. last_of (take c.self.inside.count slots) c.order_in-big_endian.result c.args.bytes.now (kind_at c.order_in-big_endian.result c.args.bytes.now)) c.deref.ensures.value)
 
+found_as : (c : After-whole_in) (whole : WholeBlock) → c.whole_in.result ≡ whole →
+    answer_of (whole_block_value c.in-Size.used whole) ≡ answer_of (block_at c.args.self.now c.args.bytes.now)
+found_as c whole is = ap answer_of (ap (whole_block_value c.in-Size.used) (sym is) ∙ is_block c)
+
+kept_as : (c : After-whole_in) (whole : WholeBlock) → c.whole_in.result ≡ whole →
+    after_found c.args.self.now (whole_block_value c.in-Size.used whole) ≡ after_found c.args.self.now (block_at c.args.self.now c.args.bytes.now)
+kept_as c whole is = ap (after_found c.args.self.now) (ap (whole_block_value c.in-Size.used) (sym is) ∙ is_block c)
+
 pub returns-in-Begins-clause-found : goal.returns-in-Begins-clause-found
-returns-in-Begins-clause-found c =
-    let at = (goal.at.returns-in-Begins-clause-found c).After-whole_in in
-    ap answer_of (ap (whole_block_value c.in-Size.used) (sym c.in-Begins.is) ∙ is_block at)
+returns-in-Begins-clause-found c = found_as (goal.at.returns-in-Begins-clause-found c).After-whole_in _ c.in-Begins.is
 
 pub returns-in-Describes-clause-found : goal.returns-in-Describes-clause-found
-returns-in-Describes-clause-found c =
-    let at = (goal.at.returns-in-Describes-clause-found c).After-whole_in in
-    ap answer_of (ap (whole_block_value c.in-Size.used) (sym c.in-Describes.is) ∙ is_block at)
+returns-in-Describes-clause-found c = found_as (goal.at.returns-in-Describes-clause-found c).After-whole_in _ c.in-Describes.is
 
 pub returns-in-Holds-clause-found : goal.returns-in-Holds-clause-found
-returns-in-Holds-clause-found c =
-    let at = (goal.at.returns-in-Holds-clause-found c).After-whole_in in
-    ap answer_of (ap (whole_block_value c.in-Size.used) (sym c.in-Holds.is) ∙ is_block at)
+returns-in-Holds-clause-found c = found_as (goal.at.returns-in-Holds-clause-found c).After-whole_in _ c.in-Holds.is
 
 pub returns-in-Other-clause-found : goal.returns-in-Other-clause-found
-returns-in-Other-clause-found c =
-    let at = (goal.at.returns-in-Other-clause-found c).After-whole_in in
-    ap answer_of (ap (whole_block_value c.in-Size.used) (sym c.in-Other.is) ∙ is_block at)
+returns-in-Other-clause-found c = found_as (goal.at.returns-in-Other-clause-found c).After-whole_in _ c.in-Other.is
 
 pub returns-in-Refused-whole_in-clause-found : goal.returns-in-Refused-whole_in-clause-found
-returns-in-Refused-whole_in-clause-found c =
-    let at = (goal.at.returns-in-Refused-whole_in-clause-found c).After-whole_in in
-    ap answer_of (ap (whole_block_value c.in-Size.used) (sym c.in-Refused-whole_in.is) ∙ is_block at)
+returns-in-Refused-whole_in-clause-found c = found_as (goal.at.returns-in-Refused-whole_in-clause-found c).After-whole_in _ c.in-Refused-whole_in.is
 
 pub returns-in-Holds-clause-section : goal.returns-in-Holds-clause-section
-returns-in-Holds-clause-section c =
-    let at = (goal.at.returns-in-Holds-clause-section c).After-whole_in in
-    ap (after_found c.args.self.now) (ap (whole_block_value c.in-Size.used) (sym c.in-Holds.is) ∙ is_block at)
+returns-in-Holds-clause-section c = kept_as (goal.at.returns-in-Holds-clause-section c).After-whole_in _ c.in-Holds.is
 
 pub returns-in-Other-clause-section : goal.returns-in-Other-clause-section
-returns-in-Other-clause-section c =
-    let at = (goal.at.returns-in-Other-clause-section c).After-whole_in in
-    ap (after_found c.args.self.now) (ap (whole_block_value c.in-Size.used) (sym c.in-Other.is) ∙ is_block at)
+returns-in-Other-clause-section c = kept_as (goal.at.returns-in-Other-clause-section c).After-whole_in _ c.in-Other.is
 
 pub returns-in-Refused-whole_in-clause-section : goal.returns-in-Refused-whole_in-clause-section
-returns-in-Refused-whole_in-clause-section c =
-    let at = (goal.at.returns-in-Refused-whole_in-clause-section c).After-whole_in in
-    ap (after_found c.args.self.now) (ap (whole_block_value c.in-Size.used) (sym c.in-Refused-whole_in.is) ∙ is_block at)
+returns-in-Refused-whole_in-clause-section c = kept_as (goal.at.returns-in-Refused-whole_in-clause-section c).After-whole_in _ c.in-Refused-whole_in.is
 
 pub returns-in-Begins-clause-section : goal.returns-in-Begins-clause-section
-returns-in-Begins-clause-section c =
-    let at = (goal.at.returns-in-Begins-clause-section c).After-whole_in in
-    ap (after_found c.args.self.now) (ap (whole_block_value c.in-Size.used) (sym c.in-Begins.is) ∙ is_block at)
+returns-in-Begins-clause-section c = kept_as (goal.at.returns-in-Begins-clause-section c).After-whole_in _ c.in-Begins.is
 
 pub returns-in-Describes-clause-section : goal.returns-in-Describes-clause-section
 returns-in-Describes-clause-section c =
