@@ -27,10 +27,9 @@ within_at assets place asset served at =
 all_removed_at : (assets : List Asset) (last : ℕ) (xs : List Entry) (ss : List Session) (i : ℕ) → AreAll assets last xs ss → AreAll assets last (remove xs i) (remove ss i)
 all_removed_at assets last [] [] zero all = tt
 all_removed_at assets last [] [] (suc i) all = tt
-all_removed_at assets last [] (s ∷ ss) i all = absurd all
-all_removed_at assets last (x ∷ xs) [] i all = absurd all
 all_removed_at assets last (x ∷ xs) (s ∷ ss) zero all = all.1
 all_removed_at assets last (x ∷ xs) (s ∷ ss) (suc i) all = (all.0, all_removed_at assets last xs ss i all.1)
+all_removed_at assets last xs ss i all = absurd all
 
 -- without the closed session of a flow
 all_without : (assets : List Asset) (last : ℕ) (xs : List Entry) (ss : List Session) (o : Option ℕ) → AreAll assets last xs ss →

@@ -1,12 +1,13 @@
 -- What a reader found, as what stands after the blocks that it passed over.
-use Rattle.std.proofs.Common.{◌≡◌, ℕ, ◌^◌, ◌≤◌, List, drop, arith}
+use Rattle.std.proofs.Common.{◌≡◌, ◌≢◌, ℕ, ◌^◌, ◌≤◌, List, drop, arith}
 use Rattle.cf_outside.specs.Files.{Content, untold, absent, holds}
 use Rattle.cf_run.specs.Capture.{AtPlace, Cut, FileEnd, Fits, Large, Refused, TooLong, at_place}
 use Rattle.cf_run.specs.Form.{first_place}
-use Rattle.cf_run.specs.Reader.{FindsRecord, PassesTo, ReaderValue, StopsAt}
+use Rattle.cf_run.specs.Reader.{Finds, FindsRecord, PassesTo, ReaderValue, StopsAt}
 use Rattle.cf_run.specs.declared.blocks.BlockRefusal.{BlockRefusal}
 use Rattle.cf_run.specs.declared.form.Form.{Form}
 use Rattle.cf_run.specs.declared.form.Form.TheVariants as form
+use Rattle.cf_run.specs.declared.record_reader.NextRecord.{NextRecord}
 use Rattle.cf_run.specs.declared.record_reader.NextRecord.TheVariants as answer
 
 -- after blocks that are passed over this stands at a place
@@ -17,33 +18,26 @@ StandsBehind (holds all) old place found =
     (count : ℕ) × (f : Form) × PassesTo all count old.form old.place f place × (at_place f place (drop place all) ≡ found)
 
 -- where a reader stops, and where a record stands that is too late
-stopped_at : (all : List ℕ) (old new : ReaderValue) (found : AtPlace) → StopsAt all old new found → StandsBehind (holds all) old new.place found
-stopped_at all old new found (count, passes, at) = (count, new.form, passes, at)
+stopped_at : (file : Content) (old new : ReaderValue) (given : NextRecord) (found : AtPlace) → given ≢ answer.Failed →
+    ((all : List ℕ) → Finds all old new given → StopsAt all old new found) → FindsRecord file old new given → StandsBehind file old new.place found
+stopped_at untold old new given found other stops f = tt
+stopped_at absent old new given found other stops f = absurd (other f)
+stopped_at (holds all) old new given found other stops f = let (count, passes, at) = stops all f in (count, new.form, passes, at)
 
 pub stands_end : (file : Content) (old new : ReaderValue) → FindsRecord file old new answer.End → StandsBehind file old new.place FileEnd
-stands_end untold old new f = tt
-stands_end absent old new f = cc
-stands_end (holds all) old new f = stopped_at all old new FileEnd f
+stands_end file old new f = stopped_at file old new answer.End FileEnd (λ e. cc) (λ all h. h) f
 
 pub stands_cut : (file : Content) (old new : ReaderValue) → FindsRecord file old new answer.Cut → StandsBehind file old new.place Cut
-stands_cut untold old new f = tt
-stands_cut absent old new f = cc
-stands_cut (holds all) old new f = stopped_at all old new Cut f
+stands_cut file old new f = stopped_at file old new answer.Cut Cut (λ e. cc) (λ all h. h) f
 
 pub stands_long : (file : Content) (old new : ReaderValue) → FindsRecord file old new answer.TooLong → StandsBehind file old new.place TooLong
-stands_long untold old new f = tt
-stands_long absent old new f = cc
-stands_long (holds all) old new f = stopped_at all old new TooLong f
+stands_long file old new f = stopped_at file old new answer.TooLong TooLong (λ e. cc) (λ all h. h) f
 
 pub stands_refused : (file : Content) (old new : ReaderValue) (number : BlockRefusal) → FindsRecord file old new (answer.Refused number) → StandsBehind file old new.place (Refused number)
-stands_refused untold old new number f = tt
-stands_refused absent old new number f = cc
-stands_refused (holds all) old new number f = stopped_at all old new (Refused number) f
+stands_refused file old new number f = stopped_at file old new (answer.Refused number) (Refused number) (λ e. cc) (λ all h. h) f
 
 pub stands_large : (file : Content) (old new : ReaderValue) → FindsRecord file old new answer.Large → StandsBehind file old new.place Large
-stands_large untold old new f = tt
-stands_large absent old new f = cc
-stands_large (holds all) old new f = stopped_at all old new Large f
+stands_large file old new f = stopped_at file old new answer.Large Large (λ e. cc) (λ all h. h) f
 
 pub stands_late : (file : Content) (old new : ReaderValue) (stamp : ℕ) → FindsRecord file old new (answer.Whole stamp) →
     (place : ℕ) × (used : ℕ) × StandsBehind file old place (Fits (record { stamp = stamp; link = new.link; body = new.body }) used)

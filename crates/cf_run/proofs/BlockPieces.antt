@@ -71,12 +71,8 @@ module _ (section : Section) (place : ℕ) (xs : List ℕ) where
   section_large size fits past = section_by (Is Other size) fits.some fits.near fits.told ∙ ap (λ b. if b then Large else by_block (block_at section xs)) past
 
   by_answer : (f : Found) → by_block f ≡ by_block (answer_of f)
-  by_answer (Needs count) = refl
-  by_answer (Refuses number) = refl
   by_answer (Is (Holds packet) used) = refl
-  by_answer (Is (Begins big) used) = refl
-  by_answer (Is (Describes interface) used) = refl
-  by_answer (Is Other used) = refl
+  by_answer f = refl
 
   pub section_whole : (size : ℕ) → SizeFits section place xs size → is_past place size xs ≡ false →
       section_at section place xs ≡ by_block (answer_of (block_at section (take size xs)))

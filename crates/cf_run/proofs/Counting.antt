@@ -62,33 +62,14 @@ module _ (events : List RunEvent) (event : RunEvent) where
 
   by_outcome : (o : Outcome) (r : Received) → IsOutcome (found before event) o r → Counts o r
   by_outcome outcome.Dropped Dropped h = eight _ _ (one _) (more _ 1) (none _) (none _) (none _) (none _) (none _) (first _ _)
-  by_outcome outcome.Dropped NoRoom h = absurd h
-  by_outcome outcome.Dropped NoSession h = absurd h
-  by_outcome outcome.Dropped (Begun flow half) h = absurd h
-  by_outcome outcome.Dropped (Went place half) h = absurd h
-  by_outcome outcome.Full Dropped h = absurd h
   by_outcome outcome.Full NoRoom h = eight _ _ (one _) (none _) (none _) (more _ 1) (none _) (none _) (none _) (first _ _)
-  by_outcome outcome.Full NoSession h = absurd h
-  by_outcome outcome.Full (Begun flow half) h = absurd h
-  by_outcome outcome.Full (Went place half) h = absurd h
-  by_outcome outcome.Outside Dropped h = absurd h
-  by_outcome outcome.Outside NoRoom h = absurd h
   by_outcome outcome.Outside NoSession h = eight _ _ (one _) (none _) (more _ 1) (none _) (none _) (none _) (none _) (first _ _)
-  by_outcome outcome.Outside (Begun flow half) h = absurd h
-  by_outcome outcome.Outside (Went place half) h = absurd h
-  by_outcome outcome.Begun Dropped h = absurd h
-  by_outcome outcome.Begun NoRoom h = absurd h
-  by_outcome outcome.Begun NoSession h = absurd h
   by_outcome outcome.Begun (Begun flow half) h = eight _ _ (one _) (none _) (none _) (none _) (more _ 1) (none _) (none _) (first _ _)
-  by_outcome outcome.Begun (Went place half) h = absurd h
-  by_outcome (outcome.Went admitted refused cuts) Dropped h = absurd h
-  by_outcome (outcome.Went admitted refused cuts) NoRoom h = absurd h
-  by_outcome (outcome.Went admitted refused cuts) NoSession h = absurd h
-  by_outcome (outcome.Went admitted refused cuts) (Begun flow half) h = absurd h
   by_outcome (outcome.Went admitted refused cuts) (Went place half) h =
       eight _ _ (one _) (none _) (none _) (none _) (none _) (more _ admitted ∙ ap (λ n. capped (total (λ b e. decided_in (λ w. w.admitted) (found b e) e.received) events + n)) h.0)
       (more _ refused ∙ ap (λ n. capped (total (λ b e. decided_in (λ w. w.refused) (found b e) e.received) events + n)) h.1)
       (both _ _ cuts ∙ ap (λ n. capped (total cuts_in events + (ticks_cut + n))) h.2)
+  by_outcome o r h = absurd h
 
 -- a summary goes on by one event
 pub counts_on : (events : List RunEvent) (event : RunEvent) (happened : Happened) → IsCounted (table_after events) happened event → counted (summary_of events) happened ≡ summary_of (event ∷ events)

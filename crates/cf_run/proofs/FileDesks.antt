@@ -1,6 +1,7 @@
 -- A desk over two files.
 use Rattle.std.proofs.Common.{◌≡◌, ◌≢◌, ◌&&◌, not, ℕ, Bool, true, false, List, [], ◌∷◌, take, bytes_eq, refl, sym, ap, ◌∙◌, subst, inl, inr}
 use Rattle.std.specs.Borrow.{GName}
+use Rattle.std.proofs.lemmas.Bool.{and_from, and_parts}
 use Rattle.std.proofs.lemmas.Slice.Eq.{bytes_eq-Decides}
 use Rattle.cf_outside.specs.Faults.{HasCause}
 use Rattle.cf_outside.specs.Files.{Content, with_appended, KeepsOthers}
@@ -10,19 +11,19 @@ use Rattle.cf_outside.specs.declared.files.WriteAnswer.TheVariants as write
 use Rattle.cf_outside.proofs.Lines.{file_lines-line, ends_with_line-line, file_lines-part, file_part-line}
 use Rattle.cf_run.specs.OutputFile.{IsRecord, file_packets, packet_part, record_octets, ends_with_record}
 use Rattle.cf_run.specs.FileDesk.{are_whole, file_desk}
-use Rattle.cf_run.proofs.OutputFiles.{both, file_packets-record, packet_part-record, ends_with_record-record, file_packets-part}
+use Rattle.cf_run.proofs.OutputFiles.{file_packets-part, recorded}
 
 module _ (l : GName) (failed : Bool) (f f' r r' : ℕ) (out log : List ℕ) (old new : List ℕ → Content)
     (whole : (not failed && not (bytes_eq out log) && ends_with_record (old out) && ends_with_line (old log)) ≡ true) (reads : r' ≡ r) where
   ends_log : ends_with_line (old log) ≡ true
-  ends_log = (both _ _ whole).1
+  ends_log = (and_parts _ _ whole).1
 
   ends_out : ends_with_record (old out) ≡ true
-  ends_out = (both _ _ (both _ _ whole).0).1
+  ends_out = (and_parts _ _ (and_parts _ _ whole).0).1
 
   apart : out ≢ log
   apart e =
-      let differ : not (bytes_eq out log) ≡ true = (both _ _ (both _ _ (both _ _ whole).0).0).1 in
+      let differ : not (bytes_eq out log) ≡ true = (and_parts _ _ (and_parts _ _ (and_parts _ _ whole).0).0).1 in
       let same : not (bytes_eq out log) ≡ false = ap not ((bytes_eq-Decides out log).1 e) in
       cc
 
@@ -31,10 +32,10 @@ module _ (l : GName) (failed : Bool) (f f' r r' : ℕ) (out log : List ℕ) (old
         Emits moment packet (file_desk failed l f r out log old) (file_desk failed l f' r' out log new) write.Done
     emitted appended cause =
         let same : new log ≡ old log = others log (λ e. apart (sym e)) in
-        let done : ends_with_record (new out) ≡ true = ap ends_with_record appended ∙ ends_with_record-record (old out) octets _ one ends_out in
+        let done : ends_with_record (new out) ≡ true = ap ends_with_record appended ∙ (recorded (old out) octets _ one ends_out).ends in
         record {
-          packets = ap file_packets appended ∙ file_packets-record (old out) octets _ one ends_out;
-          packet_part = λ _. ap packet_part appended ∙ packet_part-record (old out) octets _ one ends_out;
+          packets = ap file_packets appended ∙ (recorded (old out) octets _ one ends_out).packets;
+          packet_part = λ _. ap packet_part appended ∙ (recorded (old out) octets _ one ends_out).part;
           lines = ap file_lines same;
           line_part = ap file_part same;
           whole = rw (done, same, ends_out) refl;
@@ -95,15 +96,12 @@ module _ (l : GName) (failed : Bool) (f f' r r' : ℕ) (out log : List ℕ) (old
 pub ruleset file_desk_laws = (emitted, emit_failed, put, put_failed)
 
 -- a whole desk over two files has both whole
-last_two : (a b c d : Bool) → (a && b && c && d) ≡ true → (c && d) ≡ true
-last_two true true c d h = h
-last_two true false c d h = cc
-last_two false b c d h = cc
-
 pub whole_files : (failed : Bool) (out log out' log' : List ℕ) (content : List ℕ → Content) → (out' ∷ log' ∷ []) ≡ out ∷ log ∷ [] →
     (not failed && not (bytes_eq out' log') && ends_with_record (content out') && ends_with_line (content log')) ≡ true → are_whole out log content ≡ true
 whole_files failed out log out' log' content names h =
     let o : out' ≡ out = cc in
     let n : log' ≡ log = cc in
-    subst (λ x. are_whole x log content ≡ true) o (subst (λ x. are_whole out' x content ≡ true) n
-    (last_two (not failed) (not (bytes_eq out' log')) (ends_with_record (content out')) (ends_with_line (content log')) h))
+    let record_end : ends_with_record (content out') ≡ true = (and_parts _ _ (and_parts _ _ h).0).1 in
+    let line_end : ends_with_line (content log') ≡ true = (and_parts _ _ h).1 in
+    let both : are_whole out' log' content ≡ true = and_from (ends_with_record (content out')) (ends_with_line (content log')) record_end line_end in
+    subst (λ x. are_whole x log content ≡ true) o (subst (λ x. are_whole out' x content ≡ true) n both)

@@ -1,7 +1,8 @@
 -- The records fix a run, event by event.
-use Rattle.std.proofs.Common.{◌≡◌, ℕ, inl, inr, Bool, true, false, List, [], ◌∷◌, ◌++◌, map, if◌then◌else◌, not, Option, Some, None, Result, Ok, Err, refl, sym, ap, ◌∙◌, subst}
+use Rattle.std.proofs.Common.{◌≡◌, ℕ, inl, inr, Bool, true, false, List, [], ◌∷◌, ◌++◌, length, map, if◌then◌else◌, not, Option, Some, None, Result, Ok, Err, refl, sym, ap, ◌∙◌, subst, arith}
 use Rattle.std.specs.Prelude.{slice_get}
 use Rattle.std.specs.List.{concat}
+use Rattle.std.proofs.lemmas.List.{length-append}
 use Rattle.cf_leg.specs.Emits.{syn_ack_for}
 use Rattle.cf_leg.specs.Event.{Came, Greeting, Nothing}
 use Rattle.cf_packet.specs.Packet.{PacketValue}
@@ -18,24 +19,21 @@ use Rattle.cf_run.specs.Sessions.{Each}
 use Rattle.cf_run.specs.Summary.{summary_of}
 use Rattle.cf_run.specs.Table.{Begins, Full, Goes, Match, Outside, Session, match_of}
 use Rattle.cf_run.specs.Trace.{AreRunEvents, AreTicks, Begun, Dropped, RunEvent, GoesOnAt, GoesOnWith, Input, IsRunEvent, NoRoom, NoSession, Received, Receives, ReceivesRecord, Went, kept, logged, sent, table_after, tick_of, ticked}
-use Rattle.cf_run.specs.declared.summary.Summary.{Summary}
-use Rattle.cf_run.proofs.Sessions.{HasGone, HasTick, IsGoing, IsTicked, begun_one, each-at, each-filter, each-ticked, goes_on, of_run, tick_right}
+use Rattle.cf_run.proofs.Sessions.{HasGone, HasTick, IsGoing, IsTicked, begun_one, each-at, each-kept, each-ticked, goes_on, of_run, tick_right}
 
 -- ---- the records, one by one
 
-no_record : (ys : List Input) (b : Input) → ◌≡◌ {A = List Input} [] (ys ++ b ∷ []) → ⊥
-no_record [] b e = cc
-no_record (y ∷ ys) b e = cc
+pub same_parts : {A : Type 0} (xs ys us vs : List A) → length xs ≡ length us → xs ++ ys ≡ us ++ vs → (xs ≡ us) × (ys ≡ vs)
+same_parts [] ys [] vs n h = (refl, h)
+same_parts (x ∷ xs) ys (u ∷ us) vs n h =
+    let head : x ≡ u = cc in
+    let tail : xs ++ ys ≡ us ++ vs = cc in
+    let (same, behind) = same_parts xs ys us vs (omega (arith, n)) tail in
+    (cc, behind)
+same_parts xs ys us vs n h = absurd (omega (arith, n))
 
-last_record : (xs ys : List Input) (a b : Input) → xs ++ a ∷ [] ≡ ys ++ b ∷ [] → (xs ≡ ys) × (a ≡ b)
-last_record [] [] a b e = (refl, cc)
-last_record [] (y ∷ ys) a b e = let rest : [] ≡ ys ++ b ∷ [] = cc in absurd (no_record ys b rest)
-last_record (x ∷ xs) [] a b e = let rest : xs ++ a ∷ [] ≡ [] = cc in absurd (no_record xs a (sym rest))
-last_record (x ∷ xs) (y ∷ ys) a b e =
-    let first : x ≡ y = cc in
-    let rest : xs ++ a ∷ [] ≡ ys ++ b ∷ [] = cc in
-    let (same, last) = last_record xs ys a b rest in
-    (cc, last)
+pub same_one : {A : Type 0} {x y : A} → x ∷ [] ≡ y ∷ [] → x ≡ y
+same_one h = cc
 
 -- ---- what an event of a session is given
 
@@ -75,7 +73,7 @@ module _ (law : EventsAreFixed) (limit : ℕ) where
   tick_once f es tick t u h a b =
       once f es t u (tick_right limit f es tick t h a).0 (tick_right limit f es tick u h b).0 (given_tick f es tick t a ∙ sym (given_tick f es tick u b))
 
-  ticks_once : (tick : ℕ) (ss : List Session) (ts us : List SessionEvent) → Each (IsGoing limit) ss → AreTicks tick ss ts → AreTicks tick ss us → ts ≡ us
+  pub ticks_once : (tick : ℕ) (ss : List Session) (ts us : List SessionEvent) → Each (IsGoing limit) ss → AreTicks tick ss ts → AreTicks tick ss us → ts ≡ us
   ticks_once tick [] ts us h a b = a ∙ sym b
   ticks_once tick (s ∷ ss) [] us h a b = absurd a
   ticks_once tick (s ∷ ss) (t ∷ ts) [] h a b = absurd b
@@ -86,11 +84,11 @@ module _ (law : EventsAreFixed) (limit : ℕ) where
 
   -- ---- the second half
 
-  begun_once : (f : Flow) (tick : ℕ) (d e : SessionEvent) → IsBeginning f tick d → IsBeginning f tick e → d ≡ e
+  pub begun_once : (f : Flow) (tick : ℕ) (d e : SessionEvent) → IsBeginning f tick d → IsBeginning f tick e → d ≡ e
   begun_once f tick d e a b =
       once f [] d e (begun_one f tick d a, tt) (begun_one f tick e b, tt) (given_beginning f tick d a ∙ sym (given_beginning f tick e b))
 
-  went_with : (s : Side) (p : PacketValue) (f : Flow) (es : List SessionEvent) (d e : SessionEvent) → HasTick limit f es → GoesOnWith limit s p d f es → GoesOnWith limit s p e f es → d ≡ e
+  pub went_with : (s : Side) (p : PacketValue) (f : Flow) (es : List SessionEvent) (d e : SessionEvent) → HasTick limit f es → GoesOnWith limit s p d f es → GoesOnWith limit s p e f es → d ≡ e
   went_with s p f [] d e h a b = absurd h
   went_with s p f (half ∷ es) d e h a b =
       once f es d e (goes_on limit s p d f (half ∷ es) h a).0 (goes_on limit s p e f (half ∷ es) h b).0
@@ -133,7 +131,7 @@ module _ (law : EventsAreFixed) (limit : ℕ) where
       IsRunEvent assets limit table (one input ts r) → IsRunEvent assets limit table (one input us q) → one input ts r ≡ one input us q
   event_once assets table input ts us r q h a b =
       let tick = tick_of input in
-      let going = each-filter (IsGoing limit) (λ s. not (is_expired s.flow s.events tick)) table h in
+      let going = each-kept limit tick table h in
       let ticks : ts ≡ us = ticks_once tick (kept tick table) ts us going a.ticks b.ticks in
       let other : ReceivesRecord assets limit tick (ticked ts tick table) input.packet q =
       subst (λ xs. ReceivesRecord assets limit tick (ticked xs tick table) input.packet q) (sym ticks) b.received in
@@ -142,10 +140,11 @@ module _ (law : EventsAreFixed) (limit : ℕ) where
 
 pub events_fixed : EventsAreFixed → RecordsFixEvents
 events_fixed law assets limit [] [] h g same = refl
-events_fixed law assets limit [] (o ∷ os) h g same = absurd (no_record (inputs_of os) o.input same)
-events_fixed law assets limit (e ∷ es) [] h g same = absurd (no_record (inputs_of es) e.input (sym same))
+events_fixed law assets limit [] (o ∷ os) h g same = absurd (omega (arith, simp length-append at (ap length same)))
+events_fixed law assets limit (e ∷ es) [] h g same = absurd (omega (arith, simp length-append at (ap length same)))
 events_fixed law assets limit (e ∷ es) (o ∷ os) h g same =
-    let (before, input) = last_record (inputs_of es) (inputs_of os) e.input o.input same in
+    let (before, last) = same_parts (inputs_of es) (e.input ∷ []) (inputs_of os) (o.input ∷ []) (omega (arith, simp length-append at (ap length same))) same in
+    let input = same_one last in
     let earlier : es ≡ os = events_fixed law assets limit es os h.1 g.1 before in
     let there : IsRunEvent assets limit (table_after es) (one law limit e.input o.ticks o.received) =
     subst (λ i. IsRunEvent assets limit (table_after es) (one law limit i o.ticks o.received)) (sym input) (subst (λ xs. IsRunEvent assets limit (table_after xs) o) (sym earlier) g.0) in

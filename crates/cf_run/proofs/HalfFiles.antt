@@ -3,50 +3,30 @@ use Rattle.std.proofs.Common.{◌≡◌, ◌+◌, ℕ, Bool, true, false, List, 
 use Rattle.std.specs.List.{concat, flat_map}
 use Rattle.std.proofs.Math.Seq.{take-append-add}
 use Rattle.std.proofs.lemmas.Grind.{flat_map-append}
-use Rattle.std.proofs.lemmas.List.{take-append-drop}
 use Rattle.std.proofs.lemmas.List.Folds.{concat-append, flat_map-map}
-use Rattle.std.proofs.lemmas.Slice.Eq.{bytes_eq-Decides}
+use Rattle.std.proofs.lemmas.Bool.{and_parts}
 use Rattle.cf_outside.proofs.Lines.{lines_from-rest, nothing}
-use Rattle.cf_outside.specs.Desk.{SentValue}
 use Rattle.cf_outside.specs.Files.{Content, IsWhole, absent, holds, untold}
 use Rattle.cf_outside.specs.Lines.{ends_with_line, file_lines, file_part}
 use Rattle.cf_pcap.specs.Header.{output_octets}
 use Rattle.cf_session.specs.Broken.{IsPartOf, octets_of}
 use Rattle.cf_session.specs.Sent.{Sent}
 use Rattle.cf_session.specs.Told.{emitted, with_more}
-use Rattle.cf_run.specs.Items.{items_from, part_from}
 use Rattle.cf_run.specs.OutputFile.{ends_with_record, file_packets, has_header, packet_in, packet_part, record_octets}
 use Rattle.cf_run.specs.Run.{capture_of}
 use Rattle.cf_run.specs.RunCapture.{HoldsOctets}
-use Rattle.cf_run.proofs.Items.{items-rest}
-use Rattle.cf_run.proofs.OutputFiles.{both, packet_in-spelled}
+use Rattle.cf_run.proofs.OutputFiles.{file_is}
 
 -- a whole file has nothing after its last record or line
 pub no_packet_part : (file : Content) → ends_with_record file ≡ true → packet_part file ≡ []
 no_packet_part untold e = refl
 no_packet_part absent e = refl
-no_packet_part (holds all) e = nothing _ (both _ _ e).1
+no_packet_part (holds all) e = nothing _ (and_parts _ _ e).1
 
 pub no_line_part : (file : Content) → ends_with_line file ≡ true → file_part file ≡ []
 no_line_part untold e = refl
 no_line_part absent e = refl
 no_line_part (holds all) e = nothing _ e
-
-some_if : (b : Bool) (items packets : List SentValue) → (if b then Some items else None) ≡ Some packets → (b ≡ true) × (items ≡ packets)
-some_if true items packets e = (refl, cc)
-some_if false items packets e = cc
-
--- a file with packets is its header, their records, and what stands after them
-file_is : (file : Content) (packets : List SentValue) → file_packets file ≡ Some packets → file ≡ holds (output_octets ++ (flat_map record_octets packets ++ packet_part file))
-file_is untold packets h = cc
-file_is absent packets h = cc
-file_is (holds all) packets h =
-    let found = some_if (has_header all) (items_from packet_in [] (drop 24 all)) packets h in
-    let same : take 24 all ≡ output_octets = (bytes_eq-Decides (take 24 all) output_octets).0 found.0 in
-    let part = part_from packet_in [] (drop 24 all) in
-    let rest : flat_map record_octets packets ++ part ≡ drop 24 all =
-    ap (λ ps. flat_map record_octets ps ++ part) (sym found.1) ∙ items-rest packet_in record_octets packet_in-spelled [] (drop 24 all) in
-    ap holds (sym (take-append-drop 24 all) ∙ ap (λ front. front ++ drop 24 all) same ∙ ap (λ back. output_octets ++ back) (sym rest))
 
 log_is : (file : Content) (lines : List (List ℕ)) → file_lines file ≡ Some lines → file ≡ holds (concat lines ++ file_part file)
 log_is untold lines h = cc

@@ -1,5 +1,6 @@
 -- The headline of a run.
 use Rattle.std.proofs.Common.{◌≡◌, ℕ, ◌^◌, ◌≤◌, true, false, Option, None, Some, List, [], ◌∷◌, ◌++◌, map, refl, sym, ap, ◌∙◌}
+use Rattle.std.proofs.lemmas.List.{append-nil}
 use Rattle.cf_decode.specs.Laws.{FragmentsDecode}
 use Rattle.cf_lane.specs.Laws.{RatesHold}
 use Rattle.cf_lane.specs.Output.{outputs}
@@ -28,13 +29,9 @@ bytes-bytes : (bs : List ℕ) → bytes_among (map Byte bs) ≡ bs
 bytes-bytes [] = refl
 bytes-bytes (b ∷ bs) = ap (λ l. b ∷ l) (bytes-bytes bs)
 
-bytes-none : (bs : List ℕ) → bs ++ [] ≡ bs
-bytes-none [] = refl
-bytes-none (b ∷ bs) = ap (λ l. b ∷ l) (bytes-none bs)
-
 bytes-letters : (bs : List ℕ) (ended : _) → bytes_among (letters (record { bytes = bs; ended = ended })) ≡ bs
-bytes-letters bs true = bytes-append (map Byte bs) (End ∷ []) ∙ bytes-none (bytes_among (map Byte bs)) ∙ bytes-bytes bs
-bytes-letters bs false = bytes-append (map Byte bs) [] ∙ bytes-none (bytes_among (map Byte bs)) ∙ bytes-bytes bs
+bytes-letters bs true = bytes-append (map Byte bs) (End ∷ []) ∙ append-nil (bytes_among (map Byte bs)) ∙ bytes-bytes bs
+bytes-letters bs false = bytes-append (map Byte bs) [] ∙ append-nil (bytes_among (map Byte bs)) ∙ bytes-bytes bs
 
 front_bytes : (whole : Stream) (taken : List Letter) → (h : IsFront whole taken) → whole.bytes ≡ bytes_among taken ++ bytes_among h.more
 front_bytes whole taken h = sym (bytes-letters whole.bytes whole.ended) ∙ ap bytes_among h.is ∙ bytes-append taken h.more

@@ -2,18 +2,16 @@
 use Rattle.std.proofs.Common.{◌≡◌, ℕ, suc, ◌+◌, ◌-◌, ◌≤◌, ◌&&◌, inl, inr, Bool, true, false, not, List, [], ◌∷◌, ◌++◌, length, cond, if◌then◌else◌, map, Option, Some, None, Result, Ok, Err, refl, sym, ap, ◌∙◌, subst, arith}
 use Rattle.std.specs.Prelude.{filter}
 use Rattle.std.specs.List.{flat_map}
-use Rattle.std.proofs.lemmas.Bool.{true≢false}
-use Rattle.std.proofs.lemmas.List.{append_assoc, length-append, map-append}
+use Rattle.std.proofs.lemmas.Bool.{and_parts, true≢false}
+use Rattle.std.proofs.lemmas.List.{append-nil, append_assoc, length-append, map-append}
 use Rattle.std.proofs.lemmas.List.Elements.{filter-append}
 use Rattle.std.proofs.lemmas.Option.{same_Some}
 use Rattle.cf_packet.specs.Packet.{PacketValue}
 use Rattle.cf_packet.specs.declared.packet.PacketRefusal.{PacketRefusal}
 use Rattle.cf_policy.specs.declared.Asset.{Asset}
 use Rattle.cf_view.specs.declared.Endpoint.{Endpoint}
-use Rattle.cf_view.specs.declared.Side.{Side}
-use Rattle.cf_view.specs.declared.Side.TheVariants as side
-use Rattle.cf_session.specs.Event.{AreEvents as AreSessionEvents, IsBeginning, IsPacket, IsTick, came_client}
-use Rattle.cf_session.specs.Laws.{EventsAreFixed, Given, given, packet_in}
+use Rattle.cf_session.specs.Event.{IsBeginning}
+use Rattle.cf_session.specs.Laws.{EventsAreFixed}
 use Rattle.cf_session.specs.Session.{Flow, SessionEvent, client_of, is_expired}
 use Rattle.cf_session.specs.Sent.{Sent, logged_second, sent_first, sent_second}
 use Rattle.cf_run.specs.Isolation.{AreMatched, NoneBegins, RunsIsolateSessions, begins_theirs, goes_to_theirs, is_flow_of, logged_by, logged_over, matched_in, matched_to, moments_of, sent_by, sent_over, ticks_of}
@@ -23,8 +21,9 @@ use Rattle.cf_run.specs.Summary.{found}
 use Rattle.cf_run.specs.Table.{Begins, Full, Goes, Match, Outside, Session, is_between, match_of, same_endpoint, without}
 use Rattle.cf_run.specs.Trace.{AreRunEvents, AreTicks, Begun, Dropped, RunEvent, GoesOnWith, Input, IsRunEvent, NoRoom, NoSession, Received, Receives, ReceivesRecord, Went, after_received, behind, kept, logged_received, logged_ticks, replaced, sent_received, stays, table_after, tick_of, ticked, with_events}
 use Rattle.cf_run.proofs.Matched.{same_is}
-use Rattle.cf_run.proofs.Pairs.{and_first, and_second, filter_at_most, filter_keeps, filter_swap, next_are, ticks_are, without_theirs}
-use Rattle.cf_run.proofs.Sessions.{HasGone, HasTick, IsGoing, IsTicked, each-filter, each-ticked, of_run}
+use Rattle.cf_run.proofs.Pairs.{filter_at_most, filter_keeps, filter_swap, next_are, ticks_are, without_theirs}
+use Rattle.cf_run.proofs.Fixed.{begun_once, same_one, same_parts, ticks_once, went_with}
+use Rattle.cf_run.proofs.Sessions.{IsGoing, IsTicked, each-filter, each-kept, each-ticked, of_run}
 use Rattle.cf_run.proofs.Shares.{HasNothing, HasPacket, Share, endpoint_same, share, side_of, with_nothing, with_packet}
 
 -- at each place both have the same moment
@@ -34,74 +33,7 @@ SameMoments [] (y ∷ ys) = ⊥
 SameMoments (x ∷ xs) [] = ⊥
 SameMoments (x ∷ xs) (y ∷ ys) = (x.input.moment ≡ y.input.moment) × SameMoments xs ys
 
-never_dropped : (g : Flow) (e : SessionEvent) → Begun g e ≡ Dropped → ⊥
-never_dropped g e h = cc
-
--- ---- what is given to an event of a session fixes it
-
-abbrev given_by : ℕ → Option PacketValue → Option PacketValue → Given
-given_by tick client controller = record { tick = tick; from_client = client; from_controller = controller }
-
-given_tick : (f : Flow) (es : List SessionEvent) (tick : ℕ) (t : SessionEvent) → IsTick f es tick t → given t ≡ given_by tick None None
-given_tick f es tick t h = rw (h.client_tick, h.client_came, h.controller_came) refl
-
-none_greeting : (f : Flow) (p : PacketValue) (b : Bool) → packet_in (came_client f side.Controller p b) ≡ None
-none_greeting f p true = refl
-none_greeting f p false = refl
-
-abbrev given_packet : Side → PacketValue → ℕ → Given
-given_packet side.Client p tick = given_by tick (Some p) None
-given_packet side.Controller p tick = given_by tick None (Some p)
-
-given_one : (f : Flow) (limit : ℕ) (es : List SessionEvent) (half : SessionEvent) (s : Side) (p : PacketValue) (e : SessionEvent) → IsPacket f limit es half s p e →
-    given e ≡ given_packet s p half.client.tick
-given_one f limit es half side.Client p e h = rw (h.client_on.0, h.client_came, h.controller_came) refl
-given_one f limit es half side.Controller p e h =
-    let a : packet_in e.client.came ≡ None = ap packet_in h.client_came ∙ none_greeting f p _ in
-    let b : packet_in e.controller.came ≡ Some p = ap packet_in h.controller_came in
-    rw (h.client_on.0, a, b) refl
-
-given_beginning : (f : Flow) (tick : ℕ) (e : SessionEvent) → IsBeginning f tick e → given e ≡ given_by tick None None
-given_beginning f tick e h = rw (h.client, h.controller) refl
-
-same_head : {A : Type 0} (x y : A) (xs ys : List A) → x ∷ xs ≡ y ∷ ys → x ≡ y
-same_head x y xs ys h = cc
-
-same_tail : {A : Type 0} (x y : A) (xs ys : List A) → x ∷ xs ≡ y ∷ ys → xs ≡ ys
-same_tail x y xs ys h = cc
-
 module _ (law : EventsAreFixed) (limit : ℕ) where
-  same_next : (f : Flow) (es : List SessionEvent) (e d : SessionEvent) → AreSessionEvents f limit (e ∷ es) → AreSessionEvents f limit (d ∷ es) → given e ≡ given d → e ≡ d
-  same_next f es e d a b same = same_head e d es es (law f limit (e ∷ es) (d ∷ es) a b (ap (λ g. g ∷ map given es) same))
-
-  tick_fixed : (f : Flow) (es : List SessionEvent) (tick : ℕ) (t u : SessionEvent) → HasGone limit f es → IsTick f es tick t → IsTick f es tick u → t ≡ u
-  tick_fixed f [] tick t u going h g = absurd going
-  tick_fixed f (e ∷ es) tick t u going h g =
-      same_next f (e ∷ es) t u
-      (inl (subst (λ n. IsTick f (e ∷ es) n t) (sym h.client_tick) h), going.0) (inl (subst (λ n. IsTick f (e ∷ es) n u) (sym g.client_tick) g), going.0)
-      (given_tick f (e ∷ es) tick t h ∙ sym (given_tick f (e ∷ es) tick u g))
-
-  ticks_fixed : (tick : ℕ) (ss : List Session) (ts us : List SessionEvent) → Each (IsGoing limit) ss → AreTicks tick ss ts → AreTicks tick ss us → ts ≡ us
-  ticks_fixed tick [] ts us going h g = h ∙ sym g
-  ticks_fixed tick (s ∷ ss) [] us going h g = absurd h
-  ticks_fixed tick (s ∷ ss) (t ∷ ts) [] going h g = absurd g
-  ticks_fixed tick (s ∷ ss) (t ∷ ts) (u ∷ us) going h g =
-      ap (λ x. x ∷ ts) (tick_fixed s.flow s.events tick t u going.0 h.0 g.0) ∙ ap (λ xs. u ∷ xs) (ticks_fixed tick ss ts us going.1 h.1 g.1)
-
-  packet_fixed : (f : Flow) (es : List SessionEvent) (s : Side) (p : PacketValue) (e d : SessionEvent) → HasTick limit f es → GoesOnWith limit s p e f es → GoesOnWith limit s p d f es → e ≡ d
-  packet_fixed f [] s p e d has h g = absurd has
-  packet_fixed f (t ∷ []) s p e d has h g = absurd has.2
-  packet_fixed f (t ∷ (x ∷ es)) s p e d has h g =
-      same_next f (x ∷ es) e d (inr (t, s, p, has.0, has.1, h), has.2.0) (inr (t, s, p, has.0, has.1, g), has.2.0)
-      (given_one f limit (x ∷ es) t s p e h ∙ sym (given_one f limit (x ∷ es) t s p d g))
-
-  begun_first : (f : Flow) (tick : ℕ) (e : SessionEvent) → IsBeginning f tick e → AreSessionEvents f limit (e ∷ [])
-  begun_first f tick e h = (subst (λ n. IsBeginning f n e) (sym (ap (λ x. x.tick) h.client)) h, tt)
-
-  beginning_fixed : (f : Flow) (tick : ℕ) (e d : SessionEvent) → IsBeginning f tick e → IsBeginning f tick d → e ≡ d
-  beginning_fixed f tick e d h g =
-      same_next f [] e d (begun_first f tick e h) (begun_first f tick d g) (given_beginning f tick e h ∙ sym (given_beginning f tick d g))
-
   -- ---- their session in one event
 
   module _ (client asset : Endpoint) where
@@ -137,13 +69,13 @@ module _ (law : EventsAreFixed) (limit : ℕ) where
     second_packet here there m k r q ticked same matched h g =
         let one_packet : g.packet ≡ h.packet = same_Some g.packet h.packet (sym g.one ∙ sym matched ∙ h.one) in
         let lists : g.session ∷ g.more ≡ h.session ∷ h.more = sym g.is ∙ sym same ∙ h.is in
-        let one_session : g.session ≡ h.session = same_head g.session h.session g.more h.more lists in
-        let more : g.more ≡ h.more = same_tail g.session h.session g.more h.more lists in
+        let one_session : g.session ≡ h.session = cc in
+        let more : g.more ≡ h.more = cc in
         let has : IsTicked limit h.session = (subst (Each (IsTicked limit)) h.is (each-filter (IsTicked limit) (is_between client asset) here ticked)).0 in
         let on : GoesOnWith limit (side_of client asset h.packet) h.packet g.event h.session.flow h.session.events =
         subst (λ s. GoesOnWith limit (side_of client asset h.packet) h.packet g.event s.flow s.events) one_session
         (subst (λ p. GoesOnWith limit (side_of client asset p) p g.event g.session.flow g.session.events) one_packet g.goes_on) in
-        let event : h.event ≡ g.event = packet_fixed h.session.flow h.session.events (side_of client asset h.packet) h.packet h.event g.event has h.goes_on on in
+        let event : h.event ≡ g.event = went_with law limit (side_of client asset h.packet) h.packet h.session.flow h.session.events h.event g.event has h.goes_on on in
         record {
           table = h.after ∙ ap (λ e. filter stays (record h.session { events = replaced e h.session.events } ∷ h.more)) event
               ∙ ap (λ (s : Session). filter stays (record s { events = replaced g.event s.events } ∷ h.more)) (sym one_session)
@@ -154,15 +86,12 @@ module _ (law : EventsAreFixed) (limit : ℕ) where
               ∙ sym (ap (λ b. cond b (logged_received there q) []) g.theirs);
         }
 
-    never_both : (m k : Option PacketValue) (p : PacketValue) → m ≡ None → m ≡ k → k ≡ Some p → ⊥
-    never_both m k p e f g = cc
-
     second : (here there : List Session) (m k : Option PacketValue) (r q : Received) → Each (IsTicked limit) here → theirs here ≡ theirs there → m ≡ k →
         Share limit client asset here m r → Share limit client asset there k q → SecondSame here there r q
     second here there m k r q ticked same matched (with_nothing h) (with_nothing g) = second_nothing here there m k r q same h g
     second here there m k r q ticked same matched (with_packet h) (with_packet g) = second_packet here there m k r q ticked same matched h g
-    second here there m k r q ticked same matched (with_nothing h) (with_packet g) = absurd (never_both m k g.packet h.none matched g.one)
-    second here there m k r q ticked same matched (with_packet h) (with_nothing g) = absurd (never_both k m h.packet g.none (sym matched) h.one)
+    second here there m k r q ticked same matched (with_nothing h) (with_packet g) = (let never : None ≡ Some g.packet = sym h.none ∙ matched ∙ g.one in cc)
+    second here there m k r q ticked same matched (with_packet h) (with_nothing g) = (let never : None ≡ Some h.packet = sym g.none ∙ sym matched ∙ h.one in cc)
 
     -- a whole event, of two tables in which theirs is the same
     abbrev sent_parts : ℕ → List Session → List SessionEvent → Received → List Sent
@@ -186,16 +115,10 @@ module _ (law : EventsAreFixed) (limit : ℕ) where
       kept_same : theirs (kept tick here) ≡ theirs (kept tick there)
       kept_same = kept_theirs tick here ∙ ap (kept tick) same ∙ sym (kept_theirs tick there)
 
-      keeps : Each (IsGoing limit) (kept tick here)
-      keeps = each-filter (IsGoing limit) (λ s. not (is_expired s.flow s.events tick)) here going
-
-      others_keep : Each (IsGoing limit) (kept tick there)
-      others_keep = each-filter (IsGoing limit) (λ s. not (is_expired s.flow s.events tick)) there others_going
-
       ticks_same : ticks_of client asset (kept tick here) ts ≡ ticks_of client asset (kept tick there) us
       ticks_same =
-          ticks_fixed tick (theirs (kept tick here)) (ticks_of client asset (kept tick here) ts) (ticks_of client asset (kept tick there) us)
-          (each-filter (IsGoing limit) (is_between client asset) (kept tick here) keeps) (ticks_are client asset tick (kept tick here) ts are)
+          ticks_once law limit tick (theirs (kept tick here)) (ticks_of client asset (kept tick here) ts) (ticks_of client asset (kept tick there) us)
+          (each-filter (IsGoing limit) (is_between client asset) (kept tick here) (each-kept limit tick here going)) (ticks_are client asset tick (kept tick here) ts are)
           (subst (λ l. AreTicks tick l (ticks_of client asset (kept tick there) us)) (sym kept_same) (ticks_are client asset tick (kept tick there) us others_are))
 
       found_same : theirs (ticked ts tick here) ≡ theirs (ticked us tick there)
@@ -207,8 +130,8 @@ module _ (law : EventsAreFixed) (limit : ℕ) where
           begins_theirs client asset r ≡ false → begins_theirs client asset o ≡ false →
           matched_in assets client asset (ticked ts tick here) p ≡ matched_in assets client asset (ticked us tick there) q → EventSame tick tick here there ts us r o
       event_same p q r o h g none others_none matched =
-          let has_ticked = each-ticked limit tick (kept tick here) ts keeps are in
-          let others_ticked = each-ticked limit tick (kept tick there) us others_keep others_are in
+          let has_ticked = each-ticked limit tick (kept tick here) ts (each-kept limit tick here going) are in
+          let others_ticked = each-ticked limit tick (kept tick there) us (each-kept limit tick there others_going) others_are in
           let two = second (ticked ts tick here) (ticked us tick there) (matched_in assets client asset (ticked ts tick here) p) (matched_in assets client asset (ticked us tick there) q) r o
           has_ticked found_same matched
           (share limit client asset assets tick (ticked ts tick here) has_ticked p r h none) (share limit client asset assets tick (ticked us tick there) others_ticked q o g others_none) in
@@ -261,8 +184,8 @@ module _ (law : EventsAreFixed) (limit : ℕ) where
 
       begun_one : (g : Flow) (e : SessionEvent) (table : List Session) → length (theirs table) ≤ 1 → is_flow_of client asset g ≡ true → theirs (after_received (Begun g e) table) ≡ record { flow = g; events = e ∷ [] } ∷ []
       begun_one g e table h is =
-          let c : client_of g ≡ client = same_is (client_of g) client (and_first _ _ is) in
-          let a : g.asset.endpoint ≡ asset = same_is g.asset.endpoint asset (and_second _ _ is) in
+          let c : client_of g ≡ client = same_is (client_of g) client (and_parts _ _ is).0 in
+          let a : g.asset.endpoint ≡ asset = same_is g.asset.endpoint asset (and_parts _ _ is).1 in
           let new : Session = record { flow = g; events = e ∷ [] } in
           let rest : theirs (without (client_of g) g.asset.endpoint table) ≡ [] =
           ap (λ x. theirs (without x g.asset.endpoint table)) c ∙ ap (λ x. theirs (without client x table)) a ∙ without_theirs client asset table h in
@@ -273,16 +196,12 @@ module _ (law : EventsAreFixed) (limit : ℕ) where
           length (theirs table) ≤ 1 → length (theirs (after_received r table)) ≤ 1
       one_by tick table p r false none ticked h small = share_one table (matched_in assets client asset table p) r small (share limit client asset assets tick table ticked p r h none)
       one_by tick table p (Begun g e) true begins ticked h small = let a = ap length (begun_one g e table small begins) in omega (arith, a)
-      one_by tick table p Dropped true begins ticked h small = absurd (true≢false (sym begins))
-      one_by tick table p NoRoom true begins ticked h small = absurd (true≢false (sym begins))
-      one_by tick table p NoSession true begins ticked h small = absurd (true≢false (sym begins))
-      one_by tick table p (Went i e) true begins ticked h small = absurd (true≢false (sym begins))
+      one_by tick table p r true begins ticked h small = absurd (true≢false (sym begins))
 
       found_ticked : (e : RunEvent) (es : List RunEvent) → AreRunEvents assets limit (e ∷ es) → Each (IsTicked limit) (found (table_after es) e)
       found_ticked e es h =
           let tick = tick_of e.input in
-          let going = of_run assets limit es h.1 in
-          each-ticked limit tick (kept tick (table_after es)) e.ticks (each-filter (IsGoing limit) (λ s. not (is_expired s.flow s.events tick)) (table_after es) going.here) h.0.ticks
+          each-ticked limit tick (kept tick (table_after es)) e.ticks (each-kept limit tick (table_after es) (of_run assets limit es h.1).here) h.0.ticks
 
       at_most_one : (es : List RunEvent) → AreRunEvents assets limit es → length (theirs (table_after es)) ≤ 1
       at_most_one [] h = omega arith
@@ -294,12 +213,10 @@ module _ (law : EventsAreFixed) (limit : ℕ) where
 
       begun_by : (tick : ℕ) (table : List Session) (p : PacketValue) (m : Match) (g : Flow) (e : SessionEvent) → Receives limit tick table p m (Begun g e) → IsBeginning g tick e
       begun_by tick table p (Begins f) g e h = subst (λ x. IsBeginning x tick e) (sym h.0) h.1
-      begun_by tick table p Full g e h = absurd h
-      begun_by tick table p (Goes i s) g e h = absurd h
-      begun_by tick table p Outside g e h = absurd h
+      begun_by tick table p m g e h = absurd h
 
       begun_is : (tick : ℕ) (table : List Session) (p : Result PacketValue PacketRefusal) (g : Flow) (e : SessionEvent) → ReceivesRecord assets limit tick table p (Begun g e) → IsBeginning g tick e
-      begun_is tick table (Err refusal) g e h = absurd (never_dropped g e h)
+      begun_is tick table (Err refusal) g e h = cc
       begun_is tick table (Ok p) g e h = begun_by tick table p (match_of assets table p) g e h
 
       begin_same : (flow : Flow) (e d : RunEvent) (es ds : List RunEvent) (b c : SessionEvent) → is_flow_of client asset flow ≡ true → AreRunEvents assets limit (e ∷ es) → AreRunEvents assets limit (d ∷ ds) →
@@ -308,7 +225,7 @@ module _ (law : EventsAreFixed) (limit : ℕ) where
           let tick : tick_of d.input ≡ tick_of e.input = ap (λ n. n - 1) (sym moment) in
           let x = begun_is (tick_of e.input) (found (table_after es) e) e.input.packet flow b (subst (ReceivesRecord assets limit (tick_of e.input) (found (table_after es) e) e.input.packet) begins h.0.received) in
           let y = begun_is (tick_of d.input) (found (table_after ds) d) d.input.packet flow c (subst (ReceivesRecord assets limit (tick_of d.input) (found (table_after ds) d) d.input.packet) others_begin g.0.received) in
-          let same = beginning_fixed flow (tick_of e.input) b c x (subst (λ n. IsBeginning flow n c) tick y) in
+          let same = begun_once law limit flow (tick_of e.input) b c x (subst (λ n. IsBeginning flow n c) tick y) in
           let one = begun_one flow b (found (table_after es) e) (found_one (tick_of e.input) (table_after es) e.ticks h.0.ticks (at_most_one es h.1)) is in
           let other = begun_one flow c (found (table_after ds) d) (found_one (tick_of d.input) (table_after ds) d.ticks g.0.ticks (at_most_one ds g.1)) is in (
             same,
@@ -327,8 +244,6 @@ module _ (law : EventsAreFixed) (limit : ℕ) where
         stretch : (xs ys : List RunEvent) → AreRunEvents assets limit (xs ++ e ∷ es) → AreRunEvents assets limit (ys ++ d ∷ ds) → SameMoments xs ys →
             NoneBegins client asset xs → NoneBegins client asset ys → AreMatched assets client asset (e ∷ es) (d ∷ ds) xs ys → StretchSame e d es ds xs ys
         stretch [] [] h g moments none others_none matched = starts
-        stretch [] (y ∷ ys) h g moments none others_none matched = absurd matched
-        stretch (x ∷ xs) [] h g moments none others_none matched = absurd matched
         stretch (x ∷ xs) (y ∷ ys) h g moments none others_none matched =
             let before = stretch xs ys h.1 g.1 moments.1 none.1 others_none.1 matched.1 in
             let next = next_same x y (table_after (xs ++ e ∷ es)) (table_after (ys ++ d ∷ ds)) before.table (of_run assets limit (xs ++ e ∷ es) h.1).here (of_run assets limit (ys ++ d ∷ ds) g.1).here
@@ -338,6 +253,7 @@ module _ (law : EventsAreFixed) (limit : ℕ) where
               sent = ap (λ l. l ++ sent_by client asset (table_after (xs ++ e ∷ es)) x) before.sent ∙ ap (λ l. sent_over client asset d ds ys ++ l) next.sent;
               logged = ap (λ l. l ++ logged_by client asset (table_after (xs ++ e ∷ es)) x) before.logged ∙ ap (λ l. logged_over client asset d ds ys ++ l) next.logged;
             }
+        stretch xs ys h g moments none others_none matched = absurd matched
 
 -- ---- moments
 
@@ -350,25 +266,13 @@ times_are : (es : List RunEvent) → moments_of (inputs_of es) ≡ times es
 times_are [] = refl
 times_are (e ∷ es) = map-append (λ (i : Input). i.moment) (inputs_of es) (e.input ∷ []) ∙ ap (λ l. l ++ e.input.moment ∷ []) (times_are es)
 
-no_more : (xs : List ℕ) → xs ≡ xs ++ []
-no_more [] = refl
-no_more (x ∷ xs) = ap (λ l. x ∷ l) (no_more xs)
-
 times_append : (xs ys : List RunEvent) → times (xs ++ ys) ≡ times ys ++ times xs
-times_append [] ys = no_more (times ys)
+times_append [] ys = sym (append-nil (times ys))
 times_append (x ∷ xs) ys = ap (λ l. l ++ x.input.moment ∷ []) (times_append xs ys) ∙ append_assoc (times ys) (times xs) (x.input.moment ∷ [])
 
 times_length : (es : List RunEvent) → length (times es) ≡ length es
 times_length [] = refl
 times_length (e ∷ es) = let a = length-append (times es) (e.input.moment ∷ []) in let b = times_length es in omega (arith, a, b)
-
-same_parts : {A : Type 0} (xs ys us vs : List A) → length xs ≡ length us → xs ++ ys ≡ us ++ vs → (xs ≡ us) × (ys ≡ vs)
-same_parts [] ys [] vs n h = (refl, h)
-same_parts [] ys (u ∷ us) vs n h = absurd (omega (arith, n))
-same_parts (x ∷ xs) ys [] vs n h = absurd (omega (arith, n))
-same_parts (x ∷ xs) ys (u ∷ us) vs n h =
-    let rest = same_parts xs ys us vs (omega (arith, n)) (same_tail x u (xs ++ ys) (us ++ vs) h) in
-    (ap (λ z. z ∷ xs) (same_head x u (xs ++ ys) (us ++ vs) h) ∙ ap (λ l. u ∷ l) rest.0, rest.1)
 
 same_moments : (xs ys : List RunEvent) → length xs ≡ length ys → times xs ≡ times ys → SameMoments xs ys
 same_moments [] [] n h = tt
@@ -377,13 +281,12 @@ same_moments (x ∷ xs) [] n h = absurd (omega (arith, n))
 same_moments (x ∷ xs) (y ∷ ys) n h =
     let shorter : length xs ≡ length ys = omega (arith, n) in
     let parts = same_parts (times xs) (x.input.moment ∷ []) (times ys) (y.input.moment ∷ []) (times_length xs ∙ shorter ∙ sym (times_length ys)) h in
-    (same_head x.input.moment y.input.moment [] [] parts.1, same_moments xs ys shorter parts.0)
+    (same_one parts.1, same_moments xs ys shorter parts.0)
 
 matched_length : (assets : List Asset) (client asset : Endpoint) (here there xs ys : List RunEvent) → AreMatched assets client asset here there xs ys → length xs ≡ length ys
 matched_length assets client asset here there [] [] h = refl
-matched_length assets client asset here there [] (y ∷ ys) h = absurd h
-matched_length assets client asset here there (x ∷ xs) [] h = absurd h
 matched_length assets client asset here there (x ∷ xs) (y ∷ ys) h = ap suc (matched_length assets client asset here there xs ys h.1)
+matched_length assets client asset here there xs ys h = absurd h
 
 -- the events of two runs with equal moments, in parts of equal lengths
 pub record PartsSame (e d : RunEvent) (xs ys : List RunEvent) : Type 0 where
@@ -403,7 +306,7 @@ parts_same after others_after xs ys e d es ds earlier later h =
     let two = same_parts (times (e ∷ es)) (times xs) (times (d ∷ ds)) (times ys) k split in
     let j : length (times es) ≡ length (times ds) = times_length es ∙ earlier ∙ sym (times_length ds) in
     let one = same_parts (times es) (e.input.moment ∷ []) (times ds) (d.input.moment ∷ []) j two.0 in
-    record { first = same_head e.input.moment d.input.moment [] [] one.1; later = same_moments xs ys later two.1 }
+    record { first = same_one one.1; later = same_moments xs ys later two.1 }
 
 -- ---- two runs
 

@@ -4,7 +4,7 @@ use Rattle.std.specs.Prelude.{find, position, slice_get}
 use Rattle.std.specs.List.{position_or_len, remove}
 use Rattle.std.specs.Option.{is_some}
 use Rattle.std.proofs.lemmas.List.Edits.{length-remove}
-use Rattle.std.proofs.lemmas.Bool.{cases_Bool}
+use Rattle.std.proofs.lemmas.Bool.{and_right, cases_Bool, or_parts}
 use Rattle.std.proofs.lemmas.Bool.Decides.{nat_tests}
 use Rattle.cf_packet.specs.Packet.{PacketValue}
 use Rattle.cf_policy.specs.declared.Asset.{Asset}
@@ -35,30 +35,24 @@ between_with assets last client endpoint x flow (event ∷ earlier) one =
 are_alike : (assets : List Asset) (last : ℕ) (client endpoint : Endpoint) (xs : List Entry) (ss : List Session) → AreAll assets last xs ss →
     Alike (entry_between assets client endpoint) (is_between client endpoint) xs ss
 are_alike assets last client endpoint [] [] all = tt
-are_alike assets last client endpoint [] (s ∷ ss) all = absurd all
-are_alike assets last client endpoint (x ∷ xs) [] all = absurd all
 are_alike assets last client endpoint (x ∷ xs) (s ∷ ss) all =
     (between_with assets last client endpoint x s.flow s.events all.0, are_alike assets last client endpoint xs ss all.1)
+are_alike assets last client endpoint xs ss all = absurd all
 
 alike_length : {A B : Type 0} (p : A → Bool) (q : B → Bool) (xs : List A) (ys : List B) → Alike p q xs ys → length xs ≡ length ys
 alike_length p q [] [] h = refl
-alike_length p q [] (y ∷ ys) h = absurd h
-alike_length p q (x ∷ xs) [] h = absurd h
 alike_length p q (x ∷ xs) (y ∷ ys) h = ap suc (alike_length p q xs ys h.1)
+alike_length p q xs ys h = absurd h
 
 prefix_by : {A : Type 0} (p : A → Bool) (x : A) (xs : List A) (b : Bool) → p x ≡ b → position_or_len p (x ∷ xs) ≡ cond b 0 (1 + position_or_len p xs)
 prefix_by p x xs true e = rw e refl
 prefix_by p x xs false e = rw e refl
 
-prefix_first : {A : Type 0} (p : A → Bool) (x : A) (xs : List A) → position_or_len p (x ∷ xs) ≡ cond (p x) 0 (1 + position_or_len p xs)
-prefix_first p x xs = prefix_by p x xs (p x) refl
-
 alike_first : {A B : Type 0} (p : A → Bool) (q : B → Bool) (xs : List A) (ys : List B) → Alike p q xs ys → position_or_len p xs ≡ position_or_len q ys
 alike_first p q [] [] h = refl
-alike_first p q [] (y ∷ ys) h = absurd h
-alike_first p q (x ∷ xs) [] h = absurd h
 alike_first p q (x ∷ xs) (y ∷ ys) h =
-    prefix_first p x xs ∙ ap (λ b. cond b 0 (1 + position_or_len p xs)) h.0 ∙ ap (λ n. cond (q y) 0 (1 + n)) (alike_first p q xs ys h.1) ∙ sym (prefix_first q y ys)
+    prefix_by p x xs (p x) refl ∙ ap (λ b. cond b 0 (1 + position_or_len p xs)) h.0 ∙ ap (λ n. cond (q y) 0 (1 + n)) (alike_first p q xs ys h.1) ∙ sym (prefix_by q y ys (q y) refl)
+alike_first p q xs ys h = absurd h
 
 alike_position : {A B : Type 0} (p : A → Bool) (q : B → Bool) (xs : List A) (ys : List B) → Alike p q xs ys → position p xs ≡ position q ys
 alike_position p q xs ys h = rw (alike_first p q xs ys h, alike_length p q xs ys h) refl
@@ -76,10 +70,9 @@ closed_with assets last x flow (event ∷ earlier) one = ap is_some one.stands.c
 closed_at_place : (assets : List Asset) (last : ℕ) (xs : List Entry) (ss : List Session) (i : ℕ) → AreAll assets last xs ss →
     is_closed_in xs (Some i) ≡ is_closed_at ss (Some i)
 closed_at_place assets last [] [] i all = refl
-closed_at_place assets last [] (s ∷ ss) i all = absurd all
-closed_at_place assets last (x ∷ xs) [] i all = absurd all
 closed_at_place assets last (x ∷ xs) (s ∷ ss) zero all = closed_with assets last x s.flow s.events all.0
 closed_at_place assets last (x ∷ xs) (s ∷ ss) (suc i) all = closed_at_place assets last xs ss i all.1
+closed_at_place assets last xs ss i all = absurd all
 
 same_closed : (assets : List Asset) (last : ℕ) (xs : List Entry) (ss : List Session) (o : Option ℕ) → AreAll assets last xs ss → is_closed_in xs o ≡ is_closed_at ss o
 same_closed assets last xs ss None all = refl
@@ -87,12 +80,12 @@ same_closed assets last xs ss (Some i) all = closed_at_place assets last xs ss i
 
 -- what the code has of a match, and what the table has
 abbrev pub IsMatch : List Asset → List Session → PacketValue → EntryMatch → Match → Type 0
-IsMatch assets table packet (match.Begins place closed) (Begins flow) =
-    (slice_get assets place ≡ Some flow.asset) × (flow.syn ≡ packet) × (closed ≡ place_of (client_of flow) flow.asset.endpoint table)
-IsMatch assets table packet match.Full Full = Unit {0}
-IsMatch assets table packet (match.Goes place from) (Goes at side) = (place ≡ at) × (from ≡ side)
-IsMatch assets table packet match.Outside Outside = Unit {0}
-IsMatch assets table packet _ _ = ⊥
+IsMatch assets table packet (match.Begins place closed) m =
+    (flow : Flow) × (m ≡ Begins flow) × (slice_get assets place ≡ Some flow.asset) × (flow.syn ≡ packet)
+    × (closed ≡ place_of (client_of flow) flow.asset.endpoint table)
+IsMatch assets table packet match.Full m = m ≡ Full
+IsMatch assets table packet (match.Goes place from) m = m ≡ Goes place from
+IsMatch assets table packet match.Outside m = m ≡ Outside
 
 -- the asset at an endpoint, and its place
 data Found (assets : List Asset) (endpoint : Endpoint) : Type 0 where
@@ -116,26 +109,18 @@ place_by p x xs false e =
           rw (prefix_by p x xs false e, past, gone) refl
     ]
 
-first_false : (a b : Bool) → (a || b) ≡ false → (a ≡ false) × (b ≡ false)
-first_false true b e = cc
-first_false false b e = (refl, e)
-
 -- where no asset stands at an endpoint, that of no place does
 none_is_at : (assets : List Asset) (endpoint : Endpoint) (place : ℕ) → has_asset_at assets endpoint ≡ false → is_at endpoint (slice_get assets place) ≡ false
 none_is_at [] endpoint place free = refl
-none_is_at (a ∷ assets) endpoint zero free = (first_false (same_endpoint a.endpoint endpoint) (has_asset_at assets endpoint) free).0
-none_is_at (a ∷ assets) endpoint (suc place) free = none_is_at assets endpoint place (first_false (same_endpoint a.endpoint endpoint) (has_asset_at assets endpoint) free).1
-
-both_false : (a b : Bool) → b ≡ false → (a && b) ≡ false
-both_false true b e = e
-both_false false b e = refl
+none_is_at (a ∷ assets) endpoint zero free = (or_parts (same_endpoint a.endpoint endpoint) (has_asset_at assets endpoint) free).0
+none_is_at (a ∷ assets) endpoint (suc place) free = none_is_at assets endpoint place (or_parts (same_endpoint a.endpoint endpoint) (has_asset_at assets endpoint) free).1
 
 -- and no session is with it
 pub place_in_none : (assets : List Asset) (client endpoint : Endpoint) (table : List Entry) → has_asset_at assets endpoint ≡ false → place_in assets client endpoint table ≡ None
 place_in_none assets client endpoint [] free = refl
 place_in_none assets client endpoint (x ∷ table) free =
     place_by (entry_between assets client endpoint) x table false
-    (both_false (same_endpoint x.session.source client) (is_at endpoint (slice_get assets x.asset)) (none_is_at assets endpoint x.asset free))
+    (and_right (same_endpoint x.session.source client) (is_at endpoint (slice_get assets x.asset)) (none_is_at assets endpoint x.asset free))
     ∙ ap (option_map suc) (place_in_none assets client endpoint table free)
 
 position_inside : {A : Type 0} (p : A → Bool) (xs : List A) (i : ℕ) → position p xs ≡ Some i → i < length xs
@@ -197,9 +182,9 @@ begins_means assets xs packet place closed e = begins_by assets xs packet place 
 
 module _ (assets : List Asset) (last : ℕ) (xs : List Entry) (ss : List Session) (packet : PacketValue) (all : AreAll assets last xs ss) where
   same_goes : (o p : Option ℕ) → IsMatch assets ss packet (goes_in_client o p) (goes_from_client o p)
-  same_goes (Some place) p = (refl, refl)
-  same_goes None (Some place) = (refl, refl)
-  same_goes None None = tt
+  same_goes (Some place) p = refl
+  same_goes None (Some place) = refl
+  same_goes None None = refl
 
   goes_match : IsMatch assets ss packet (goes_in assets xs packet) (goes ss packet)
   goes_match =
@@ -217,8 +202,8 @@ module _ (assets : List Asset) (last : ℕ) (xs : List Entry) (ss : List Session
 
   by_room : (place : ℕ) (flow : Flow) (o : Option ℕ) (b : Bool) → slice_get assets place ≡ Some flow.asset → o ≡ place_of (client_of flow) flow.asset.endpoint ss →
       IsMatch assets ss flow.syn (if b then match.Begins place o else match.Full) (if b then Begins flow else Full)
-  by_room place flow o true at is = (at, refl, is)
-  by_room place flow o false at is = tt
+  by_room place flow o true at is = (flow, refl, at, refl, is)
+  by_room place flow o false at is = refl
 
   begin_match : (place : ℕ) (asset : Asset) → slice_get assets place ≡ Some asset → same_endpoint asset.endpoint packet.dest ≡ true → (o : Option ℕ) → o ≡ place_of packet.source packet.dest ss →
       IsMatch assets ss packet (begins_in (length xs) place o) (begins_or_full ss (record { asset = asset; syn = packet }))
@@ -253,5 +238,6 @@ module _ (assets : List Asset) (last : ℕ) (xs : List Entry) (ss : List Session
   by_beginning true = begins_match (found assets packet.dest)
   by_beginning false = goes_match
 
-  pub is_match : IsMatch assets ss packet (entry_match assets xs packet) (match_of assets ss packet)
-  is_match = by_beginning (may_begin assets packet)
+  -- what a packet is to those in memory it is to the table
+  pub there : (m : EntryMatch) → entry_match assets xs packet ≡ m → IsMatch assets ss packet m (match_of assets ss packet)
+  there m e = subst (λ x. IsMatch assets ss packet x (match_of assets ss packet)) e (by_beginning (may_begin assets packet))

@@ -4,7 +4,7 @@ use Rattle.std.specs.List.{flat_map}
 use Rattle.std.proofs.lemmas.List.{append-nil, take-append-drop, take-append-le, drop-append-le, length-take, take_all}
 use Rattle.std.proofs.lemmas.Slice.Eq.{bytes_eq-Decides}
 use Rattle.std.proofs.Math.Seq.{take-append-add}
-use Rattle.std.proofs.lemmas.Bool.{cases_lt}
+use Rattle.std.proofs.lemmas.Bool.{and_parts, cases_lt}
 use Rattle.std.proofs.lemmas.Bool.Decides.{nat_tests}
 use Rattle.cf_pcap.specs.Header.{output_header, output_octets}
 use Rattle.cf_pcap.specs.Record.{RecordAnswerValue, Need, TooLong, Whole, captured_at, head_octets, record_of}
@@ -72,36 +72,24 @@ headed all more h =
     let long : 24 ≤ length all = omega (arith, length-take 24 all, ap length same) in
     (take-append-le 24 all more long, drop-append-le 24 all more long)
 
-pub both : (a b : Bool) → (a && b) ≡ true → (a ≡ true) × (b ≡ true)
-both true b h = (refl, h)
-both false b h = cc
+-- one record more
+pub record Recorded (file : Content) (octets : List ℕ) (sent : SentValue) : Type 0 where
+  pub packets : file_packets (with_appended file octets) ≡ with_item sent (file_packets file)
+  pub ends : ends_with_record (with_appended file octets) ≡ true
+  pub part : packet_part (with_appended file octets) ≡ packet_part file
 
-pub file_packets-record : (file : Content) (octets : List ℕ) (sent : SentValue) → IsRecord octets sent → ends_with_record file ≡ true →
-    file_packets (with_appended file octets) ≡ with_item sent (file_packets file)
-file_packets-record untold octets sent r e = refl
-file_packets-record absent octets sent r e = refl
-file_packets-record (holds all) octets sent r e =
-    let (h, n) = both _ _ e in
+pub recorded : (file : Content) (octets : List ℕ) (sent : SentValue) → IsRecord octets sent → ends_with_record file ≡ true → Recorded file octets sent
+recorded untold octets sent r e = record { packets = refl; ends = refl; part = refl }
+recorded absent octets sent r e = record { packets = refl; ends = refl; part = refl }
+recorded (holds all) octets sent r e =
+    let (h, n) = and_parts _ _ e in
     let (t, d) = headed all octets h in
-    rw (t, d, h, items-append packet_in [] (drop 24 all) octets, nothing _ n, (one octets sent r).0) refl
-
-pub ends_with_record-record : (file : Content) (octets : List ℕ) (sent : SentValue) → IsRecord octets sent → ends_with_record file ≡ true →
-    ends_with_record (with_appended file octets) ≡ true
-ends_with_record-record untold octets sent r e = refl
-ends_with_record-record absent octets sent r e = refl
-ends_with_record-record (holds all) octets sent r e =
-    let (h, n) = both _ _ e in
-    let (t, d) = headed all octets h in
-    rw (t, d, h, part-append packet_in [] (drop 24 all) octets, nothing _ n, (one octets sent r).1) refl
-
-pub packet_part-record : (file : Content) (octets : List ℕ) (sent : SentValue) → IsRecord octets sent → ends_with_record file ≡ true →
-    packet_part (with_appended file octets) ≡ packet_part file
-packet_part-record untold octets sent r e = refl
-packet_part-record absent octets sent r e = refl
-packet_part-record (holds all) octets sent r e =
-    let (h, n) = both _ _ e in
-    let (t, d) = headed all octets h in
-    rw (d, part-append packet_in [] (drop 24 all) octets, nothing _ n, (one octets sent r).1) refl
+    let (item, rest) = one octets sent r in
+    record {
+      packets = rw (t, d, h, items-append packet_in [] (drop 24 all) octets, nothing _ n, item) refl;
+      ends = rw (t, d, h, part-append packet_in [] (drop 24 all) octets, nothing _ n, rest) refl;
+      part = rw (d, part-append packet_in [] (drop 24 all) octets, nothing _ n, rest) refl;
+    }
 
 -- some octets of a record add no packet and stand after the last one, or they are the record
 pub file_packets-part : (file : Content) (octets : List ℕ) (sent : SentValue) (k : ℕ) → IsRecord octets sent → ends_with_record file ≡ true →
@@ -112,7 +100,7 @@ pub file_packets-part : (file : Content) (octets : List ℕ) (sent : SentValue) 
 file_packets-part untold octets sent k r e = inl (refl, (0, refl))
 file_packets-part absent octets sent k r e = inl (refl, (0, refl))
 file_packets-part (holds all) octets sent k r e =
-    let (h, n) = both _ _ e in
+    let (h, n) = and_parts _ _ e in
     elim (cases_lt k (length octets)) [
       | inl below ↦
           let (t, d) = headed all (take k octets) h in
@@ -123,23 +111,23 @@ file_packets-part (holds all) octets sent k r e =
             (k, rw (d, part-append packet_in [] (drop 24 all) (take k octets), nothing _ n) (part-none packet_in [] octets k unspelled)),
           )
       | inr above ↦ inr (
-        rw (take_all k octets above) (file_packets-record (holds all) octets sent r e),
-        rw (take_all k octets above) (packet_part-record (holds all) octets sent r e ∙ nothing _ n),
+        rw (take_all k octets above) (recorded (holds all) octets sent r e).packets,
+        rw (take_all k octets above) ((recorded (holds all) octets sent r e).part ∙ nothing _ n),
       )
     ]
 
--- a file that ends with a record is its header, and the records of its packets
-pub file_packets-whole : (file : Content) (packets : List SentValue) → file_packets file ≡ Some packets → ends_with_record file ≡ true →
-    file ≡ holds (output_octets ++ flat_map record_octets packets)
-file_packets-whole untold packets h e = cc
-file_packets-whole absent packets h e = cc
-file_packets-whole (holds all) packets h e =
-    let (header, n) = both _ _ e in
-    let same : take 24 all ≡ output_octets = (bytes_eq-Decides (take 24 all) output_octets).0 header in
-    let found : items_from packet_in [] (drop 24 all) ≡ packets =
-    let some : (if true then Some (items_from packet_in [] (drop 24 all)) else None) ≡ Some packets = subst (λ b. (if b then Some (items_from packet_in [] (drop 24 all)) else None) ≡ Some packets) header h in cc in
-    let rest : flat_map record_octets (items_from packet_in [] (drop 24 all)) ++ part_from packet_in [] (drop 24 all) ≡ drop 24 all =
-    items-rest packet_in record_octets packet_in-spelled [] (drop 24 all) in
-    let records : flat_map record_octets packets ≡ drop 24 all =
-    ap (flat_map record_octets) (sym found) ∙ sym (append-nil _) ∙ ap (λ part. flat_map record_octets (items_from packet_in [] (drop 24 all)) ++ part) (sym (nothing _ n)) ∙ rest in
-    ap holds (sym (take-append-drop 24 all) ∙ ap (λ front. front ++ drop 24 all) same ∙ ap (λ back. output_octets ++ back) (sym records))
+some_if : (b : Bool) (items packets : List SentValue) → (if b then Some items else None) ≡ Some packets → (b ≡ true) × (items ≡ packets)
+some_if true items packets e = (refl, cc)
+some_if false items packets e = cc
+
+-- a file with packets is its header, their records, and what stands after them
+pub file_is : (file : Content) (packets : List SentValue) → file_packets file ≡ Some packets → file ≡ holds (output_octets ++ (flat_map record_octets packets ++ packet_part file))
+file_is untold packets h = cc
+file_is absent packets h = cc
+file_is (holds all) packets h =
+    let found = some_if (has_header all) (items_from packet_in [] (drop 24 all)) packets h in
+    let same : take 24 all ≡ output_octets = (bytes_eq-Decides (take 24 all) output_octets).0 found.0 in
+    let part = part_from packet_in [] (drop 24 all) in
+    let rest : flat_map record_octets packets ++ part ≡ drop 24 all =
+    ap (λ ps. flat_map record_octets ps ++ part) (sym found.1) ∙ items-rest packet_in record_octets packet_in-spelled [] (drop 24 all) in
+    ap holds (sym (take-append-drop 24 all) ∙ ap (λ front. front ++ drop 24 all) same ∙ ap (λ back. output_octets ++ back) (sym rest))

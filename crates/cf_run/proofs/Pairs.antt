@@ -2,7 +2,8 @@
 use Rattle.std.proofs.Common.{◌≡◌, ℕ, zero, suc, ◌≤◌, ◌&&◌, Bool, true, false, List, [], ◌∷◌, length, cond, Option, option_map, Some, None, refl, sym, ap, ◌∙◌, subst, arith}
 use Rattle.std.specs.Prelude.{filter, position, slice_get}
 use Rattle.std.specs.List.{remove}
-use Rattle.std.proofs.lemmas.Bool.{true≢false}
+use Rattle.std.proofs.lemmas.Bool.{and_parts}
+use Rattle.std.proofs.lemmas.List.Sums.{count_by-le-length, length-filter}
 use Rattle.std.proofs.lemmas.Option.{same_Some}
 use Rattle.cf_session.specs.Session.{SessionEvent, client_of}
 use Rattle.cf_view.specs.declared.Endpoint.{Endpoint}
@@ -32,32 +33,19 @@ pub filter_swap : {A : Type 0} (p q : A → Bool) (xs : List A) → filter p (fi
 filter_swap p q [] = refl
 filter_swap p q (x ∷ xs) = swap_one p q x xs (p x) (q x) refl refl (filter_swap p q xs)
 
-at_most_by : {A : Type 0} (p : A → Bool) (x : A) (xs : List A) (b : Bool) → p x ≡ b → length (filter p xs) ≤ length xs → length (filter p (x ∷ xs)) ≤ length (x ∷ xs)
-at_most_by p x xs true e h = let same = ap length (filter_keeps p x xs e) in omega (arith, h, same)
-at_most_by p x xs false e h = let same = ap length (filter_drops p x xs e) in omega (arith, h, same)
-
 pub filter_at_most : {A : Type 0} (p : A → Bool) (xs : List A) → length (filter p xs) ≤ length xs
-filter_at_most p [] = omega arith
-filter_at_most p (x ∷ xs) = at_most_by p x xs (p x) refl (filter_at_most p xs)
+filter_at_most p xs = omega (arith, length-filter p xs, count_by-le-length p xs)
 
 -- ---- which session is that of a client and an asset
 
-pub and_first : (a b : Bool) → (a && b) ≡ true → a ≡ true
-and_first true b e = refl
-and_first false b e = absurd (true≢false (sym e))
-
-pub and_second : (a b : Bool) → (a && b) ≡ true → b ≡ true
-and_second true b e = e
-and_second false b e = absurd (true≢false (sym e))
-
 -- what a session between them is between
 pub client_is : (client asset : Endpoint) (s : Session) → is_between client asset s ≡ true → client_of s.flow ≡ client
-client_is client asset s e = same_is (client_of s.flow) client (and_first _ _ e)
+client_is client asset s e = same_is (client_of s.flow) client (and_parts _ _ e).0
 
 pub asset_is : (client asset : Endpoint) (s : Session) → is_between client asset s ≡ true → s.flow.asset.endpoint ≡ asset
-asset_is client asset s e = same_is s.flow.asset.endpoint asset (and_second _ _ e)
+asset_is client asset s e = same_is s.flow.asset.endpoint asset (and_parts _ _ e).1
 
--- ---- the first that passes
+-- ---- the first of theirs
 
 none_by : {A : Type 0} (p : A → Bool) (x : A) (xs : List A) (b : Bool) (o : Option ℕ) → p x ≡ b → position p xs ≡ o → cond b (Some 0) (option_map suc o) ≡ None →
     (p x ≡ false) × (position p xs ≡ None)
@@ -71,54 +59,53 @@ none_there p (x ∷ xs) h =
     let parts = none_by p x xs (p x) (position p xs) refl refl (sym (place_by p x xs (p x) refl) ∙ h) in
     filter_drops p x xs parts.0 ∙ none_there p xs parts.1
 
--- the first of a list that passes is its head, or that of the rest
-data FirstOf {A : Type 0} (p : A → Bool) (x : A) (xs : List A) (place : ℕ) : Type 0 where
-  head : p x ≡ true → place ≡ 0 → FirstOf p x xs place
-  rest : (i : ℕ) → p x ≡ false → position p xs ≡ Some i → place ≡ suc i → FirstOf p x xs place
+module _ (client asset : Endpoint) where
+  -- the first session of theirs, and the others of theirs
+  pub record First (place : ℕ) (ss : List Session) : Type 0 where
+    pub one : Session
+    pub more : List Session
+    pub at : slice_get ss place ≡ Some one
+    pub passes : is_between client asset one ≡ true
+    pub is : filter (is_between client asset) ss ≡ one ∷ more
+    pub removed : filter (is_between client asset) (remove ss place) ≡ more
+    pub changed : (e : SessionEvent) →
+        filter (is_between client asset) (with_event_at place e ss) ≡ record one { events = replaced e one.events } ∷ more
 
-first_by : {A : Type 0} (p : A → Bool) (x : A) (xs : List A) (place : ℕ) (b : Bool) (o : Option ℕ) → p x ≡ b → position p xs ≡ o → cond b (Some 0) (option_map suc o) ≡ Some place →
-    FirstOf p x xs place
-first_by p x xs place true o e f h = head e (sym (same_Some 0 place h))
-first_by p x xs place false None e f h = cc
-first_by p x xs place false (Some i) e f h = rest i e f (sym (same_Some (suc i) place h))
+  first_by : (s : Session) (ss : List Session) (place : ℕ) (b : Bool) (o : Option ℕ) → is_between client asset s ≡ b → place_of client asset ss ≡ o →
+      cond b (Some 0) (option_map suc o) ≡ Some place → ((i : ℕ) → place_of client asset ss ≡ Some i → First i ss) → First place (s ∷ ss)
+  first_by s ss place true o h f at more =
+      subst (λ n. First n (s ∷ ss)) (same_Some 0 place at)
+      (record {
+        one = s;
+        more = filter (is_between client asset) ss;
+        at = refl;
+        passes = h;
+        is = filter_keeps (is_between client asset) s ss h;
+        removed = refl;
+        changed = λ e. filter_keeps (is_between client asset) (record s { events = replaced e s.events }) ss h;
+      })
+  first_by s ss place false None h f at more = cc
+  first_by s ss place false (Some i) h f at more =
+      let there = more i f in
+      subst (λ n. First n (s ∷ ss)) (same_Some (suc i) place at)
+      (record {
+        one = there.one;
+        more = there.more;
+        at = there.at;
+        passes = there.passes;
+        is = filter_drops (is_between client asset) s ss h ∙ there.is;
+        removed = filter_drops (is_between client asset) s (remove ss i) h ∙ there.removed;
+        changed = λ e. filter_drops (is_between client asset) s (with_event_at i e ss) h ∙ there.changed e;
+      })
 
-first_of : {A : Type 0} (p : A → Bool) (x : A) (xs : List A) (place : ℕ) → position p (x ∷ xs) ≡ Some place → FirstOf p x xs place
-first_of p x xs place h = first_by p x xs place (p x) (position p xs) refl refl (sym (place_by p x xs (p x) refl) ∙ h)
+  never_in_none : (place : ℕ) → place_of client asset [] ≡ Some place → ⊥
+  never_in_none place h = cc
 
-never_in_none : {A : Type 0} (p : A → Bool) (place : ℕ) → position p [] ≡ Some place → ⊥
-never_in_none p place h = cc
-
--- what stands there passes
-pub record Passes {A : Type 0} (p : A → Bool) (xs : List A) (place : ℕ) : Type 0 where
-  pub one : A
-  pub at : slice_get xs place ≡ Some one
-  pub passes : p one ≡ true
-
-passes_by : {A : Type 0} (p : A → Bool) (x : A) (xs : List A) (place : ℕ) → ((i : ℕ) → position p xs ≡ Some i → Passes p xs i) → FirstOf p x xs place → Passes p (x ∷ xs) place
-passes_by p x xs place more (head e at) = subst (λ n. Passes p (x ∷ xs) n) (sym at) (record { one = x; at = refl; passes = e })
-passes_by p x xs place more (rest i e f at) =
-    let there = more i f in
-    subst (λ n. Passes p (x ∷ xs) n) (sym at) (record { one = there.one; at = there.at; passes = there.passes })
-
-pub position_passes : {A : Type 0} (p : A → Bool) (xs : List A) (place : ℕ) → position p xs ≡ Some place → Passes p xs place
-position_passes p [] place h = absurd (never_in_none p place h)
-position_passes p (x ∷ xs) place h = passes_by p x xs place (λ i e. position_passes p xs i e) (first_of p x xs place h)
-
--- the first one, taken out
-record TakenOut {A : Type 0} (p : A → Bool) (xs : List A) (place : ℕ) : Type 0 where
-  pub one : A
-  pub is : filter p xs ≡ one ∷ filter p (remove xs place)
-
-taken_by : {A : Type 0} (p : A → Bool) (x : A) (xs : List A) (place : ℕ) → ((i : ℕ) → position p xs ≡ Some i → TakenOut p xs i) → FirstOf p x xs place → TakenOut p (x ∷ xs) place
-taken_by p x xs place more (head e at) = subst (λ n. TakenOut p (x ∷ xs) n) (sym at) (record { one = x; is = filter_keeps p x xs e })
-taken_by p x xs place more (rest i e f at) =
-    let there = more i f in
-    subst (λ n. TakenOut p (x ∷ xs) n) (sym at)
-    (record { one = there.one; is = filter_drops p x xs e ∙ there.is ∙ ap (λ l. there.one ∷ l) (sym (filter_drops p x (remove xs i) e)) })
-
-taken_out : {A : Type 0} (p : A → Bool) (xs : List A) (place : ℕ) → position p xs ≡ Some place → TakenOut p xs place
-taken_out p [] place h = absurd (never_in_none p place h)
-taken_out p (x ∷ xs) place h = taken_by p x xs place (λ i e. taken_out p xs i e) (first_of p x xs place h)
+  pub first : (place : ℕ) (ss : List Session) → place_of client asset ss ≡ Some place → First place ss
+  first place [] h = absurd (never_in_none place h)
+  first place (s ∷ ss) h =
+      first_by s ss place (is_between client asset s) (place_of client asset ss) refl refl
+      (sym (place_by (is_between client asset) s ss (is_between client asset s) refl) ∙ h) (λ i e. first i ss e)
 
 module _ (client asset : Endpoint) where
   -- ---- the first half
@@ -157,40 +144,6 @@ module _ (client asset : Endpoint) where
       let F = filter (is_between client asset) ss in
       elim (is_between client asset s) as (λ b. cond b (s ∷ N) N ≡ cond b (s ∷ F) F) [ true ↦ ap (λ l. s ∷ l) more | false ↦ more ]
 
-  -- the first one of theirs, changed
-  pub record Changed (place : ℕ) (e : SessionEvent) (ss : List Session) : Type 0 where
-    pub one : Session
-    pub more : List Session
-    pub at : slice_get ss place ≡ Some one
-    pub is : filter (is_between client asset) ss ≡ one ∷ more
-    pub after : filter (is_between client asset) (with_event_at place e ss) ≡ record one { events = replaced e one.events } ∷ more
-
-  changed_by : (place : ℕ) (e : SessionEvent) (s : Session) (ss : List Session) → ((i : ℕ) → position (is_between client asset) ss ≡ Some i → Changed i e ss) →
-      FirstOf (is_between client asset) s ss place → Changed place e (s ∷ ss)
-  changed_by place e s ss more (head h at) =
-      subst (λ n. Changed n e (s ∷ ss)) (sym at)
-      (record {
-        one = s;
-        more = filter (is_between client asset) ss;
-        at = refl;
-        is = filter_keeps (is_between client asset) s ss h;
-        after = filter_keeps (is_between client asset) (record s { events = replaced e s.events }) ss h;
-      })
-  changed_by place e s ss more (rest i h f at) =
-      let there = more i f in
-      subst (λ n. Changed n e (s ∷ ss)) (sym at)
-      (record {
-        one = there.one;
-        more = there.more;
-        at = there.at;
-        is = filter_drops (is_between client asset) s ss h ∙ there.is;
-        after = filter_drops (is_between client asset) s (with_event_at i e ss) h ∙ there.after;
-      })
-
-  pub changed_first : (place : ℕ) (e : SessionEvent) (ss : List Session) → position (is_between client asset) ss ≡ Some place → Changed place e ss
-  changed_first place e [] h = absurd (never_in_none (is_between client asset) place h)
-  changed_first place e (s ∷ ss) h = changed_by place e s ss (λ i f. changed_first i e ss f) (first_of (is_between client asset) s ss place h)
-
   removed_other : (place : ℕ) (ss : List Session) → is_theirs client asset (slice_get ss place) ≡ false → filter (is_between client asset) (remove ss place) ≡ filter (is_between client asset) ss
   removed_other zero [] h = refl
   removed_other (suc place) [] h = refl
@@ -209,8 +162,8 @@ module _ (client asset : Endpoint) where
       filter (is_between client asset) (elim o [ Some place ↦ remove ss place | None ↦ ss ]) ≡ []
   without_theirs_by ss None e h = none_there (is_between client asset) ss e
   without_theirs_by ss (Some place) e h =
-      let out = taken_out (is_between client asset) ss place e in
-      empty_behind out.one (filter (is_between client asset) (remove ss place)) (subst (λ l. length l ≤ 1) out.is h)
+      let there = first client asset place ss e in
+      there.removed ∙ empty_behind there.one there.more (subst (λ l. length l ≤ 1) there.is h)
 
   -- without it there is none
   pub without_theirs : (ss : List Session) → length (filter (is_between client asset) ss) ≤ 1 → filter (is_between client asset) (without client asset ss) ≡ []
@@ -220,7 +173,7 @@ module _ (client asset : Endpoint) where
       filter (is_between client asset) (elim o [ Some place ↦ remove ss place | None ↦ ss ]) ≡ filter (is_between client asset) ss
   without_other_by c a ss None e apart = refl
   without_other_by c a ss (Some place) e apart =
-      let there = position_passes (is_between c a) ss place e in
+      let there = first c a place ss e in
       removed_other place ss (ap (is_theirs client asset) there.at ∙ apart there.one there.passes)
 
   pub without_other : (c a : Endpoint) (ss : List Session) → ((s : Session) → is_between c a s ≡ true → is_between client asset s ≡ false) →

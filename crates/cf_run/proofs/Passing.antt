@@ -5,7 +5,6 @@ use Rattle.cf_run.specs.Capture.{AtPlace, Passes, at_place, form_behind}
 use Rattle.cf_run.specs.Pieces.{EndsAs, FindsBehind, FindsPiece, IsBehind, PieceAs}
 use Rattle.cf_run.specs.Reader.{PassesSome, PassesTo}
 use Rattle.cf_run.specs.declared.form.Form.{Form}
-use Rattle.cf_run.specs.declared.record_reader.NextRecord.{NextRecord}
 use Rattle.cf_run.specs.declared.record_reader.NextRecord.TheVariants as next
 use Rattle.cf_run.specs.declared.record_reader.Piece.{Piece}
 use Rattle.cf_run.specs.declared.record_reader.Piece.TheVariants as piece
@@ -35,12 +34,6 @@ passes_more (holds all) old f g from place used buffer (count, p) (at, behind) =
 moved : (all : List ℕ) (count : ℕ) (old f g : Form) (from place : ℕ) → PassesTo all count old from f place → g ≡ f → PassesTo all count old from g place
 moved all count old f g from place p e = subst (λ x. PassesTo all count old from x place) (sym e) p
 
-ends : (all : List ℕ) (count : ℕ) (old f g : Form) (from place : ℕ) (answer : NextRecord) → PassesTo all count old from f place →
-    EndsAs answer (at_place f place (drop place all)) → g ≡ f →
-    (count : ℕ) × PassesTo all count old from g place × EndsAs answer (at_place g place (drop place all))
-ends all count old f g from place answer p h e =
-    (count, moved all count old f g from place p e, subst (λ x. EndsAs answer (at_place x place (drop place all))) (sym e) h)
-
 -- and then what is none of them
 pub behind_all : (file : Content) (old f g : Form) (from place : ℕ) (buffer : List ℕ) (found : Piece) → PassesSome file old from f place →
     FindsPiece file f place g buffer found → ((used : ℕ) → found ≢ piece.Passed used) → FindsBehind file old from g place buffer found
@@ -49,9 +42,6 @@ behind_all absent old f g from place buffer found p h n = h
 behind_all (holds all) old f g from place buffer (piece.Passed used) p h n = absurd (n used refl)
 behind_all (holds all) old f g from place buffer (piece.Record stamp link at end used) (count, p) (here, behind) n = (count, f, p, here, behind)
 behind_all (holds all) old f g from place buffer (piece.Ends next.Failed) (count, p) h n = (count, moved all count old f g from place p h)
-behind_all (holds all) old f g from place buffer (piece.Ends next.End) (count, p) (h, e) n = ends all count old f g from place next.End p h e
-behind_all (holds all) old f g from place buffer (piece.Ends next.Cut) (count, p) (h, e) n = ends all count old f g from place next.Cut p h e
-behind_all (holds all) old f g from place buffer (piece.Ends next.TooLong) (count, p) (h, e) n = ends all count old f g from place next.TooLong p h e
-behind_all (holds all) old f g from place buffer (piece.Ends (next.Refused number)) (count, p) (h, e) n = ends all count old f g from place (next.Refused number) p h e
-behind_all (holds all) old f g from place buffer (piece.Ends next.Large) (count, p) (h, e) n = ends all count old f g from place next.Large p h e
 behind_all (holds all) old f g from place buffer (piece.Ends (next.Whole stamp)) (count, p) (h, e) n = absurd h
+behind_all (holds all) old f g from place buffer (piece.Ends answer) (count, p) (h, e) n =
+    (count, moved all count old f g from place p e, subst (λ x. EndsAs answer (at_place x place (drop place all))) (sym e) h)

@@ -52,8 +52,6 @@ pub all_replaced : (assets : List Asset) (last : ℕ) (xs : List Entry) (ss : Li
     ((s : Session) → slice_get ss i ≡ Some s → IsOne assets last y (one_on e s) × (stays (one_on e s) ≡ true)) → i < length ss →
     AreAll assets last (slice_set xs i y) (filter stays (with_event_at i e ss))
 all_replaced assets last [] [] i e y all st h l = absurd (omega (arith, l))
-all_replaced assets last [] (s ∷ ss) i e y all st h l = absurd all
-all_replaced assets last (x ∷ xs) [] i e y all st h l = absurd all
 all_replaced assets last (x ∷ xs) (s ∷ ss) zero e y all st h l =
     let g = h s refl in
     let whole : filter stays (one_on e s ∷ ss) ≡ one_on e s ∷ ss = ap (λ b. cond b (one_on e s ∷ filter stays ss) (filter stays ss)) g.1 ∙ ap (λ zs. one_on e s ∷ zs) (filter-stays ss st.1) in
@@ -62,14 +60,13 @@ all_replaced assets last (x ∷ xs) (s ∷ ss) (suc i) e y all st h l =
     let rest = all_replaced assets last xs ss i e y all.1 st.1 h (omega (arith, l)) in
     let F = filter stays (with_event_at i e ss) in
     subst (λ b. AreAll assets last (x ∷ slice_set xs i y) (cond b (s ∷ F) F)) (sym st.0) (all.0, rest)
+all_replaced assets last xs ss i e y all st h l = absurd all
 
 -- a session is cut, and leaves
 pub all_removed : (assets : List Asset) (last : ℕ) (xs : List Entry) (ss : List Session) (i : ℕ) (e : SessionEvent) → AreAll assets last xs ss → AllStay ss →
     ((s : Session) → slice_get ss i ≡ Some s → stays (one_on e s) ≡ false) → i < length ss →
     AreAll assets last (remove xs i) (filter stays (with_event_at i e ss))
 all_removed assets last [] [] i e all st h l = absurd (omega (arith, l))
-all_removed assets last [] (s ∷ ss) i e all st h l = absurd all
-all_removed assets last (x ∷ xs) [] i e all st h l = absurd all
 all_removed assets last (x ∷ xs) (s ∷ ss) zero e all st h l =
     let whole : filter stays (one_on e s ∷ ss) ≡ ss = ap (λ b. cond b (one_on e s ∷ filter stays ss) (filter stays ss)) (h s refl) ∙ filter-stays ss st.1 in
     subst (AreAll assets last xs) (sym whole) all.1
@@ -77,6 +74,7 @@ all_removed assets last (x ∷ xs) (s ∷ ss) (suc i) e all st h l =
     let rest = all_removed assets last xs ss i e all.1 st.1 h (omega (arith, l)) in
     let F = filter stays (with_event_at i e ss) in
     subst (λ b. AreAll assets last (x ∷ remove xs i) (cond b (s ∷ F) F)) (sym st.0) (all.0, rest)
+all_removed assets last xs ss i e all st h l = absurd all
 
 -- the session of the table for which the one in memory at a place stands
 pub one_at : (assets : List Asset) (last tick : ℕ) (xs : List Entry) (ss : List Session) (i : ℕ) (x : Entry) → AreAll assets last xs ss → AreTicked tick ss → slice_get xs i ≡ Some x →
@@ -91,11 +89,15 @@ one_at assets last tick (y ∷ xs) (s ∷ ss) (suc i) x all ticked at =
 
 -- ---- a session hears a packet
 
+-- a number is what the work of a session counts
+abbrev pub CountsOf : SessionValue → (Work → ℕ) → ℕ → Type 0
+CountsOf s count n = (flow : Flow) (earlier : List SessionEvent) (event : SessionEvent) → IsSessionOf flow earlier event s → n ≡ count event.work
+
 module _ (assets : List Asset) (limit now place : ℕ) (from : Side) (packet : PacketValue) (entries : List Entry) (table : List Session) (old new : Told)
     (x : Entry) (y : SessionValue) (due : ℕ) (asset : Asset) (at : slice_get entries place ≡ Some x) (asset_at : slice_get assets x.asset ≡ Some asset)
     (all : AreAll assets now entries table) (ticked : AreTicked (now - 1) table) (some : 1 ≤ now) (admitted refused : ℕ)
-    (counts_admitted : (flow : Flow) (earlier : List SessionEvent) (event : SessionEvent) → IsSessionOf flow earlier event x.session → admitted ≡ event.work.admitted)
-    (counts_refused : (flow : Flow) (earlier : List SessionEvent) (event : SessionEvent) → IsSessionOf flow earlier event x.session → refused ≡ event.work.refused) where
+    (counts_admitted : CountsOf x.session (λ w. w.admitted) admitted) (counts_refused : CountsOf x.session (λ w. w.refused) refused)
+    (now_admitted : CountsOf y (λ w. w.admitted) y.lane.admitted) (now_refused : CountsOf y (λ w. w.refused) y.lane.refused) where
   abbrev pub after : Entry
   after = record { session = y; asset = x.asset; due = due }
 
@@ -125,10 +127,8 @@ module _ (assets : List Asset) (limit now place : ℕ) (from : Side) (packet : P
         ap (λ m. m - before) n ∙ ap (λ m. count event.work - m) (b ∙ ap count half_ticked.0.work) ∙ ap (λ o. count event.work - count (work_before o)) (sym there)
 
     going_on : IsSessionOf flow earlier event y →
-        ((flow : Flow) (earlier : List SessionEvent) (event : SessionEvent) → IsSessionOf flow earlier event y → y.lane.admitted ≡ event.work.admitted) →
-        ((flow : Flow) (earlier : List SessionEvent) (event : SessionEvent) → IsSessionOf flow earlier event y → y.lane.refused ≡ event.work.refused) →
         Going assets limit now place from packet table (slice_set entries place after) old new (outcome.Went (y.lane.admitted - admitted) (y.lane.refused - refused) 0) event
-    going_on stands ca cr =
+    going_on stands =
         let next : IsOneBy assets now after flow earlier event =
         record { stands = stands; asset = one.asset; last_moment = omega (arith, hears.is_packet.client_on.0, half_ticked.0.client_tick, some) } in
         let stay : stays (record { flow = flow; events = event ∷ earlier }) ≡ true = ap (λ c. not (is_cut c)) stands.going in
@@ -138,8 +138,8 @@ module _ (assets : List Asset) (limit now place : ℕ) (from : Side) (packet : P
           all = all_replaced assets now entries table place event after all (ticked_stay (now - 1) table ticked)
               (λ z at_z. subst (λ (w : Session). IsOne assets now after (one_on event w) × (stays (one_on event w) ≡ true)) (same_one z at_z) (next, stay)) within;
           counts = (
-            decides (λ w. w.admitted) admitted y.lane.admitted (counts_admitted flow earlier half one.stands) (ca flow earlier event stands),
-            decides (λ w. w.refused) refused y.lane.refused (counts_refused flow earlier half one.stands) (cr flow earlier event stands),
+            decides (λ w. w.admitted) admitted y.lane.admitted (counts_admitted flow earlier half one.stands) (now_admitted flow earlier event stands),
+            decides (λ w. w.refused) refused y.lane.refused (counts_refused flow earlier half one.stands) (now_refused flow earlier event stands),
             ap (λ c. one_if (is_cut c)) (sym stands.going),
           );
         }
@@ -158,56 +158,41 @@ module _ (assets : List Asset) (limit now place : ℕ) (from : Side) (packet : P
       );
     }
 
-  heard_by : (s : Session) (flow : Flow) (earlier : List SessionEvent) (half : SessionEvent) → s ≡ record { flow = flow; events = half ∷ earlier } → slice_get table place ≡ Some s → place < length table →
-      IsOneBy assets now x flow earlier half → HasTicked (now - 1) flow (half ∷ earlier) → (l : Life) → HearsBy flow limit earlier half from packet y old new l →
-      ((flow : Flow) (earlier : List SessionEvent) (event : SessionEvent) → IsSessionOf flow earlier event y → y.lane.admitted ≡ event.work.admitted) →
-      ((flow : Flow) (earlier : List SessionEvent) (event : SessionEvent) → IsSessionOf flow earlier event y → y.lane.refused ≡ event.work.refused) →
+  -- the session of the table goes on so, as the call found it
+  abbrev Heard : Life → Type 0
+  Heard l =
       (event : SessionEvent) × Going assets limit now place from packet table (entries_by (stays_by l)) old new
       (outcome.Went (y.lane.admitted - admitted) (y.lane.refused - refused) (one_if (cuts_by l))) event
-  heard_by s flow earlier half is here within one half_ticked life.Expired h ca cr = absurd h
-  heard_by s flow earlier half is here within one half_ticked life.Live h ca cr =
-      (h.0, going_on s flow earlier half is here within one half_ticked h.0 h.1 h.2.stands ca cr)
-  heard_by s flow earlier half is here within one half_ticked life.Closed h ca cr =
-      (h.0, going_on s flow earlier half is here within one half_ticked h.0 h.1 h.2.stands ca cr)
-  heard_by s flow earlier half is here within one half_ticked (life.Cut because) h ca cr =
+
+  abbrev AreHeard : Life → Type 0
+  AreHeard l =
+      (flow : Flow) (earlier : List SessionEvent) (half : SessionEvent) → flow.asset ≡ asset → IsSessionOf flow earlier half x.session
+      → IsTick flow earlier half.client.tick half → moment half.client ≡ now → HearsBy flow limit earlier half from packet y old new l
+
+  heard_by : (s : Session) (flow : Flow) (earlier : List SessionEvent) (half : SessionEvent) → s ≡ record { flow = flow; events = half ∷ earlier } → slice_get table place ≡ Some s → place < length table →
+      IsOneBy assets now x flow earlier half → HasTicked (now - 1) flow (half ∷ earlier) → (l : Life) → HearsBy flow limit earlier half from packet y old new l → Heard l
+  heard_by s flow earlier half is here within one half_ticked life.Expired h = absurd h
+  heard_by s flow earlier half is here within one half_ticked life.Live h = (h.0, going_on s flow earlier half is here within one half_ticked h.0 h.1 h.2.stands)
+  heard_by s flow earlier half is here within one half_ticked life.Closed h = (h.0, going_on s flow earlier half is here within one half_ticked h.0 h.1 h.2.stands)
+  heard_by s flow earlier half is here within one half_ticked (life.Cut because) h =
       (h.0, going_off s flow earlier half is here within one half_ticked h.0 h.1 because h.2 h.3)
 
   heard_in : (s : Session) (flow : Flow) (events : List SessionEvent) → s ≡ record { flow = flow; events = events } → slice_get table place ≡ Some s → place < length table →
-      IsOneWith assets now x flow events → HasTicked (now - 1) flow events → (l : Life) →
-      ((flow : Flow) (earlier : List SessionEvent) (half : SessionEvent) → flow.asset ≡ asset → IsSessionOf flow earlier half x.session → IsTick flow earlier half.client.tick half →
-      moment half.client ≡ now → HearsBy flow limit earlier half from packet y old new l) →
-      ((flow : Flow) (earlier : List SessionEvent) (event : SessionEvent) → IsSessionOf flow earlier event y → y.lane.admitted ≡ event.work.admitted) →
-      ((flow : Flow) (earlier : List SessionEvent) (event : SessionEvent) → IsSessionOf flow earlier event y → y.lane.refused ≡ event.work.refused) →
-      (event : SessionEvent) × Going assets limit now place from packet table (entries_by (stays_by l)) old new
-      (outcome.Went (y.lane.admitted - admitted) (y.lane.refused - refused) (one_if (cuts_by l))) event
-  heard_in s flow [] is here within one half_ticked l hears ca cr = absurd half_ticked
-  heard_in s flow (half ∷ earlier) is here within one half_ticked l hears ca cr =
+      IsOneWith assets now x flow events → HasTicked (now - 1) flow events → (l : Life) → AreHeard l → Heard l
+  heard_in s flow [] is here within one half_ticked l hears = absurd half_ticked
+  heard_in s flow (half ∷ earlier) is here within one half_ticked l hears =
       let served : flow.asset ≡ asset = let e : Some flow.asset ≡ Some asset = sym one.asset ∙ asset_at in cc in
       let tick : half.client.tick ≡ now - 1 = half_ticked.0.client_tick in
       let is_tick : IsTick flow earlier half.client.tick half = subst (λ t. IsTick flow earlier t half) (sym tick) half_ticked.0 in
-      heard_by s flow earlier half is here within one half_ticked l (hears flow earlier half served one.stands is_tick (omega (arith, tick, some))) ca cr
-
-  pub heard : (l : Life) →
-      ((flow : Flow) (earlier : List SessionEvent) (half : SessionEvent) → flow.asset ≡ asset → IsSessionOf flow earlier half x.session → IsTick flow earlier half.client.tick half →
-      moment half.client ≡ now → HearsBy flow limit earlier half from packet y old new l) →
-      ((flow : Flow) (earlier : List SessionEvent) (event : SessionEvent) → IsSessionOf flow earlier event y → y.lane.admitted ≡ event.work.admitted) →
-      ((flow : Flow) (earlier : List SessionEvent) (event : SessionEvent) → IsSessionOf flow earlier event y → y.lane.refused ≡ event.work.refused) →
-      (event : SessionEvent) × Going assets limit now place from packet table (entries_by (stays_by l)) old new
-      (outcome.Went (y.lane.admitted - admitted) (y.lane.refused - refused) (one_if (cuts_by l))) event
-  heard l hears ca cr =
-      let o = one_at assets now (now - 1) entries table place x all ticked at in
-      heard_in o.0 o.0.flow o.0.events refl o.1 o.2 o.3 o.4 l hears ca cr
+      heard_by s flow earlier half is here within one half_ticked l (hears flow earlier half served one.stands is_tick (omega (arith, tick, some)))
 
   -- the same in the numbers of the code
-  pub heard_as : (l : Life) →
-      ((flow : Flow) (earlier : List SessionEvent) (half : SessionEvent) → flow.asset ≡ asset → IsSessionOf flow earlier half x.session → IsTick flow earlier half.client.tick half →
-      moment half.client ≡ now → HearsBy flow limit earlier half from packet y old new l) →
-      ((flow : Flow) (earlier : List SessionEvent) (event : SessionEvent) → IsSessionOf flow earlier event y → y.lane.admitted ≡ event.work.admitted) →
-      ((flow : Flow) (earlier : List SessionEvent) (event : SessionEvent) → IsSessionOf flow earlier event y → y.lane.refused ≡ event.work.refused) →
-      (stay : Bool) → stays_by l ≡ stay → (more_admitted more_refused cut : ℕ) → more_admitted ≡ y.lane.admitted - admitted → more_refused ≡ y.lane.refused - refused → cut ≡ one_if (cuts_by l) →
+  pub heard_as : (l : Life) → AreHeard l → (stay : Bool) → stays_by l ≡ stay → (more_admitted more_refused cut : ℕ) →
+      more_admitted ≡ y.lane.admitted - admitted → more_refused ≡ y.lane.refused - refused → cut ≡ one_if (cuts_by l) →
       (event : SessionEvent) × Going assets limit now place from packet table (entries_by stay) old new (outcome.Went more_admitted more_refused cut) event
-  heard_as l hears ca cr stay is a r n ea er en =
-      let h = heard l hears ca cr in (
+  heard_as l hears stay is a r n ea er en =
+      let o = one_at assets now (now - 1) entries table place x all ticked at in
+      let h = heard_in o.0 o.0.flow o.0.events refl o.1 o.2 o.3 o.4 l hears in (
         h.0,
         rw (ea, er, en) (subst (λ b. Going assets limit now place from packet table (entries_by b) old new
             (outcome.Went (y.lane.admitted - admitted) (y.lane.refused - refused) (one_if (cuts_by l))) h.0) is h.1),

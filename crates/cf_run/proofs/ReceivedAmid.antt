@@ -18,9 +18,8 @@ use Rattle.cf_run.specs.Receiving.{AreTicked, HasTicked}
 use Rattle.cf_run.specs.Table.{Begins, Full, Goes, Match, Outside, Session, match_of}
 use Rattle.cf_run.specs.Trace.{Begun, GoesOnAt, Receives, Went, logged_at}
 use Rattle.cf_run.specs.declared.entry.Entry.{Entry}
-use Rattle.cf_run.specs.declared.matching.Match.{Match as EntryMatch}
 use Rattle.cf_run.specs.declared.matching.Match.TheVariants as match
-use Rattle.cf_run.proofs.Matched.{IsMatch, is_match}
+use Rattle.cf_run.proofs.Matched.{there}
 use Rattle.cf_run.proofs.Received.{one_at}
 
 -- ---- a session that hears a packet
@@ -56,35 +55,18 @@ module _ (assets : List Asset) (limit now : ℕ) (packet : PacketValue) (before 
   abbrev Breaks : Type 0
   Breaks = ReceivingBreaks assets limit now packet table d0 d1
 
-  matched : (m : EntryMatch) → entry_match assets before packet ≡ m → IsMatch assets table packet m (match_of assets table packet)
-  matched m e = subst (λ x. IsMatch assets table packet x (match_of assets table packet)) e (is_match assets now before table packet all)
-
-  abbrev BreaksBegin : ℕ → Type 0
-  BreaksBegin place = (flow : Flow) → slice_get assets place ≡ Some flow.asset → flow.syn ≡ packet → BreaksBeginning flow (now - 1) d0 d1
-
-  begun_by : (place : ℕ) (closed : Option ℕ) → BreaksBegin place → (m : Match) → match_of assets table packet ≡ m → IsMatch assets table packet (match.Begins place closed) m → Breaks
-  begun_by place closed h (Begins flow) e (at, syn, is) =
+  pub begun_breaks : (place : ℕ) (closed : Option ℕ) → entry_match assets before packet ≡ match.Begins place closed →
+      ((flow : Flow) → slice_get assets place ≡ Some flow.asset → flow.syn ≡ packet → BreaksBeginning flow (now - 1) d0 d1) → Breaks
+  begun_breaks place closed e h =
+      let (flow, m, at, syn, is) = there assets now before table packet all (match.Begins place closed) e in
       let b = h flow at syn in
-      record { received = Begun flow b.event; receives = subst (λ x. Receives limit (now - 1) table packet x (Begun flow b.event)) (sym e) (refl, b.is_beginning); amid = b.amid }
-  begun_by place closed h Full e is = absurd is
-  begun_by place closed h (Goes at side) e is = absurd is
-  begun_by place closed h Outside e is = absurd is
+      let receives = subst (λ x. Receives limit (now - 1) table packet x (Begun flow b.event)) (sym m) (refl, b.is_beginning) in
+      record { received = Begun flow b.event; receives = receives; amid = b.amid }
 
-  pub begun_breaks : (place : ℕ) (closed : Option ℕ) → entry_match assets before packet ≡ match.Begins place closed → BreaksBegin place → Breaks
-  begun_breaks place closed e h = begun_by place closed h (match_of assets table packet) refl (matched (match.Begins place closed) e)
-
-  went_by : (place : ℕ) (from : Side) → GoBreaks assets limit now place from packet before d0 d1 → (m : Match) → match_of assets table packet ≡ m → IsMatch assets table packet (match.Goes place from) m → Breaks
-  went_by place from g (Goes at side) e (p, q) =
+  pub went_breaks : (place : ℕ) (from : Side) → entry_match assets before packet ≡ match.Goes place from →
+      GoBreaks assets limit now place from packet before d0 d1 → Breaks
+  went_breaks place from e g =
+      let m = there assets now before table packet all (match.Goes place from) e in
       let b = g table ticked all in
-      record {
-        received = Went place b.event;
-        receives = subst (λ x. Receives limit (now - 1) table packet x (Went place b.event)) (sym e)
-            (p, subst (λ s. GoesOnAt limit s packet b.event (slice_get table at)) q (subst (λ i. GoesOnAt limit from packet b.event (slice_get table i)) p b.goes_on));
-        amid = b.amid;
-      }
-  went_by place from g (Begins flow) e is = absurd is
-  went_by place from g Full e is = absurd is
-  went_by place from g Outside e is = absurd is
-
-  pub went_breaks : (place : ℕ) (from : Side) → entry_match assets before packet ≡ match.Goes place from → GoBreaks assets limit now place from packet before d0 d1 → Breaks
-  went_breaks place from e g = went_by place from g (match_of assets table packet) refl (matched (match.Goes place from) e)
+      let receives = subst (λ x. Receives limit (now - 1) table packet x (Went place b.event)) (sym m) (refl, b.goes_on) in
+      record { received = Went place b.event; receives = receives; amid = b.amid }

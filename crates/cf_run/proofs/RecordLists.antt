@@ -24,12 +24,6 @@ same_last e f a b = rw (a, b) refl
 one_pieces : (f : Form) (place : ℕ) (octets : List ℕ) (ps qs : List (Option Record)) (e g : LastPlace) →
     ArePieces at_place f place octets ps e → ArePieces at_place f place octets qs g → (ps ≡ qs) × (e ≡ g)
 one_pieces f place octets [] [] e g (p, q, x) (r, s, y) = (refl, same_last e g (p ∙ sym r) (sym q ∙ s))
-one_pieces f place octets [] (Some t ∷ ts) e g (p, q, x) (used, s, y) = absurd (subst IsLast (sym q ∙ s) x)
-one_pieces f place octets [] (None ∷ ts) e g (p, q, x) (used, s, y) = absurd (subst IsLast (sym q ∙ s) x)
-one_pieces f place octets (Some t ∷ ts) [] e g (used, s, y) (p, q, x) = absurd (subst IsLast (sym q ∙ s) x)
-one_pieces f place octets (None ∷ ts) [] e g (used, s, y) (p, q, x) = absurd (subst IsLast (sym q ∙ s) x)
-one_pieces f place octets (Some r ∷ rs) (None ∷ ts) e g (used, a, x) (taken, b, y) = (let no_two : Fits r used ≡ Passes taken = sym a ∙ b in cc)
-one_pieces f place octets (None ∷ rs) (Some t ∷ ts) e g (used, a, x) (taken, b, y) = (let no_two : Passes used ≡ Fits t taken = sym a ∙ b in cc)
 one_pieces f place octets (None ∷ rs) (None ∷ ts) e g (used, a, x) (taken, b, y) =
     let both : Passes used ≡ Passes taken = sym a ∙ b in
     let far : used ≡ taken = cc in
@@ -41,6 +35,10 @@ one_pieces f place octets (Some r ∷ rs) (Some t ∷ ts) e g (used, a, x) (take
     let far : used ≡ taken = cc in
     let rest = one_pieces (form_behind f octets) (place + used) (drop used octets) rs ts e g x (rw far y) in
     (rw (same, rest.0) refl, rest.1)
+one_pieces f place octets [] (Some t ∷ ts) e g (p, q, x) (used, s, y) = absurd (subst IsLast (sym q ∙ s) x)
+one_pieces f place octets [] (None ∷ ts) e g (p, q, x) (used, s, y) = absurd (subst IsLast (sym q ∙ s) x)
+one_pieces f place octets ps [] e g (used, s, y) (p, q, x) = absurd (subst IsLast (sym q ∙ s) x)
+one_pieces f place octets ps qs e g (used, a, x) (taken, b, y) = (let no_two = sym a ∙ b in cc)
 
 pub one_list : HaveOneList
 one_list f place octets rs ss e g (ps, a, p) (qs, b, q) =
@@ -50,12 +48,6 @@ one_list f place octets rs ss e g (ps, a, p) (qs, b, q) =
 one_timed_pieces : (f : Form) (least place : ℕ) (octets : List ℕ) (ps qs : List (Option Record)) (e g : LastPlace) →
     AreTimedPieces f least place octets ps e → AreTimedPieces f least place octets qs g → (ps ≡ qs) × (e ≡ g)
 one_timed_pieces f least place octets [] [] e g (p, q, x) (r, s, y) = (refl, same_last e g (p ∙ sym r) (sym q ∙ s))
-one_timed_pieces f least place octets [] (Some t ∷ ts) e g (p, q, x) (used, s, y) = absurd (subst IsLast (sym q ∙ s) x)
-one_timed_pieces f least place octets [] (None ∷ ts) e g (p, q, x) (used, s, y) = absurd (subst IsLast (sym q ∙ s) x)
-one_timed_pieces f least place octets (Some t ∷ ts) [] e g (used, s, y) (p, q, x) = absurd (subst IsLast (sym q ∙ s) x)
-one_timed_pieces f least place octets (None ∷ ts) [] e g (used, s, y) (p, q, x) = absurd (subst IsLast (sym q ∙ s) x)
-one_timed_pieces f least place octets (Some r ∷ rs) (None ∷ ts) e g (used, a, x) (taken, b, y) = (let no_two : Fits r used ≡ Passes taken = sym a ∙ b in cc)
-one_timed_pieces f least place octets (None ∷ rs) (Some t ∷ ts) e g (used, a, x) (taken, b, y) = (let no_two : Passes used ≡ Fits t taken = sym a ∙ b in cc)
 one_timed_pieces f least place octets (None ∷ rs) (None ∷ ts) e g (used, a, x) (taken, b, y) =
     let both : Passes used ≡ Passes taken = sym a ∙ b in
     let far : used ≡ taken = cc in
@@ -67,6 +59,10 @@ one_timed_pieces f least place octets (Some r ∷ rs) (Some t ∷ ts) e g (used,
     let far : used ≡ taken = cc in
     let rest = one_timed_pieces (form_behind f octets) (moment_from least r + 2) (place + used) (drop used octets) rs ts e g x (rw (far, same) y) in
     (rw (same, rest.0) refl, rest.1)
+one_timed_pieces f least place octets [] (Some t ∷ ts) e g (p, q, x) (used, s, y) = absurd (subst IsLast (sym q ∙ s) x)
+one_timed_pieces f least place octets [] (None ∷ ts) e g (p, q, x) (used, s, y) = absurd (subst IsLast (sym q ∙ s) x)
+one_timed_pieces f least place octets ps [] e g (used, s, y) (p, q, x) = absurd (subst IsLast (sym q ∙ s) x)
+one_timed_pieces f least place octets ps qs e g (used, a, x) (taken, b, y) = (let no_two = sym a ∙ b in cc)
 
 pub one_timed_list : HaveOneTimedList
 one_timed_list f least place octets rs ss e g (ps, a, p) (qs, b, q) =
@@ -94,115 +90,81 @@ classic_none h place xs used e = grind (arith, nat_tests)
 classic_all : (h : Header) (place : ℕ) (xs : List ℕ) (found : AtPlace) → classic_at h place xs ≡ found → Takes found (length xs)
 classic_all h place xs (Fits r used) e = classic_takes h place xs r used e
 classic_all h place xs (Passes used) e = absurd (classic_none h place xs used e)
-classic_all h place xs FileEnd e = tt
-classic_all h place xs Cut e = tt
-classic_all h place xs TooLong e = tt
-classic_all h place xs (Refused number) e = tt
-classic_all h place xs Clock e = tt
-classic_all h place xs Large e = tt
+classic_all h place xs found e = tt
 
-refused_takes : (a b c d : Bool) (count : ℕ) →
-    Takes (if a then TooLong else if b then Refused block.Section else if c then Refused block.Interface else if d then Refused block.Resolution else Refused block.Block) count
-refused_takes true b c d count = tt
-refused_takes false true c d count = tt
-refused_takes false false true d count = tt
-refused_takes false false false true count = tt
-refused_takes false false false false count = tt
+if_takes : (b : Bool) (found other : AtPlace) (count : ℕ) → Takes found count → Takes other count → Takes (if b then found else other) count
+if_takes true found other count t u = t
+if_takes false found other count t u = u
+
+refused_takes : (number count : ℕ) → Takes (refused_by number) count
+refused_takes number count =
+    if_takes (number == REFUSED_LENGTH) TooLong _ count tt
+    (if_takes (number == REFUSED_SECTION) (Refused block.Section) _ count tt
+    (if_takes (number == REFUSED_INTERFACE) (Refused block.Interface) _ count tt
+    (if_takes (number == REFUSED_RESOLUTION) (Refused block.Resolution) (Refused block.Block) count tt tt)))
 
 block_takes : (section : Section) (xs : List ℕ) (found : Found) → block_at section xs ≡ found → Takes (by_block found) (length xs)
 block_takes section xs (Needs count) e = tt
-block_takes section xs (Refuses number) e = refused_takes (number == REFUSED_LENGTH) (number == REFUSED_SECTION) (number == REFUSED_INTERFACE) (number == REFUSED_RESOLUTION) (length xs)
+block_takes section xs (Refuses number) e = refused_takes number (length xs)
 block_takes section xs (Is (Holds packet) used) e = (let i = is_inside section xs (Holds packet) used e in (omega (arith, i), omega (arith, i)))
-block_takes section xs (Is (Begins big) used) e = (let i = is_inside section xs (Begins big) used e in (omega (arith, i), omega (arith, i)))
-block_takes section xs (Is (Describes interface) used) e = (let i = is_inside section xs (Describes interface) used e in (omega (arith, i), omega (arith, i)))
-block_takes section xs (Is Other used) e = (let i = is_inside section xs Other used e in (omega (arith, i), omega (arith, i)))
-
-if_takes : (b : Bool) (found : AtPlace) (count : ℕ) → Takes found count → Takes (if b then Large else found) count
-if_takes true found count t = tt
-if_takes false found count t = t
+block_takes section xs (Is block used) e = (let i = is_inside section xs block used e in (omega (arith, i), omega (arith, i)))
 
 size_takes : (section : Section) (place : ℕ) (xs : List ℕ) (sized : Found) → Takes (by_size sized place xs (block_at section xs)) (length xs)
 size_takes section place xs (Needs count) = tt
-size_takes section place xs (Refuses number) = refused_takes (number == REFUSED_LENGTH) (number == REFUSED_SECTION) (number == REFUSED_INTERFACE) (number == REFUSED_RESOLUTION) (length xs)
-size_takes section place xs (Is one used) = if_takes (is_past place used xs) (by_block (block_at section xs)) (length xs) (block_takes section xs (block_at section xs) refl)
-
-end_takes : (b : Bool) (found : AtPlace) (count : ℕ) → Takes found count → Takes (if b then FileEnd else found) count
-end_takes true found count t = tt
-end_takes false found count t = t
+size_takes section place xs (Refuses number) = refused_takes number (length xs)
+size_takes section place xs (Is one used) = if_takes (is_past place used xs) Large _ (length xs) tt (block_takes section xs (block_at section xs) refl)
 
 takes : (f : Form) (place : ℕ) (xs : List ℕ) → Takes (at_place f place xs) (length xs)
 takes (form.Classic h) place xs = classic_all h place xs (classic_at h place xs) refl
 takes (form.Blocks section) place xs =
-    end_takes (length xs == 0) _ (length xs) (if_takes (is_past place 8 xs) _ (length xs) (size_takes section place xs (size_at section xs)))
+    if_takes (length xs == 0) FileEnd _ (length xs) tt (if_takes (is_past place 8 xs) Large _ (length xs) tt (size_takes section place xs (size_at section xs)))
 
 abbrev Have : Form → ℕ → List ℕ → Type 0
 Have f place xs = (ps : List (Option Record)) × (e : LastPlace) × ArePieces at_place f place xs ps e
 
-at_found : (n : ℕ) (f : Form) (place : ℕ) (xs : List ℕ) → length xs ≤ n → ((m : ℕ) (g : Form) (place : ℕ) (ys : List ℕ) → n ≡ suc m → length ys ≤ m → Have g place ys) →
+at_found : (f : Form) (place : ℕ) (xs : List ℕ) → ((g : Form) (place : ℕ) (ys : List ℕ) → length ys < length xs → Have g place ys) →
     (found : AtPlace) → at_place f place xs ≡ found → Takes found (length xs) → Have f place xs
-at_found n f place xs l next (Fits r used) e (some, inside) =
-    let left = next (n - 1) (form_behind f xs) (place + used) (drop used xs) (omega arith) (omega (arith, length-drop used xs)) in
+at_found f place xs next (Fits r used) e (some, inside) =
+    let left = next (form_behind f xs) (place + used) (drop used xs) (omega (arith, length-drop used xs)) in
     (Some r ∷ left.0, left.1, (used, e, left.2))
-at_found n f place xs l next (Passes used) e (some, inside) =
-    let left = next (n - 1) (form_behind f xs) (place + used) (drop used xs) (omega arith) (omega (arith, length-drop used xs)) in
+at_found f place xs next (Passes used) e (some, inside) =
+    let left = next (form_behind f xs) (place + used) (drop used xs) (omega (arith, length-drop used xs)) in
     (None ∷ left.0, left.1, (used, e, left.2))
-at_found n f place xs l next FileEnd e t = ([], record { place = place; found = FileEnd }, (refl, e, tt))
-at_found n f place xs l next Cut e t = ([], record { place = place; found = Cut }, (refl, e, tt))
-at_found n f place xs l next TooLong e t = ([], record { place = place; found = TooLong }, (refl, e, tt))
-at_found n f place xs l next (Refused number) e t = ([], record { place = place; found = Refused number }, (refl, e, tt))
-at_found n f place xs l next Clock e t = ([], record { place = place; found = Clock }, (refl, e, tt))
-at_found n f place xs l next Large e t = ([], record { place = place; found = Large }, (refl, e, tt))
+at_found f place xs next found e t = ([], record { place = place; found = found }, (refl, e, t))
 
-have : (n : ℕ) (f : Form) (place : ℕ) (xs : List ℕ) → length xs ≤ n → Have f place xs
-have zero f place xs l = at_found 0 f place xs l (λ m g p ys e s. absurd (omega arith)) (at_place f place xs) refl (takes f place xs)
-have (suc n) f place xs l = at_found (suc n) f place xs l (λ m g p ys e s. have n g p ys (omega arith)) (at_place f place xs) refl (takes f place xs)
+have : (n : ℕ) (f : Form) (place : ℕ) (xs : List ℕ) → length xs < n → Have f place xs
+have zero f place xs l = absurd (omega arith)
+have (suc n) f place xs l = at_found f place xs (λ g p ys short. have n g p ys (omega arith)) (at_place f place xs) refl (takes f place xs)
 
 pub have_records : HaveRecords
-have_records f place xs = let h = have (length xs) f place xs (omega arith) in (records_among h.0, h.1, (h.0, h.2, refl))
+have_records f place xs = let h = have (suc (length xs)) f place xs (omega arith) in (records_among h.0, h.1, (h.0, h.2, refl))
 
+-- the timed records are the records up to the first that comes too late
 abbrev HaveTimed : Form → ℕ → ℕ → List ℕ → Type 0
 HaveTimed f least place xs = (ps : List (Option Record)) × (e : LastPlace) × AreTimedPieces f least place xs ps e
 
-timed_by : (b : Bool) (r : Record) (used count : ℕ) → (0 < used) × (used ≤ count) → Takes (if b then Fits r used else Clock) count
-timed_by true r used count t = t
-timed_by false r used count t = tt
+last_timed : (least : ℕ) (found : AtPlace) → IsLast found → timed least found ≡ found
+last_timed least (Fits r used) last = absurd last
+last_timed least found last = refl
 
-timed_takes : (least : ℕ) (found : AtPlace) (count : ℕ) → Takes found count → Takes (timed least found) count
-timed_takes least (Fits r used) count t = timed_by (nat_lt (moment_from least r) moment_limit) r used count t
-timed_takes least (Passes used) count t = t
-timed_takes least FileEnd count t = tt
-timed_takes least Cut count t = tt
-timed_takes least TooLong count t = tt
-timed_takes least (Refused number) count t = tt
-timed_takes least Clock count t = tt
-timed_takes least Large count t = tt
-
-at_timed : (n : ℕ) (f : Form) (least place : ℕ) (xs : List ℕ) → length xs ≤ n →
-    ((m : ℕ) (g : Form) (least place : ℕ) (ys : List ℕ) → n ≡ suc m → length ys ≤ m → HaveTimed g least place ys) →
-    (found : AtPlace) → timed least (at_place f place xs) ≡ found → Takes found (length xs) → HaveTimed f least place xs
-at_timed n f least place xs l next (Fits r used) e (some, inside) =
-    let left = next (n - 1) (form_behind f xs) (moment_from least r + 2) (place + used) (drop used xs) (omega arith) (omega (arith, length-drop used xs)) in
-    (Some r ∷ left.0, left.1, (used, e, left.2))
-at_timed n f least place xs l next (Passes used) e (some, inside) =
-    let left = next (n - 1) (form_behind f xs) least (place + used) (drop used xs) (omega arith) (omega (arith, length-drop used xs)) in
-    (None ∷ left.0, left.1, (used, e, left.2))
-at_timed n f least place xs l next FileEnd e t = ([], record { place = place; found = FileEnd }, (refl, e, tt))
-at_timed n f least place xs l next Cut e t = ([], record { place = place; found = Cut }, (refl, e, tt))
-at_timed n f least place xs l next TooLong e t = ([], record { place = place; found = TooLong }, (refl, e, tt))
-at_timed n f least place xs l next (Refused number) e t = ([], record { place = place; found = Refused number }, (refl, e, tt))
-at_timed n f least place xs l next Clock e t = ([], record { place = place; found = Clock }, (refl, e, tt))
-at_timed n f least place xs l next Large e t = ([], record { place = place; found = Large }, (refl, e, tt))
-
-have_timed : (n : ℕ) (f : Form) (least place : ℕ) (xs : List ℕ) → length xs ≤ n → HaveTimed f least place xs
-have_timed zero f least place xs l =
-    at_timed 0 f least place xs l (λ m g t p ys e s. absurd (omega arith)) (timed least (at_place f place xs)) refl
-    (timed_takes least (at_place f place xs) (length xs) (takes f place xs))
-have_timed (suc n) f least place xs l =
-    at_timed (suc n) f least place xs l (λ m g t p ys e s. have_timed n g t p ys (omega arith)) (timed least (at_place f place xs)) refl
-    (timed_takes least (at_place f place xs) (length xs) (takes f place xs))
+timed_from : (f : Form) (least place : ℕ) (xs : List ℕ) (ps : List (Option Record)) (e : LastPlace) → ArePieces at_place f place xs ps e →
+    HaveTimed f least place xs
+timed_from f least place xs [] e (p, at, last) = ([], e, (p, ap (timed least) at ∙ last_timed least e.found last, last))
+timed_from f least place xs (None ∷ ps) e (used, at, more) =
+    let (qs, g, are) = timed_from (form_behind f xs) least (place + used) (drop used xs) ps e more in
+    (None ∷ qs, g, (used, ap (timed least) at, are))
+timed_from f least place xs (Some r ∷ ps) e (used, at, more) =
+    let (qs, g, are) = timed_from (form_behind f xs) (moment_from least r + 2) (place + used) (drop used xs) ps e more in
+    elim (cases_Bool (nat_lt (moment_from least r) moment_limit)) [
+      | inl early ↦ (Some r ∷ qs, g, (used, ap (timed least) at ∙ rw early refl, are))
+      | inr late ↦ ([], record { place = place; found = Clock }, (refl, ap (timed least) at ∙ rw late refl, tt))
+    ]
 
 pub have_timed_records : HaveTimedRecords
-have_timed_records f least place xs = let h = have_timed (length xs) f least place xs (omega arith) in (records_among h.0, h.1, (h.0, h.2, refl))
+have_timed_records f least place xs =
+    let h = have (suc (length xs)) f place xs (omega arith) in
+    let (ps, e, are) = timed_from f least place xs h.0 h.1 h.2 in
+    (records_among ps, e, (ps, are, refl))
 
 -- ---- moments
 
@@ -226,13 +188,7 @@ go_on_by_two rs k m r at here = rw add-one (next_from first_moment rs k m r at (
 -- a record that fits has its moment
 timed_below : (least : ℕ) (found : AtPlace) (r : Record) (used : ℕ) → timed least found ≡ Fits r used → moment_from least r < moment_limit
 timed_below least (Fits s n) r used e = grind (arith, nat_tests)
-timed_below least (Passes n) r used e = cc
-timed_below least FileEnd r used e = cc
-timed_below least Cut r used e = cc
-timed_below least TooLong r used e = cc
-timed_below least (Refused number) r used e = cc
-timed_below least Clock r used e = cc
-timed_below least Large r used e = cc
+timed_below least found r used e = cc
 
 below_from : (f : Form) (least place : ℕ) (xs : List ℕ) (ps : List (Option Record)) (last : LastPlace) → AreTimedPieces f least place xs ps last →
     (k m : ℕ) → slice_get (moments_from least (records_among ps)) k ≡ Some m → m < moment_limit

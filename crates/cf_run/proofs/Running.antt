@@ -1,20 +1,19 @@
 -- The records of a capture that were run over so far.
 use Rattle.std.proofs.Common.{◌≡◌, ◌+◌, ◌*◌, ◌^◌, ◌<◌, ◌≤◌, max, ℕ, zero, suc, true, List, [], ◌∷◌, ◌++◌, map, drop, take, length, Some, None, Ok, Err, refl, sym, ap, ◌∙◌, subst, append_assoc, arith, Result, IsErrAnd}
-use Rattle.std.specs.List.{concat}
+use Rattle.std.specs.List.{concat, flat_map}
 use Rattle.std.proofs.lemmas.List.{append-nil, drop-drop}
 use Rattle.std.proofs.lemmas.List.Folds.{flat_map-map}
+use Rattle.std.proofs.lemmas.Bool.{and_parts}
 use Rattle.std.proofs.lemmas.Bool.Decides.{nat_tests}
 use Rattle.cf_outside.proofs.Lines.{file_lines-whole}
 use Rattle.cf_outside.specs.Files.{Content, untold, absent, holds, IsWhole}
 use Rattle.cf_outside.specs.Lines.{ends_with_line, file_lines, file_part}
 use Rattle.cf_packet.specs.Packet.{read_record}
 use Rattle.cf_run.proofs.RecordLists.{have_timed_records}
-use Rattle.cf_run.specs.declared.blocks.BlockRefusal.{BlockRefusal}
 use Rattle.cf_run.specs.Capture.{AtPlace, Clock, Cut, FileEnd, Fits, IsLast, Large, LastPlace, Record, Refused, TooLong, at_place, form_behind}
 use Rattle.cf_run.specs.Form.{first_place}
 use Rattle.cf_run.specs.Moments.{AreTimed, first_moment, moment_from, timed}
 use Rattle.cf_run.specs.declared.form.Form.{Form}
-use Rattle.cf_run.specs.declared.form.Form.TheVariants as form
 use Rattle.cf_pcap.specs.Header.{output_octets}
 use Rattle.cf_policy.specs.declared.Asset.{Asset}
 use Rattle.cf_session.specs.Broken.{octets_of}
@@ -35,7 +34,7 @@ use Rattle.cf_run.specs.declared.run.RunFault.{RunFault}
 use Rattle.cf_run.specs.declared.summary.Summary.{Summary}
 use Rattle.cf_run.proofs.Behind.{StandsBehind}
 use Rattle.cf_run.proofs.HalfFiles.{capture_amid, log_amid, no_line_part, no_packet_part}
-use Rattle.cf_run.proofs.OutputFiles.{both, file_packets-whole}
+use Rattle.cf_run.proofs.OutputFiles.{file_is}
 use Rattle.cf_run.proofs.Timers.{both_both, both_nothing}
 use Rattle.cf_view.specs.Moment.{moment_limit}
 
@@ -107,7 +106,9 @@ capture_told (holds octets) after all w h e =
     let first : file_packets (holds output_octets) ≡ Some [] = refl in
     let told : file_packets after ≡ Some (map emitted all) =
     h ∙ ap (λ xs. with_more (file_packets (holds xs)) (map emitted all)) (sym w) ∙ ap (λ ps. with_more ps (map emitted all)) first in
-    file_packets-whole after (map emitted all) told e ∙ ap (λ rs. holds (output_octets ++ rs)) (flat_map-map record_octets emitted all)
+    file_is after (map emitted all) told
+    ∙ ap (λ part. holds (output_octets ++ (flat_map record_octets (map emitted all) ++ part))) (no_packet_part after e)
+    ∙ ap (λ rs. holds (output_octets ++ rs)) (append-nil (flat_map record_octets (map emitted all)) ∙ flat_map-map record_octets emitted all)
 
 log_told : (before after : Content) (lines : List (List ℕ)) → IsWhole before [] → file_lines after ≡ with_more (file_lines before) lines →
     ends_with_line after ≡ true → HoldsOctets before after (concat lines)
@@ -239,7 +240,7 @@ module _ {assets : List Asset} {limit : ℕ} {names : RunNamesValue} {before now
     pub breaks_off : are_whole names.out names.log files ≡ true → StepBreaks assets limit (table_after a.events) input (files_desk names.out names.log files) (files_desk names.out names.log after) →
         BreaksOff assets limit names before after
     breaks_off whole (half, is_half, b) =
-        let (record_end, line_end) = both _ _ whole in
+        let (record_end, line_end) = and_parts _ _ whole in
         let told = told_behind (half.sent_before ++ b.gone) (half.logged_before ++ b.put) b.is_told in
         let packets = ap (λ t. t.packets) told ∙ ap (λ xs. with_more (file_packets (before names.out)) (map emitted xs)) (sym (append_assoc (sent a.events) half.sent_before b.gone)) in
         let lines = ap (λ t. t.lines) told ∙ ap (λ xs. with_more (file_lines (before names.log)) xs) (sym (append_assoc (logged a.events) half.logged_before b.put)) in
@@ -261,7 +262,7 @@ module _ {assets : List Asset} {limit : ℕ} {names : RunNamesValue} {before now
     pub stops_between : are_whole names.out names.log after ≡ true → StepStops assets (table_after a.events) input (files_told names.out names.log files) (files_told names.out names.log after) →
         StopsBetween assets limit names before after
     stops_between whole (half, is_half, h) =
-        let (record_end, line_end) = both _ _ whole in
+        let (record_end, line_end) = and_parts _ _ whole in
         let told = told_behind half.sent half.logged h in
         record {
           events = a.events;
@@ -277,7 +278,7 @@ module _ {assets : List Asset} {limit : ℕ} {names : RunNamesValue} {before now
     -- the two files are those of a run over the records so far
     leaves : {files : List ℕ → Content} → files ≡ now → LeavesRun assets limit names before files a.records engine.summary
     leaves {files} still =
-        let (record_end, line_end) = both _ _ whole in
+        let (record_end, line_end) = and_parts _ _ whole in
         let held : LeavesRun assets limit names before now a.records engine.summary = record {
           out = capture_of (sent a.events);
           log = concat (logged a.events);

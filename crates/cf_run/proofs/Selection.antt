@@ -13,20 +13,10 @@ use Rattle.cf_view.specs.declared.Side.{Side}
 use Rattle.cf_session.specs.Sent.{Sent, at, sent_first, sent_second}
 use Rattle.cf_session.specs.Session.{Flow, SessionEvent}
 use Rattle.cf_run.specs.Selected.{IsSelected, Rises, SelectsByMoment, last_moment, with_moment}
+use Rattle.cf_run.specs.Sessions.{Each}
+use Rattle.cf_run.proofs.Sessions.{each-filter}
 use Rattle.cf_run.specs.Table.{Begins, Full, Goes, Match, Outside, Session, match_of}
 use Rattle.cf_run.specs.Trace.{AreRunEvents, AreTicks, Begun, Dropped, RunEvent, GoesOnAt, GoesOnWith, IsRunEvent, NoRoom, NoSession, Received, Receives, ReceivesRecord, Went, kept, sent, sent_in_first, sent_in_second, sent_received, stays, table_after, tick_of, ticked, with_events}
-
-abbrev Each : (Session → Type 0) → List Session → Type 0
-Each P [] = Unit {0}
-Each P (s ∷ ss) = P s × Each P ss
-
-each-by : (P : Session → Type 0) (b : Bool) (s : Session) (ss : List Session) → P s → Each P ss → Each P (cond b (s ∷ ss) ss)
-each-by P true s ss p h = (p, h)
-each-by P false s ss p h = h
-
-each-filter : (P : Session → Type 0) (p : Session → Bool) (ss : List Session) → Each P ss → Each P (filter p ss)
-each-filter P p [] h = tt
-each-filter P p (s ∷ ss) h = each-by P (p s) s (filter p ss) h.0 (each-filter P p ss h.1)
 
 -- all have moments of this kind
 abbrev AllOf : (ℕ → Type 0) → List Sent → Type 0
@@ -92,14 +82,9 @@ received_at limit tick table p m Dropped h is = tt
 received_at limit tick table p m NoRoom h is = tt
 received_at limit tick table p m NoSession h is = tt
 received_at limit tick table p (Begins f) (Begun g e) h is = second_by tick e (ap (λ x. x.tick) is.1.client)
-received_at limit tick table p Full (Begun g e) h is = absurd is
-received_at limit tick table p (Goes i s) (Begun g e) h is = absurd is
-received_at limit tick table p Outside (Begun g e) h is = absurd is
 received_at limit tick table p (Goes i s) (Went j e) h is =
     second_by tick e (went_at limit tick s p e j table h (subst (λ k. GoesOnAt limit s p e (slice_get table k)) (sym is.0) is.1))
-received_at limit tick table p (Begins f) (Went i e) h is = absurd is
-received_at limit tick table p Full (Went i e) h is = absurd is
-received_at limit tick table p Outside (Went i e) h is = absurd is
+received_at limit tick table p m r h is = absurd is
 
 record_at : (assets : List Asset) (limit tick : ℕ) (table : List Session) (p : Result PacketValue PacketRefusal) (r : Received) → Each (IsTickedAt tick) table → ReceivesRecord assets limit tick table p r → AllOf (λ n. n ≡ tick + 1) (sent_received r)
 record_at assets limit tick table (Err refusal) r h is = subst (λ x. AllOf (λ n. n ≡ tick + 1) (sent_received x)) (sym is) tt

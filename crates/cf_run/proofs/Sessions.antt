@@ -15,7 +15,6 @@ use Rattle.cf_session.specs.Session.{Flow, SessionEvent, client_of, is_expired}
 use Rattle.cf_run.specs.Sessions.{Each, HasEvents, HasRightEvents, gone_after, leaves, left_by_packet, left_in, session_at, sessions_of}
 use Rattle.cf_run.specs.Table.{Session, Match, Begins, Full, Goes, Outside, match_of, place_of, without}
 use Rattle.cf_run.specs.Trace.{AreRunEvents, AreTicks, Begun, Dropped, RunEvent, GoesOnAt, GoesOnWith, NoRoom, NoSession, Received, Receives, ReceivesRecord, Went, after_received, ends_cut, is_cut, kept, replaced, stays, table_after, tick_of, ticked, with_event_at, with_events}
-use Rattle.cf_run.proofs.Timers.{removed_is}
 
 -- ---- of each session of a list
 
@@ -26,16 +25,6 @@ each-append P (x ∷ xs) ys h g = (h.0, each-append P xs ys h.1 g)
 pub each-filter : (P : Session → Type 0) (p : Session → Bool) (xs : List Session) → Each P xs → Each P (filter p xs)
 each-filter P p [] h = tt
 each-filter P p (x ∷ xs) h = elim (p x) as (λ b. Each P (cond b (x ∷ filter p xs) (filter p xs))) [ true ↦ (h.0, each-filter P p xs h.1) | false ↦ each-filter P p xs h.1 ]
-
-each-take : (P : Session → Type 0) (n : ℕ) (xs : List Session) → Each P xs → Each P (take n xs)
-each-take P zero xs h = tt
-each-take P (suc n) [] h = tt
-each-take P (suc n) (x ∷ xs) h = (h.0, each-take P n xs h.1)
-
-each-drop : (P : Session → Type 0) (n : ℕ) (xs : List Session) → Each P xs → Each P (drop n xs)
-each-drop P zero xs h = h
-each-drop P (suc n) [] h = tt
-each-drop P (suc n) (x ∷ xs) h = each-drop P n xs h.1
 
 pub each-at : (P : Session → Type 0) (xs : List Session) (i : ℕ) (x : Session) → Each P xs → slice_get xs i ≡ Some x → P x
 each-at P [] i x h e = cc
@@ -50,9 +39,15 @@ each-session_at : (P : Session → Type 0) (xs : List Session) (place : Option �
 each-session_at P xs None h = tt
 each-session_at P xs (Some place) h = each-one P xs place (slice_get xs place) h refl
 
-each-removed : (P : Session → Type 0) (xs : List Session) (place : Option ℕ) → Each P xs → Each P (elim place [ Some i ↦ remove xs i | None ↦ xs ])
-each-removed P xs None h = h
-each-removed P xs (Some i) h = subst (Each P) (sym (removed_is xs i)) (each-append P (take i xs) (drop (i + 1) xs) (each-take P i xs h) (each-drop P (i + 1) xs h))
+each-removed : (P : Session → Type 0) (xs : List Session) (i : ℕ) → Each P xs → Each P (remove xs i)
+each-removed P [] zero h = tt
+each-removed P [] (suc i) h = tt
+each-removed P (x ∷ xs) zero h = h.1
+each-removed P (x ∷ xs) (suc i) h = (h.0, each-removed P xs i h.1)
+
+each-left : (P : Session → Type 0) (xs : List Session) (place : Option ℕ) → Each P xs → Each P (elim place [ Some i ↦ remove xs i | None ↦ xs ])
+each-left P xs None h = h
+each-left P xs (Some i) h = each-removed P xs i h
 
 -- what holds of each by one property holds by another that follows
 pub each-map : (P Q : Session → Type 0) → ((x : Session) → P x → Q x) → (xs : List Session) → Each P xs → Each Q xs
@@ -110,6 +105,9 @@ each-stays limit (s ∷ ss) h =
 
 -- ---- the first half
 
+pub each-kept : (limit tick : ℕ) (ss : List Session) → Each (IsGoing limit) ss → Each (IsGoing limit) (kept tick ss)
+each-kept limit tick ss h = each-filter (IsGoing limit) (λ s. not (is_expired s.flow s.events tick)) ss h
+
 tick_one : (limit : ℕ) (f : Flow) (es : List SessionEvent) (tick : ℕ) (t : SessionEvent) → HasGone limit f es → IsTick f es tick t → t.cut ≡ None → HasTick limit f (t ∷ es)
 tick_one limit f es tick t h is none = (subst (λ n. IsTick f es n t) (sym is.client_tick) is, none, h)
 
@@ -166,7 +164,7 @@ each-received limit tick table p (Begins f) (Begun g e) h is =
     let place = place_of (client_of g) g.asset.endpoint table in
     let begins = subst (λ x. IsBeginning x tick e) (sym is.0) is.1 in
     record {
-      stay = each-append (IsGoing limit) (without (client_of g) g.asset.endpoint table) (record { flow = g; events = e ∷ [] } ∷ []) (each-removed (IsGoing limit) table place going)
+      stay = each-append (IsGoing limit) (without (client_of g) g.asset.endpoint table) (record { flow = g; events = e ∷ [] } ∷ []) (each-left (IsGoing limit) table place going)
           (((begun_one g tick e begins, tt), (begins.cut, tt)), tt);
       left = each-session_at (HasRightEvents limit) table place (each-right limit table going);
     }
@@ -175,22 +173,7 @@ each-received limit tick table p (Goes i s) (Went j e) h is =
     record { stay = each-stays limit (with_event_at j e table) right; left = each-filter (HasRightEvents limit) leaves (with_event_at j e table) right }
 each-received limit tick table p Full NoRoom h is = nothing_left limit table NoRoom refl refl h
 each-received limit tick table p Outside NoSession h is = nothing_left limit table NoSession refl refl h
-each-received limit tick table p (Begins f) Dropped h is = absurd is
-each-received limit tick table p (Begins f) NoRoom h is = absurd is
-each-received limit tick table p (Begins f) NoSession h is = absurd is
-each-received limit tick table p (Begins f) (Went i e) h is = absurd is
-each-received limit tick table p Full Dropped h is = absurd is
-each-received limit tick table p Full NoSession h is = absurd is
-each-received limit tick table p Full (Begun g e) h is = absurd is
-each-received limit tick table p Full (Went i e) h is = absurd is
-each-received limit tick table p (Goes i s) Dropped h is = absurd is
-each-received limit tick table p (Goes i s) NoRoom h is = absurd is
-each-received limit tick table p (Goes i s) NoSession h is = absurd is
-each-received limit tick table p (Goes i s) (Begun g e) h is = absurd is
-each-received limit tick table p Outside Dropped h is = absurd is
-each-received limit tick table p Outside NoRoom h is = absurd is
-each-received limit tick table p Outside (Begun g e) h is = absurd is
-each-received limit tick table p Outside (Went i e) h is = absurd is
+each-received limit tick table p m r h is = absurd is
 
 each-record : (assets : List Asset) (limit tick : ℕ) (table : List Session) (p : Result PacketValue PacketRefusal) (r : Received) → Each (IsTicked limit) table → ReceivesRecord assets limit tick table p r → Both limit r table
 each-record assets limit tick table (Err refusal) r h is = nothing_left limit table r (ap (λ x. after_received x table) is) (ap (λ x. left_by_packet x table) is) h
@@ -208,7 +191,7 @@ of_run assets limit (e ∷ es) h =
     let before = of_run assets limit es h.1 in
     let tick = tick_of e.input in
     let table = table_after es in
-    let keeps = each-filter (IsGoing limit) (λ s. not (is_expired s.flow s.events tick)) table before.here in
+    let keeps = each-kept limit tick table before.here in
     let both = each-record assets limit tick (ticked e.ticks tick table) e.input.packet e.received (each-ticked limit tick (kept tick table) e.ticks keeps h.0.ticks) h.0.received in
     let expired = filter (λ s. is_expired s.flow s.events tick) table in
     let cut = filter leaves (with_events (kept tick table) e.ticks) in

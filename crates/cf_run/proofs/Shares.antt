@@ -3,7 +3,7 @@ use Rattle.std.proofs.Common.{◌≡◌, ℕ, ◌&&◌, inl, inr, Bool, true, fa
 use Rattle.std.specs.Prelude.{filter, position, slice_get}
 use Rattle.std.proofs.lemmas.List.{append-nil}
 use Rattle.std.proofs.lemmas.List.Elements.{filter-append}
-use Rattle.std.proofs.lemmas.Bool.{cases_Bool}
+use Rattle.std.proofs.lemmas.Bool.{and_parts, cases_Bool}
 use Rattle.std.proofs.lemmas.Bool.Decides.{nat_tests}
 use Rattle.cf_packet.specs.Packet.{PacketValue}
 use Rattle.cf_packet.specs.declared.packet.PacketRefusal.{PacketRefusal}
@@ -18,7 +18,7 @@ use Rattle.cf_run.specs.Sessions.{Each}
 use Rattle.cf_run.specs.Table.{Begins, Full, Goes, Match, Outside, Session, asset_at, begins, begins_or_full, goes, goes_from_client, is_between, match_of, may_begin, place_of, same_endpoint, without}
 use Rattle.cf_run.specs.Trace.{Begun, Dropped, GoesOnAt, GoesOnWith, NoRoom, NoSession, Received, Receives, ReceivesRecord, Went, after_received, behind, ends_cut, is_cut, logged_at, logged_received, replaced, sent_received, stays, with_event_at}
 use Rattle.cf_run.proofs.Matched.{same_is}
-use Rattle.cf_run.proofs.Pairs.{and_first, and_second, asset_is, changed_first, changed_other, client_is, filter_drops, filter_keeps, filter_swap, position_passes, without_other}
+use Rattle.cf_run.proofs.Pairs.{asset_is, changed_other, client_is, filter_drops, filter_keeps, filter_swap, first, without_other}
 use Rattle.cf_run.proofs.Sessions.{HasTick, IsTicked}
 
 -- ---- sessions that had their first half stay
@@ -133,7 +133,7 @@ module _ (limit : ℕ) (client asset : Endpoint) where
   same_place : (table : List Session) (c a : Endpoint) (place : ℕ) → place_of c a table ≡ Some place → is_theirs client asset (slice_get table place) ≡ true →
       (c ≡ client) × (a ≡ asset)
   same_place table c a place h theirs =
-      let there = position_passes (is_between c a) table place h in
+      let there = first c a place table h in
       let is : is_between client asset there.one ≡ true = sym (ap (is_theirs client asset) there.at) ∙ theirs in
       (sym (client_is c a there.one there.passes) ∙ client_is client asset there.one is, sym (asset_is c a there.one there.passes) ∙ asset_is client asset there.one is)
 
@@ -150,33 +150,33 @@ module _ (limit : ℕ) (client asset : Endpoint) where
       (same_endpoint p.source client && same_endpoint p.dest asset) ≡ b → cond b side.Client side.Controller ≡ side.Controller
   side_controller_by table p place none some false e = refl
   side_controller_by table p place none some true e =
-      let x : p.source ≡ client = same_is p.source client (and_first _ _ e) in
-      let y : p.dest ≡ asset = same_is p.dest asset (and_second _ _ e) in
+      let x : p.source ≡ client = same_is p.source client (and_parts _ _ e).0 in
+      let y : p.dest ≡ asset = same_is p.dest asset (and_parts _ _ e).1 in
       let f : place_of client asset table ≡ None = sym (ap (λ c. place_of c p.dest table) x ∙ ap (λ a. place_of client a table) y) ∙ none in
       absurd (none_not_some place (sym f ∙ some))
 
   -- its place is the first of theirs
   record IsFirst (table : List Session) (place : ℕ) (from : Side) (p : PacketValue) : Type 0 where
-    first : position (is_between client asset) table ≡ Some place
+    first_is : position (is_between client asset) table ≡ Some place
     from_is : from ≡ side_of client asset p
 
   first_way : (table : List Session) (place : ℕ) (from : Side) (p : PacketValue) → is_theirs client asset (slice_get table place) ≡ true → Way table p place from → IsFirst table place from p
   first_way table place from p theirs (way_client f h) =
       let ends = same_place table p.source p.dest place h theirs in
       record {
-        first = sym (ap (λ c. place_of c p.dest table) ends.0 ∙ ap (λ a. place_of client a table) ends.1) ∙ h;
+        first_is = sym (ap (λ c. place_of c p.dest table) ends.0 ∙ ap (λ a. place_of client a table) ends.1) ∙ h;
         from_is = f ∙ sym (side_client p ends.0 ends.1);
       }
   first_way table place from p theirs (way_controller f none h) =
       let ends = same_place table p.dest p.source place h theirs in
-      let first : place_of client asset table ≡ Some place = sym (ap (λ c. place_of c p.source table) ends.0 ∙ ap (λ a. place_of client a table) ends.1) ∙ h in
-      record { first = first; from_is = f ∙ sym (side_controller_by table p place none first _ refl) }
+      let there : place_of client asset table ≡ Some place = sym (ap (λ c. place_of c p.source table) ends.0 ∙ ap (λ a. place_of client a table) ends.1) ∙ h in
+      record { first_is = there; from_is = f ∙ sym (side_controller_by table p place none there _ refl) }
 
   went_theirs : (table : List Session) (place : ℕ) (from : Side) (e : SessionEvent) (p : PacketValue) → is_theirs client asset (slice_get table place) ≡ true → Way table p place from →
       GoesOnAt limit from p e (slice_get table place) → HasPacket limit client asset table (if is_theirs client asset (slice_get table place) then Some p else None) (Went place e)
   went_theirs table place from e p theirs way on =
       let is = first_way table place from p theirs way in
-      let there = changed_first client asset place e table is.first in
+      let there = first client asset place table is.first_is in
       record {
         packet = p;
         one = ap (λ b. cond b (Some p) None) theirs;
@@ -185,7 +185,7 @@ module _ (limit : ℕ) (client asset : Endpoint) where
         is = there.is;
         event = e;
         goes_on = subst (λ s. GoesOnWith limit s p e there.one.flow there.one.events) is.from_is (subst (GoesOnAt limit from p e) there.at on);
-        after = filter_swap (is_between client asset) stays (with_event_at place e table) ∙ ap (filter stays) there.after;
+        after = filter_swap (is_between client asset) stays (with_event_at place e table) ∙ ap (filter stays) (there.changed e);
         theirs = theirs;
         sent = refl;
         logged = ap (λ o. logged_at o e) there.at;
@@ -210,22 +210,7 @@ module _ (limit : ℕ) (client asset : Endpoint) where
         subst (λ k. Share limit client asset table (if is_theirs client asset (slice_get table i) then Some p else None) (Went k e)) (sym h.0) (went table i s e p ticked (goes_by assets table p i s is) h.1)
     share_by p Full NoRoom is h other = nothing_to_do table NoRoom refl refl
     share_by p Outside NoSession is h other = nothing_to_do table NoSession refl refl
-    share_by p (Begins f) Dropped is h other = absurd h
-    share_by p (Begins f) NoRoom is h other = absurd h
-    share_by p (Begins f) NoSession is h other = absurd h
-    share_by p (Begins f) (Went i e) is h other = absurd h
-    share_by p Full Dropped is h other = absurd h
-    share_by p Full NoSession is h other = absurd h
-    share_by p Full (Begun g e) is h other = absurd h
-    share_by p Full (Went i e) is h other = absurd h
-    share_by p (Goes i s) Dropped is h other = absurd h
-    share_by p (Goes i s) NoRoom is h other = absurd h
-    share_by p (Goes i s) NoSession is h other = absurd h
-    share_by p (Goes i s) (Begun g e) is h other = absurd h
-    share_by p Outside Dropped is h other = absurd h
-    share_by p Outside NoRoom is h other = absurd h
-    share_by p Outside (Begun g e) is h other = absurd h
-    share_by p Outside (Went i e) is h other = absurd h
+    share_by p m r is h other = absurd h
 
     pub share : (p : Result PacketValue PacketRefusal) (r : Received) → ReceivesRecord assets limit tick table p r → begins_theirs client asset r ≡ false →
         Share limit client asset table (matched_in assets client asset table p) r

@@ -2,7 +2,7 @@
 use Rattle.std.proofs.Common.{◌≡◌, ℕ, zero, suc, ◌+◌, ◌<◌, ◌≤◌, List, [], ◌∷◌, ◌++◌, length, get_or, add-one, take, drop, Some, Bool, true, false, not, ◌&&◌, refl, sym, ap, ◌∙◌, subst, arith}
 use Rattle.std.specs.Prelude.{slice_get, slice_set}
 use Rattle.std.specs.List.{remove}
-use Rattle.std.proofs.lemmas.Option.{slice_get-get_or}
+use Rattle.std.proofs.lemmas.Option.{slice_get-get_or, slice_get_read}
 use Rattle.std.proofs.lemmas.List.{take_more}
 use Rattle.std.proofs.Math.Seq.{drop-cons}
 use Rattle.cf_lane.specs.Judged.{one_if}
@@ -21,6 +21,12 @@ pub sound_at : (assets : List Asset) (limit : ℕ) (table : List Entry) (place :
 sound_at assets limit [] place entry sound at = cc
 sound_at assets limit (e ∷ es) zero entry sound at = let same : e ≡ entry = cc in subst (IsSoundEntry assets limit) same sound.0
 sound_at assets limit (e ∷ es) (suc place) entry sound at = sound_at assets limit es place entry sound.1 at
+
+pub stands_at : (assets : List Asset) (limit : ℕ) (table : List Entry) (place : ℕ) (entry : Entry) → AreSound assets limit table → place < length table →
+    entry ≡ get_or table place entry → (slice_get table place ≡ Some entry) × IsSoundEntry assets limit entry
+stands_at assets limit table place entry sound inside is =
+    let at = slice_get_read table (length table) place entry refl inside is in
+    (at, sound_at assets limit table place entry sound at)
 
 pub sound_set : (assets : List Asset) (limit : ℕ) (table : List Entry) (place : ℕ) (entry : Entry) → AreSound assets limit table → IsSoundEntry assets limit entry →
     AreSound assets limit (slice_set table place entry)
@@ -52,8 +58,7 @@ sound_after assets limit entry asset s one at sound same due due_is = record { a
 pub lives : (l : Life) → stays_by l ≡ true → IsLife l
 lives life.Live h = tt
 lives life.Closed h = tt
-lives life.Expired h = cc
-lives (life.Cut because) h = cc
+lives l h = cc
 
 -- the session at a place, and the lists before and after it
 pub first_of : (table : List Entry) (place : ℕ) → place < length table →
@@ -66,15 +71,11 @@ first_of (e ∷ es) place h =
 -- a session that was cut does not stay
 pub cuts_stay : (l : Life) → one_if (not (stays_by l) && cuts_by l) ≡ one_if (cuts_by l)
 cuts_stay life.Live = refl
-cuts_stay life.Closed = refl
-cuts_stay life.Expired = refl
-cuts_stay (life.Cut because) = refl
+cuts_stay l = refl
 
 pub cuts_gone : (l : Life) → stays_by l ≡ true → one_if (cuts_by l) ≡ 0
-cuts_gone life.Live h = refl
-cuts_gone life.Closed h = refl
-cuts_gone life.Expired h = refl
 cuts_gone (life.Cut because) h = cc
+cuts_gone l h = refl
 
 pub one_less : (b : Bool) → one_if b ≤ 1
 one_less true = omega arith

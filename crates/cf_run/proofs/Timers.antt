@@ -12,7 +12,6 @@ use Rattle.cf_lane.specs.Judged.{one_if}
 use Rattle.cf_policy.specs.declared.Asset.{Asset}
 use Rattle.cf_session.specs.declared.life.Life.{Life}
 use Rattle.cf_session.specs.declared.life.Life.TheVariants as life
-use Rattle.cf_session.specs.Event.{IsTick}
 use Rattle.cf_session.specs.Parts.{SessionValue}
 use Rattle.cf_session.specs.Sent.{Sent, logged_first, sent_first}
 use Rattle.cf_session.specs.Session.{Flow, SessionEvent, is_expired}
@@ -75,11 +74,18 @@ kept-here now done s e =
     filter-append (λ x. not (is_expired x.flow x.events now)) done (s ∷ [])
     ∙ ap (λ c. kept now done ++ cond (not c) (s ∷ []) []) e
 
-pub ticks-one : (tick : ℕ) (ss : List Session) (ts : List SessionEvent) (s : Session) (t : SessionEvent) → AreTicks tick ss ts → IsTick s.flow s.events tick t → AreTicks tick (ss ++ s ∷ []) (ts ++ t ∷ [])
-ticks-one tick [] [] s t are is = (is, refl)
-ticks-one tick [] (t' ∷ ts) s t are is = cc
-ticks-one tick (s' ∷ ss) [] s t are is = absurd are
-ticks-one tick (s' ∷ ss) (t' ∷ ts) s t are is = (are.0, ticks-one tick ss ts s t are.1 is)
+pub ticks-append : (tick : ℕ) (ss more : List Session) (ts us : List SessionEvent) → AreTicks tick ss ts → AreTicks tick more us → AreTicks tick (ss ++ more) (ts ++ us)
+ticks-append tick [] more [] us are rest = rest
+ticks-append tick [] more (t ∷ ts) us are rest = cc
+ticks-append tick (s ∷ ss) more [] us are rest = absurd are
+ticks-append tick (s ∷ ss) more (t ∷ ts) us are rest = (are.0, ticks-append tick ss more ts us are.1 rest)
+
+pub logged-append : (tick : ℕ) (ss more : List Session) (ts us : List SessionEvent) → AreTicks tick ss ts → logged_ticks (ss ++ more) (ts ++ us) ≡ logged_ticks ss ts ++ logged_ticks more us
+logged-append tick [] more [] us are = refl
+logged-append tick [] more (t ∷ ts) us are = cc
+logged-append tick (s ∷ ss) more [] us are = absurd are
+logged-append tick (s ∷ ss) more (t ∷ ts) us are =
+    ap (λ xs. logged_first s.flow t ++ xs) (logged-append tick ss more ts us are.1) ∙ sym (append_assoc (logged_first s.flow t) (logged_ticks ss ts) (logged_ticks more us))
 
 abbrev one_with : Session → SessionEvent → Session
 one_with s t = record s { events = t ∷ s.events }
@@ -90,18 +96,10 @@ events-one tick [] (t' ∷ ts) s t are = cc
 events-one tick (s' ∷ ss) [] s t are = absurd are
 events-one tick (s' ∷ ss) (t' ∷ ts) s t are = ap (λ xs. one_with s' t' ∷ xs) (events-one tick ss ts s t are.1)
 
-pub logged-one : (tick : ℕ) (ss : List Session) (ts : List SessionEvent) (s : Session) (t : SessionEvent) → AreTicks tick ss ts → logged_ticks (ss ++ s ∷ []) (ts ++ t ∷ []) ≡ logged_ticks ss ts ++ logged_first s.flow t
-logged-one tick [] [] s t are = append-nil (logged_first s.flow t)
-logged-one tick [] (t' ∷ ts) s t are = cc
-logged-one tick (s' ∷ ss) [] s t are = absurd are
-logged-one tick (s' ∷ ss) (t' ∷ ts) s t are =
-    ap (λ xs. logged_first s'.flow t' ++ xs) (logged-one tick ss ts s t are.1) ∙ sym (append_assoc (logged_first s'.flow t') (logged_ticks ss ts) (logged_first s.flow t))
-
 pub all-one : (assets : List Asset) (last : ℕ) (xs : List Entry) (ss : List Session) (x : Entry) (s : Session) → AreAll assets last xs ss → IsOne assets last x s → AreAll assets last (xs ++ x ∷ []) (ss ++ s ∷ [])
 all-one assets last [] [] x s all one = (one, tt)
-all-one assets last [] (s' ∷ ss) x s all one = absurd all
-all-one assets last (x' ∷ xs) [] x s all one = absurd all
 all-one assets last (x' ∷ xs) (s' ∷ ss) x s all one = (all.0, all-one assets last xs ss x s all.1 one)
+all-one assets last xs ss x s all one = absurd all
 
 sent-one : (ts : List SessionEvent) (t : SessionEvent) → flat_map sent_first (ts ++ t ∷ []) ≡ flat_map sent_first ts ++ sent_first t
 sent-one ts t = flat_map-append sent_first ts (t ∷ []) ∙ ap (λ xs. flat_map sent_first ts ++ xs) (flat_map-cons sent_first t [] ∙ append-nil (sent_first t))
@@ -160,12 +158,13 @@ module _ (assets : List Asset) (now : ℕ) (done : List Session) (front : List E
         ∙ both_both old (flat_map sent_first a.ticks) (sent_first t) (logged_ticks (kept now done) a.ticks) (logged_first s.flow t)
         ∙ ap (λ xs. with_both old xs (logged_ticks (kept now done) a.ticks ++ logged_first s.flow t)) (sym (sent-one a.ticks t))
         ∙ ap (with_both old (flat_map sent_first (a.ticks ++ t ∷ [])))
-        (sym (logged-one now (kept now done) a.ticks s t a.are) ∙ ap (λ xs. logged_ticks xs (a.ticks ++ t ∷ [])) (sym (kept-here now done s h.kept)))
+        (sym (logged-append now (kept now done) (s ∷ []) a.ticks (t ∷ []) a.are ∙ ap (λ xs. logged_ticks (kept now done) a.ticks ++ xs) (append-nil (logged_first s.flow t)))
+        ∙ ap (λ xs. logged_ticks xs (a.ticks ++ t ∷ [])) (sym (kept-here now done s h.kept)))
 
     ticks_more : AreTicks now (kept now (done ++ s ∷ [])) (a.ticks ++ t ∷ [])
     ticks_more =
         let P : List Session → Type 0 = λ xs. AreTicks now xs (a.ticks ++ t ∷ []) in
-        subst P (sym (kept-here now done s h.kept)) (ticks-one now (kept now done) a.ticks s t a.are h.is_tick)
+        subst P (sym (kept-here now done s h.kept)) (ticks-append now (kept now done) (s ∷ []) a.ticks (t ∷ []) a.are (h.is_tick, refl))
 
     -- a session is cut
     pub all_cut : is_cut t.cut ≡ true → TickAll assets now (done ++ s ∷ []) front old new (n + 1)

@@ -21,25 +21,13 @@ use Rattle.cf_run.specs.Half.{TicksBreak}
 use Rattle.cf_run.specs.Table.{Session}
 use Rattle.cf_run.specs.Trace.{AreTicks, kept, logged_ticks}
 use Rattle.cf_run.specs.declared.entry.Entry.{Entry}
+use Rattle.cf_run.proofs.Timers.{logged-append, ticks-append}
 
 kept-append : (tick : ℕ) (xs ys : List Session) → kept tick (xs ++ ys) ≡ kept tick xs ++ kept tick ys
 kept-append tick xs ys = filter-append (λ s. not (is_expired s.flow s.events tick)) xs ys
 
 kept-more : (tick : ℕ) (s : Session) (ss : List Session) → is_expired s.flow s.events tick ≡ false → kept tick (s ∷ ss) ≡ s ∷ kept tick ss
 kept-more tick s ss e = ap (λ b. cond (not b) (s ∷ kept tick ss) (kept tick ss)) e
-
-ticks-append : (tick : ℕ) (ss more : List Session) (ts us : List SessionEvent) → AreTicks tick ss ts → AreTicks tick more us → AreTicks tick (ss ++ more) (ts ++ us)
-ticks-append tick [] more [] us are rest = rest
-ticks-append tick [] more (t ∷ ts) us are rest = cc
-ticks-append tick (s ∷ ss) more [] us are rest = absurd are
-ticks-append tick (s ∷ ss) more (t ∷ ts) us are rest = (are.0, ticks-append tick ss more ts us are.1 rest)
-
-logged-append : (tick : ℕ) (ss more : List Session) (ts us : List SessionEvent) → AreTicks tick ss ts → logged_ticks (ss ++ more) (ts ++ us) ≡ logged_ticks ss ts ++ logged_ticks more us
-logged-append tick [] more [] us are = refl
-logged-append tick [] more (t ∷ ts) us are = cc
-logged-append tick (s ∷ ss) more [] us are = absurd are
-logged-append tick (s ∷ ss) more (t ∷ ts) us are =
-    ap (λ xs. logged_first s.flow t ++ xs) (logged-append tick ss more ts us are.1) ∙ sym (append_assoc (logged_first s.flow t) (logged_ticks ss ts) (logged_ticks more us))
 
 module _ (law : EachSessionHasATick) (assets : List Asset) (last tick : ℕ) where
   -- the next first halves of sessions in memory
@@ -58,9 +46,8 @@ module _ (law : EachSessionHasATick) (assets : List Asset) (last tick : ℕ) whe
 
   have_ticks : (entries : List Entry) (table : List Session) → AreAll assets last entries table → HasTicks table
   have_ticks [] [] all = ([], refl)
-  have_ticks [] (s ∷ table) all = absurd all
-  have_ticks (x ∷ entries) [] all = absurd all
   have_ticks (x ∷ entries) (s ∷ table) all = one_more x s.flow s.events table all.0 (have_ticks entries table all.1)
+  have_ticks entries table all = absurd all
 
 module _ (law : EachSessionHasATick) (assets : List Asset) (tick : ℕ) (known : List Session) (entries : List Entry) (place : ℕ) (d0 d1 d2 : DeskValue) (n : ℕ)
     (a : TickSome assets tick known entries place (told d0) (told d1) n) (frame : EmitsAndLogs d0 d1 false) (x : Entry) (xs : List Entry)

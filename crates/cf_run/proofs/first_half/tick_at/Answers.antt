@@ -1,6 +1,6 @@
 use Rattle.std.proofs.Common.{◌≡◌, ◌∷◌, length, sym, ap, ◌∙◌, refl, subst, Some}
 use Rattle.std.specs.Prelude.{slice_get, slice_set}
-use Rattle.std.proofs.lemmas.Option.{slice_get_within, slice_get_read, get_or_from_slice_get}
+use Rattle.std.proofs.lemmas.Option.{slice_get_within, get_or_from_slice_get}
 use Rattle.std.proofs.lemmas.List.{get_or-set_same}
 use Rattle.cf_policy.specs.declared.Asset.{Asset}
 use Rattle.cf_session.specs.Stands.{IsSessionOf, IsSound}
@@ -8,7 +8,7 @@ use Rattle.cf_session.specs.Told.{told}
 use Rattle.cf_run.specs.Engine.{TickAs}
 use Rattle.cf_run.specs.Entries.{cuts_by, stays_by}
 use Rattle.cf_run.specs.declared.entry.Entry.{Entry}
-use Rattle.cf_run.proofs.Soundness.{sound_at, sound_set, same_asset, sound_after, lives}
+use Rattle.cf_run.proofs.Soundness.{stands_at, sound_set, same_asset, sound_after, lives}
 use Rattle.cf_run.proofs.Timers.{by_life}
 use Rattle.cf_session.proofs.Amid.{on_err}
 use Rattle.cf_run.proofs.first_half.tick_at.Goals as goal
@@ -17,16 +17,14 @@ pub asset_of-asset-requires : goal.asset_of-asset-requires
 asset_of-asset-requires g c =
     let items = c.args.table.now.items in
     let x = c.index_mut-entry.result.now in
-    let at : slice_get items c.args.place ≡ Some x = slice_get_read items (length items) c.args.place x refl c.requires.inside c.index_mut-entry.ensures.value in
-    let one = sound_at c.args.assets.now c.args.limit items c.args.place x c.requires.sound at in
+    let (at, one) = stands_at c.args.assets.now c.args.limit items c.args.place x c.requires.sound c.requires.inside c.index_mut-entry.ensures.value in
     slice_get_within c.args.assets.now x.asset one.asset one.at
 
 pub on_clock-requires-clause-sound : goal.on_clock-requires-clause-sound
 on_clock-requires-clause-sound g c =
     let items = c.args.table.now.items in
     let x = c.index_mut-entry.result.now in
-    let at : slice_get items c.args.place ≡ Some x = slice_get_read items (length items) c.args.place x refl c.requires.inside c.index_mut-entry.ensures.value in
-    let one = sound_at c.args.assets.now c.args.limit items c.args.place x c.requires.sound at in
+    let (at, one) = stands_at c.args.assets.now c.args.limit items c.args.place x c.requires.sound c.requires.inside c.index_mut-entry.ensures.value in
     let same : one.asset ≡ c.asset_of-asset.result.now = same_asset c.args.assets.now x.asset one.asset c.asset_of-asset.result.now one.at c.asset_of-asset.ensures in
     subst (λ (a : Asset). IsSound a x.session) same one.sound
 
@@ -34,8 +32,7 @@ pub returns-clause-sound : goal.returns-clause-sound
 returns-clause-sound g c = λ stays.
     let items = c.args.table.now.items in
     let x = c.index_mut-entry.result.now in
-    let at : slice_get items c.args.place ≡ Some x = slice_get_read items (length items) c.args.place x refl c.requires.inside c.index_mut-entry.ensures.value in
-    let one = sound_at c.args.assets.now c.args.limit items c.args.place x c.requires.sound at in
+    let (at, one) = stands_at c.args.assets.now c.args.limit items c.args.place x c.requires.sound c.requires.inside c.index_mut-entry.ensures.value in
     sound_set c.args.assets.now c.args.limit items c.args.place _ c.requires.sound
     (sound_after c.args.assets.now c.args.limit x c.asset_of-asset.result.now c.on_clock.new.self one c.asset_of-asset.ensures
     (c.in_ok-life.ensures.sound (lives c.in_ok-life.life stays)) c.in_ok-life.ensures.same.0 c.due-entry.result c.due-entry.ensures)

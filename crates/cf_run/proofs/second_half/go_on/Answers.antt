@@ -1,7 +1,7 @@
 use Rattle.std.proofs.Common.{◌≡◌, ◌+◌, ◌-◌, ℕ, List, true, false, length, sym, ap, ◌∙◌, refl, subst, Some, arith}
 use Rattle.std.specs.Prelude.{slice_get, slice_set}
 use Rattle.std.specs.List.{remove}
-use Rattle.std.proofs.lemmas.Option.{slice_get_within, slice_get_read}
+use Rattle.std.proofs.lemmas.Option.{slice_get_within}
 use Rattle.std.proofs.lemmas.List.{drop-set-lt, take-set}
 use Rattle.cf_policy.specs.declared.Asset.{Asset}
 use Rattle.cf_packet.specs.Packet.{packet_value}
@@ -10,7 +10,7 @@ use Rattle.cf_session.specs.Stands.{HearsBy, IsSound}
 use Rattle.cf_run.specs.Engine.{AreDueFrom, AreSound}
 use Rattle.cf_run.specs.declared.entry.Entry.{Entry}
 use Rattle.cf_run.proofs.Due.{due_removed, due_set, due_sooner}
-use Rattle.cf_run.proofs.Soundness.{sound_at, sound_set, sound_removed, same_asset, sound_after, lives}
+use Rattle.cf_run.proofs.Soundness.{stands_at, sound_set, sound_removed, same_asset, sound_after, lives}
 use Rattle.cf_run.proofs.Timers.{removed_same}
 use Rattle.cf_run.proofs.Received.{heard_as}
 use Rattle.cf_session.specs.Broken.{BreaksPacket}
@@ -25,16 +25,14 @@ pub asset_of-asset-requires : goal.asset_of-asset-requires
 asset_of-asset-requires g c =
     let items = c.args.table.now.sessions.items in
     let x = c.index_mut-entry.result.now in
-    let at : slice_get items c.args.place ≡ Some x = slice_get_read items (length items) c.args.place x refl c.requires.inside c.index_mut-entry.ensures.value in
-    let one = sound_at c.args.assets.now c.args.limit items c.args.place x c.requires.sound at in
+    let (at, one) = stands_at c.args.assets.now c.args.limit items c.args.place x c.requires.sound c.requires.inside c.index_mut-entry.ensures.value in
     slice_get_within c.args.assets.now x.asset one.asset one.at
 
 pub on_packet-requires-clause-sound : goal.on_packet-requires-clause-sound
 on_packet-requires-clause-sound g c =
     let items = c.args.table.now.sessions.items in
     let x = c.index_mut-entry.result.now in
-    let at : slice_get items c.args.place ≡ Some x = slice_get_read items (length items) c.args.place x refl c.requires.inside c.index_mut-entry.ensures.value in
-    let one = sound_at c.args.assets.now c.args.limit items c.args.place x c.requires.sound at in
+    let (at, one) = stands_at c.args.assets.now c.args.limit items c.args.place x c.requires.sound c.requires.inside c.index_mut-entry.ensures.value in
     let same : one.asset ≡ c.asset_of-asset.result.now = same_asset c.args.assets.now x.asset one.asset c.asset_of-asset.result.now one.at c.asset_of-asset.ensures in
     subst (λ (a : Asset). IsSound a x.session) same one.sound
 
@@ -42,8 +40,7 @@ pub returns-else-not-stays-clause-sound : goal.returns-else-not-stays-clause-sou
 returns-else-not-stays-clause-sound g c =
     let items = c.args.table.now.sessions.items in
     let x = c.index_mut-entry.result.now in
-    let at : slice_get items c.args.place ≡ Some x = slice_get_read items (length items) c.args.place x refl c.requires.inside c.index_mut-entry.ensures.value in
-    let one = sound_at c.args.assets.now c.args.limit items c.args.place x c.requires.sound at in
+    let (at, one) = stands_at c.args.assets.now c.args.limit items c.args.place x c.requires.sound c.requires.inside c.index_mut-entry.ensures.value in
     sound_set c.args.assets.now c.args.limit items c.args.place _ c.requires.sound
     (sound_after c.args.assets.now c.args.limit x c.asset_of-asset.result.now c.on_packet.new.self one c.asset_of-asset.ensures
     (c.in-Ok.ensures.sound (lives c.in-Ok.life (sym c.stays.ensures ∙ c.if-not-stays.false))) c.in-Ok.ensures.same.0 c.due-due.result c.due-due.ensures)
@@ -71,15 +68,14 @@ pub returns-else-not-stays-clause-goes : goal.returns-else-not-stays-clause-goes
 returns-else-not-stays-clause-goes g c = λ table ticked all.
     let items = c.args.table.now.sessions.items in
     let x = c.index_mut-entry.result.now in
-    let at : slice_get items c.args.place ≡ Some x = slice_get_read items (length items) c.args.place x refl c.requires.inside c.index_mut-entry.ensures.value in
-    let one = sound_at c.args.assets.now c.args.limit items c.args.place x c.requires.sound at in
+    let (at, one) = stands_at c.args.assets.now c.args.limit items c.args.place x c.requires.sound c.requires.inside c.index_mut-entry.ensures.value in
     heard_as c.args.assets.now c.args.limit c.args.now c.args.place c.args.side (packet_value c.args.packet.now) items table
     (told (g.D.Desk.value c.args.desk.now)) (told (g.D.Desk.value c.on_packet.new.desk)) x c.on_packet.new.self c.due-due.result c.asset_of-asset.result.now at c.asset_of-asset.ensures
     all ticked c.requires.moment.0 c.admitted-admitted.result c.refused-refused.result c.admitted-admitted.ensures.counts c.refused-refused.ensures.counts
+    (λ flow earlier event s. sym c.admitted.ensures.value ∙ c.admitted.ensures.counts flow earlier event s) (λ flow earlier event s. sym c.refused.ensures.value ∙ c.refused.ensures.counts flow earlier event s)
     c.in-Ok.life (λ flow earlier half served stands tick now.
     subst (λ n. HearsBy flow n earlier half c.args.side (packet_value c.args.packet.now) c.on_packet.new.self (told (g.D.Desk.value c.args.desk.now)) (told (g.D.Desk.value c.on_packet.new.desk)) c.in-Ok.life)
     one.limit_is (c.in-Ok.ensures.hears flow earlier half served stands tick now))
-    (λ flow earlier event s. sym c.admitted.ensures.value ∙ c.admitted.ensures.counts flow earlier event s) (λ flow earlier event s. sym c.refused.ensures.value ∙ c.refused.ensures.counts flow earlier event s)
     true (sym c.stays.ensures ∙ c.if-not-stays.false) c.saturating_sub.result c.saturating_sub-2.result c.cuts.result
     (c.saturating_sub.ensures ∙ ap (λ n. n - c.admitted-admitted.result) c.admitted.ensures.value) (c.saturating_sub-2.ensures ∙ ap (λ n. n - c.refused-refused.result) c.refused.ensures.value) c.cuts.ensures
 
@@ -88,16 +84,15 @@ returns-then-not-stays-clause-goes g c = λ table ticked all.
     let items = c.args.table.now.sessions.items in
     let x = c.index_mut-entry.result.now in
     let y : Entry = record { session = c.on_packet.new.self; asset = x.asset; due = c.due-due.result } in
-    let at : slice_get items c.args.place ≡ Some x = slice_get_read items (length items) c.args.place x refl c.requires.inside c.index_mut-entry.ensures.value in
-    let one = sound_at c.args.assets.now c.args.limit items c.args.place x c.requires.sound at in
+    let (at, one) = stands_at c.args.assets.now c.args.limit items c.args.place x c.requires.sound c.requires.inside c.index_mut-entry.ensures.value in
     rw (c.remove.ensures.items, removed_set items c.args.place y)
     (heard_as c.args.assets.now c.args.limit c.args.now c.args.place c.args.side (packet_value c.args.packet.now) items table
     (told (g.D.Desk.value c.args.desk.now)) (told (g.D.Desk.value c.on_packet.new.desk)) x c.on_packet.new.self c.due-due.result c.asset_of-asset.result.now at c.asset_of-asset.ensures
     all ticked c.requires.moment.0 c.admitted-admitted.result c.refused-refused.result c.admitted-admitted.ensures.counts c.refused-refused.ensures.counts
+    (λ flow earlier event s. sym c.admitted.ensures.value ∙ c.admitted.ensures.counts flow earlier event s) (λ flow earlier event s. sym c.refused.ensures.value ∙ c.refused.ensures.counts flow earlier event s)
     c.in-Ok.life (λ flow earlier half served stands tick now.
     subst (λ n. HearsBy flow n earlier half c.args.side (packet_value c.args.packet.now) c.on_packet.new.self (told (g.D.Desk.value c.args.desk.now)) (told (g.D.Desk.value c.on_packet.new.desk)) c.in-Ok.life)
     one.limit_is (c.in-Ok.ensures.hears flow earlier half served stands tick now))
-    (λ flow earlier event s. sym c.admitted.ensures.value ∙ c.admitted.ensures.counts flow earlier event s) (λ flow earlier event s. sym c.refused.ensures.value ∙ c.refused.ensures.counts flow earlier event s)
     false (sym c.stays.ensures ∙ c.if-not-stays.true) c.saturating_sub.result c.saturating_sub-2.result c.cuts.result
     (c.saturating_sub.ensures ∙ ap (λ n. n - c.admitted-admitted.result) c.admitted.ensures.value) (c.saturating_sub-2.ensures ∙ ap (λ n. n - c.refused-refused.result) c.refused.ensures.value) c.cuts.ensures)
 
@@ -108,8 +103,7 @@ returns-in-Err-clause-broken g c = λ e.
     let d0 = g.D.Desk.value c.args.desk.now in
     let d1 = g.D.Desk.value c.on_packet.new.desk in
     let p = packet_value c.args.packet.now in
-    let at : slice_get items c.args.place ≡ Some x = slice_get_read items (length items) c.args.place x refl c.requires.inside c.index_mut-entry.ensures.value in
-    let one = sound_at c.args.assets.now c.args.limit items c.args.place x c.requires.sound at in
+    let (at, one) = stands_at c.args.assets.now c.args.limit items c.args.place x c.requires.sound c.requires.inside c.index_mut-entry.ensures.value in
     going_breaks c.args.assets.now c.args.limit c.args.now c.args.place c.args.side p items d0 d1 x c.asset_of-asset.result.now at c.asset_of-asset.ensures c.requires.moment.0
     (λ flow earlier half served stands tick now.
     subst (λ n. BreaksPacket flow n earlier half c.args.side p d0 d1) one.limit_is (c.in-Err.ensures.broken flow earlier half served stands tick now))
