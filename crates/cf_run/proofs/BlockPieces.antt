@@ -1,17 +1,17 @@
 -- What stands at a place of a pcapng file, read in two parts: the first octets of a block, and then all of them.
-use Rattle.std.proofs.Common.{◌≡◌, ℕ, ◌+◌, ◌-◌, ◌^◌, ◌<◌, ◌≤◌, Bool, true, false, min, nat_lt, ◌==◌, if◌then◌else◌, List, ◌++◌, length, take, drop, slice_range, refl, sym, ap, ◌∙◌, subst, inl, inr, arith}
+use Rattle.std.proofs.Common.{◌≡◌, ℕ, ◌<◌, ◌≤◌, true, false, ◌==◌, if◌then◌else◌, List, length, take, drop, refl, sym, ap, ◌∙◌, subst, inl, inr, arith}
 use Rattle.std.proofs.lemmas.List.{length-take, length-take-le, take_all, take-append-drop, take-take}
 use Rattle.std.proofs.lemmas.Bool.{cases_lt}
 use Rattle.std.proofs.lemmas.Bool.Decides.{nat_tests}
 use Rattle.cf_outside.specs.Files.{Content, untold, absent, holds}
 use Rattle.cf_outside.specs.Part.{HasRead, IsFilled}
 use Rattle.cf_outside.proofs.Pieces.{read_filled}
-use Rattle.cf_pcapng.specs.Answers.{answer_of, block_answer_of}
-use Rattle.cf_pcapng.specs.Block.{Block, Begins, Describes, Found, Holds, Is, Needs, Other, Refuses, block_at, size_at}
+use Rattle.cf_pcapng.specs.Answers.{answer_of}
+use Rattle.cf_pcapng.specs.Block.{Found, Holds, Is, Needs, Other, Refuses, block_at, size_at}
 use Rattle.cf_pcapng.specs.Blocks.{after_found}
 use Rattle.cf_pcapng.specs.Section.{Section}
 use Rattle.cf_pcapng.proofs.Fronts.{block_enough, size_enough}
-use Rattle.cf_run.specs.Capture.{AtPlace, FileEnd, Large, by_block, by_size, is_past, refused_by, section_at}
+use Rattle.cf_run.specs.Capture.{FileEnd, Large, by_block, by_size, is_past, section_at}
 use Rattle.cf_run.specs.Pieces.{SizeFits}
 
 -- ---- octets in a buffer

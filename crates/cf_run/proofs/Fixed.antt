@@ -1,10 +1,10 @@
 -- The records fix a run, event by event.
-use Rattle.std.proofs.Common.{◌≡◌, ℕ, inl, inr, Bool, true, false, List, [], ◌∷◌, ◌++◌, length, map, if◌then◌else◌, not, Option, Some, None, Result, Ok, Err, refl, sym, ap, ◌∙◌, subst, arith}
+use Rattle.std.proofs.Common.{◌≡◌, ℕ, Bool, true, false, List, [], ◌∷◌, ◌++◌, length, map, if◌then◌else◌, Option, Some, None, Result, Ok, Err, refl, sym, ap, ◌∙◌, subst, arith}
 use Rattle.std.specs.Prelude.{slice_get}
 use Rattle.std.specs.List.{concat}
 use Rattle.std.proofs.lemmas.List.{length-append}
 use Rattle.cf_leg.specs.Emits.{syn_ack_for}
-use Rattle.cf_leg.specs.Event.{Came, Greeting, Nothing}
+use Rattle.cf_leg.specs.Event.{Greeting, Nothing}
 use Rattle.cf_packet.specs.Packet.{PacketValue}
 use Rattle.cf_packet.specs.declared.packet.PacketRefusal.{PacketRefusal}
 use Rattle.cf_policy.specs.declared.Asset.{Asset}
@@ -12,13 +12,13 @@ use Rattle.cf_view.specs.declared.Side.{Side}
 use Rattle.cf_view.specs.declared.Side.TheVariants as side
 use Rattle.cf_session.specs.Event.{AreEvents as AreSessionEvents, IsBeginning, IsPacket, IsTick}
 use Rattle.cf_session.specs.Laws.{EventsAreFixed, Given, given, packet_in}
-use Rattle.cf_session.specs.Session.{Flow, SessionEvent, client_ends, is_expired}
+use Rattle.cf_session.specs.Session.{Flow, SessionEvent, client_ends}
 use Rattle.cf_run.specs.Fixed.{RecordsFixEvents, RecordsFixRuns}
-use Rattle.cf_run.specs.Run.{IsRun, capture_of, inputs_of}
+use Rattle.cf_run.specs.Run.{capture_of, inputs_of}
 use Rattle.cf_run.specs.Sessions.{Each}
 use Rattle.cf_run.specs.Summary.{summary_of}
 use Rattle.cf_run.specs.Table.{Begins, Full, Goes, Match, Outside, Session, match_of}
-use Rattle.cf_run.specs.Trace.{AreRunEvents, AreTicks, Begun, Dropped, RunEvent, GoesOnAt, GoesOnWith, Input, IsRunEvent, NoRoom, NoSession, Received, Receives, ReceivesRecord, Went, kept, logged, sent, table_after, tick_of, ticked}
+use Rattle.cf_run.specs.Trace.{AreTicks, Begun, RunEvent, GoesOnAt, GoesOnWith, Input, IsRunEvent, NoRoom, NoSession, Received, Receives, ReceivesRecord, Went, kept, logged, sent, table_after, tick_of, ticked}
 use Rattle.cf_run.proofs.Sessions.{HasGone, HasTick, IsGoing, IsTicked, begun_one, each-at, each-kept, each-ticked, goes_on, of_run, tick_right}
 
 -- ---- the records, one by one

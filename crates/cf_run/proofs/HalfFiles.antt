@@ -1,6 +1,6 @@
 -- The two files, where a write failed amid a half of an event.
-use Rattle.std.proofs.Common.{◌≡◌, ◌+◌, ℕ, Bool, true, false, List, [], ◌++◌, length, take, drop, map, None, Some, if◌then◌else◌, refl, sym, ap, ◌∙◌, append_assoc, inl, inr}
-use Rattle.std.specs.List.{concat, flat_map}
+use Rattle.std.proofs.Common.{◌≡◌, ◌+◌, ℕ, true, List, [], ◌++◌, length, take, map, Some, refl, sym, ap, ◌∙◌, append_assoc, inl, inr}
+use Rattle.std.specs.List.{concat}
 use Rattle.std.proofs.Math.Seq.{take-append-add}
 use Rattle.std.proofs.lemmas.Grind.{flat_map-append}
 use Rattle.std.proofs.lemmas.List.Folds.{concat-append, flat_map-map}
@@ -12,7 +12,7 @@ use Rattle.cf_pcap.specs.Header.{output_octets}
 use Rattle.cf_session.specs.Broken.{IsPartOf, octets_of}
 use Rattle.cf_session.specs.Sent.{Sent}
 use Rattle.cf_session.specs.Told.{emitted, with_more}
-use Rattle.cf_run.specs.OutputFile.{ends_with_record, file_packets, has_header, packet_in, packet_part, record_octets}
+use Rattle.cf_run.specs.OutputFile.{ends_with_record, file_packets, packet_part, record_octets}
 use Rattle.cf_run.specs.Run.{capture_of}
 use Rattle.cf_run.specs.RunCapture.{HoldsOctets}
 use Rattle.cf_run.proofs.OutputFiles.{file_is}

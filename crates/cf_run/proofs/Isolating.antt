@@ -1,5 +1,5 @@
 -- What is matched to a session fixes all that it sends and logs, in two runs.
-use Rattle.std.proofs.Common.{◌≡◌, ℕ, suc, ◌+◌, ◌-◌, ◌≤◌, ◌&&◌, inl, inr, Bool, true, false, not, List, [], ◌∷◌, ◌++◌, length, cond, if◌then◌else◌, map, Option, Some, None, Result, Ok, Err, refl, sym, ap, ◌∙◌, subst, arith}
+use Rattle.std.proofs.Common.{◌≡◌, ℕ, suc, ◌+◌, ◌-◌, ◌≤◌, ◌&&◌, Bool, true, false, not, List, [], ◌∷◌, ◌++◌, length, cond, if◌then◌else◌, Option, Some, None, Result, Ok, Err, refl, sym, ap, ◌∙◌, subst, arith}
 use Rattle.std.specs.Prelude.{filter}
 use Rattle.std.specs.List.{flat_map}
 use Rattle.std.proofs.lemmas.Bool.{and_parts, true≢false}
@@ -18,8 +18,8 @@ use Rattle.cf_run.specs.Isolation.{AreMatched, NoneBegins, RunsIsolateSessions, 
 use Rattle.cf_run.specs.Run.{inputs_of}
 use Rattle.cf_run.specs.Sessions.{Each}
 use Rattle.cf_run.specs.Summary.{found}
-use Rattle.cf_run.specs.Table.{Begins, Full, Goes, Match, Outside, Session, is_between, match_of, same_endpoint, without}
-use Rattle.cf_run.specs.Trace.{AreRunEvents, AreTicks, Begun, Dropped, RunEvent, GoesOnWith, Input, IsRunEvent, NoRoom, NoSession, Received, Receives, ReceivesRecord, Went, after_received, behind, kept, logged_received, logged_ticks, replaced, sent_received, stays, table_after, tick_of, ticked, with_events}
+use Rattle.cf_run.specs.Table.{Begins, Match, Session, is_between, match_of, same_endpoint, without}
+use Rattle.cf_run.specs.Trace.{AreRunEvents, AreTicks, Begun, RunEvent, GoesOnWith, Input, IsRunEvent, Received, Receives, ReceivesRecord, after_received, behind, kept, logged_received, logged_ticks, replaced, sent_received, stays, table_after, tick_of, ticked, with_events}
 use Rattle.cf_run.proofs.Matched.{same_is}
 use Rattle.cf_run.proofs.Pairs.{filter_at_most, filter_keeps, filter_swap, next_are, ticks_are, without_theirs}
 use Rattle.cf_run.proofs.Fixed.{begun_once, same_one, same_parts, ticks_once, went_with}

@@ -1,5 +1,5 @@
 -- What a packet is to the sessions in memory is what it is to those of the table.
-use Rattle.std.proofs.Common.{◌≡◌, ℕ, zero, suc, ◌+◌, ◌<◌, ◌&&◌, ◌||◌, nat_lt, inl, inr, Bool, true, false, List, [], ◌∷◌, length, cond, if◌then◌else◌, Option, option_map, Some, None, refl, sym, ap, ◌∙◌, subst, arith}
+use Rattle.std.proofs.Common.{◌≡◌, ℕ, zero, suc, ◌+◌, ◌<◌, ◌&&◌, nat_lt, inl, inr, Bool, true, false, List, [], ◌∷◌, length, cond, if◌then◌else◌, Option, option_map, Some, None, refl, sym, ap, ◌∙◌, subst, arith}
 use Rattle.std.specs.Prelude.{find, position, slice_get}
 use Rattle.std.specs.List.{position_or_len, remove}
 use Rattle.std.specs.Option.{is_some}

@@ -8,7 +8,7 @@ use Rattle.cf_view.specs.declared.Side.{Side}
 use Rattle.cf_run.specs.Engine.{AreAll}
 use Rattle.cf_run.specs.Entries.{entry_match}
 use Rattle.cf_run.specs.Receiving.{AreTicked, BeginsOne, GoesOne, Receiving}
-use Rattle.cf_run.specs.Table.{Begins, Full, Goes, Match, Outside, Session, match_of}
+use Rattle.cf_run.specs.Table.{Begins, Session, match_of}
 use Rattle.cf_run.specs.Trace.{Begun, NoRoom, NoSession, Received, Receives, Went}
 use Rattle.cf_run.specs.declared.entry.Entry.{Entry}
 use Rattle.cf_run.specs.declared.matching.Match.TheVariants as match

@@ -1,8 +1,8 @@
 -- Blocks that are passed over.
 use Rattle.std.proofs.Common.{◌≡◌, ◌≢◌, ℕ, zero, suc, ◌+◌, List, drop, refl, sym, ap, ◌∙◌, subst}
 use Rattle.cf_outside.specs.Files.{Content, untold, absent, holds}
-use Rattle.cf_run.specs.Capture.{AtPlace, Passes, at_place, form_behind}
-use Rattle.cf_run.specs.Pieces.{EndsAs, FindsBehind, FindsPiece, IsBehind, PieceAs}
+use Rattle.cf_run.specs.Capture.{Passes, at_place, form_behind}
+use Rattle.cf_run.specs.Pieces.{EndsAs, FindsBehind, FindsPiece}
 use Rattle.cf_run.specs.Reader.{PassesSome, PassesTo}
 use Rattle.cf_run.specs.declared.form.Form.{Form}
 use Rattle.cf_run.specs.declared.record_reader.NextRecord.TheVariants as next

@@ -15,7 +15,7 @@ use Rattle.cf_run.specs.Engine.{AreAll, IsOneWith}
 use Rattle.cf_run.specs.Entries.{entry_match}
 use Rattle.cf_run.specs.Half.{GoBreaks, GoingBreaks, ReceivingBreaks}
 use Rattle.cf_run.specs.Receiving.{AreTicked, HasTicked}
-use Rattle.cf_run.specs.Table.{Begins, Full, Goes, Match, Outside, Session, match_of}
+use Rattle.cf_run.specs.Table.{Session}
 use Rattle.cf_run.specs.Trace.{Begun, GoesOnAt, Receives, Went, logged_at}
 use Rattle.cf_run.specs.declared.entry.Entry.{Entry}
 use Rattle.cf_run.specs.declared.matching.Match.TheVariants as match

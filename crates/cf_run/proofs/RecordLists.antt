@@ -1,17 +1,17 @@
 -- The records of a file: there is one list of them, with moments and without.
-use Rattle.std.proofs.Common.{◌≡◌, ℕ, zero, suc, ◌+◌, ◌-◌, ◌*◌, ◌^◌, ◌<◌, ◌≤◌, max, Bool, true, false, nat_lt, ◌==◌, if◌then◌else◌, List, [], ◌∷◌, length, drop, slice_get, Option, Some, None, inl, inr, refl, sym, ap, ◌∙◌, arith, subst, add-one}
+use Rattle.std.proofs.Common.{◌≡◌, ℕ, zero, suc, ◌+◌, ◌<◌, ◌≤◌, max, Bool, true, false, nat_lt, ◌==◌, if◌then◌else◌, List, [], ◌∷◌, length, drop, slice_get, Option, Some, None, inl, inr, refl, sym, ap, ◌∙◌, arith, subst, add-one}
 use Rattle.std.proofs.lemmas.List.{length-drop}
 use Rattle.std.proofs.lemmas.Bool.{cases_Bool}
 use Rattle.std.proofs.lemmas.Bool.Decides.{nat_tests}
 use Rattle.cf_pcap.specs.declared.header.Header.{Header}
-use Rattle.cf_pcapng.specs.Block.{Begins, Block, Describes, Found, Holds, Is, Needs, Other, Packet, Refuses, block_at, size_at}
+use Rattle.cf_pcapng.specs.Block.{Found, Holds, Is, Needs, Refuses, block_at, size_at}
 use Rattle.cf_pcapng.specs.Section.{Section}
 use Rattle.cf_pcapng.proofs.Insides.{is_inside}
 use Rattle.cf_pcapng.specs.declared.block.TheConstants.{REFUSED_INTERFACE, REFUSED_LENGTH, REFUSED_RESOLUTION, REFUSED_SECTION}
 use Rattle.cf_run.specs.declared.blocks.BlockRefusal.TheVariants as block
-use Rattle.cf_run.specs.Capture.{ArePieces, AreRecords, AtPlace, Clock, Cut, FileEnd, Fits, IsLast, Large, LastPlace, Passes, Record, Refused, TooLong, at_place, by_block, by_size, classic_at, form_behind, is_past, records_among, refused_by, section_at}
+use Rattle.cf_run.specs.Capture.{ArePieces, AtPlace, Clock, Cut, FileEnd, Fits, IsLast, Large, LastPlace, Passes, Record, Refused, TooLong, at_place, by_block, by_size, classic_at, form_behind, is_past, records_among, refused_by}
 use Rattle.cf_run.specs.Records.{BeginAtTwo, GoOnByTwo, HaveOneList, HaveOneTimedList, HaveRecords, HaveTimedRecords, NoneAfterTheLastMoment, StayBelowTheLimit}
-use Rattle.cf_run.specs.Moments.{AreTimed, AreTimedPieces, first_moment, moment_from, moments_from, timed}
+use Rattle.cf_run.specs.Moments.{AreTimedPieces, first_moment, moment_from, moments_from, timed}
 use Rattle.cf_run.specs.declared.form.Form.{Form}
 use Rattle.cf_run.specs.declared.form.Form.TheVariants as form
 use Rattle.cf_view.specs.Moment.{moment_limit}

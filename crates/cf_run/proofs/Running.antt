@@ -1,5 +1,5 @@
 -- The records of a capture that were run over so far.
-use Rattle.std.proofs.Common.{◌≡◌, ◌+◌, ◌*◌, ◌^◌, ◌<◌, ◌≤◌, max, ℕ, zero, suc, true, List, [], ◌∷◌, ◌++◌, map, drop, take, length, Some, None, Ok, Err, refl, sym, ap, ◌∙◌, subst, append_assoc, arith, Result, IsErrAnd}
+use Rattle.std.proofs.Common.{◌≡◌, ◌+◌, ◌<◌, ◌≤◌, max, ℕ, zero, suc, true, List, [], ◌∷◌, ◌++◌, map, drop, take, Some, None, Ok, Err, refl, sym, ap, ◌∙◌, subst, append_assoc, arith, Result, IsErrAnd}
 use Rattle.std.specs.List.{concat, flat_map}
 use Rattle.std.proofs.lemmas.List.{append-nil, drop-drop}
 use Rattle.std.proofs.lemmas.List.Folds.{flat_map-map}
@@ -10,7 +10,7 @@ use Rattle.cf_outside.specs.Files.{Content, untold, absent, holds, IsWhole}
 use Rattle.cf_outside.specs.Lines.{ends_with_line, file_lines, file_part}
 use Rattle.cf_packet.specs.Packet.{read_record}
 use Rattle.cf_run.proofs.RecordLists.{have_timed_records}
-use Rattle.cf_run.specs.Capture.{AtPlace, Clock, Cut, FileEnd, Fits, IsLast, Large, LastPlace, Record, Refused, TooLong, at_place, form_behind}
+use Rattle.cf_run.specs.Capture.{AtPlace, Clock, FileEnd, Fits, IsLast, LastPlace, Record, form_behind}
 use Rattle.cf_run.specs.Form.{first_place}
 use Rattle.cf_run.specs.Moments.{AreTimed, first_moment, moment_from, timed}
 use Rattle.cf_run.specs.declared.form.Form.{Form}
@@ -22,7 +22,7 @@ use Rattle.cf_session.specs.Told.{emitted, with_both, with_more}
 use Rattle.cf_run.specs.FileDesk.{are_whole, files_desk, files_told}
 use Rattle.cf_run.specs.Half.{StepBreaks, StepStops}
 use Rattle.cf_run.specs.OutputFile.{ends_with_record, file_packets, packet_part, record_octets}
-use Rattle.cf_run.specs.Reader.{FindsRecord, HasForm, PassesTo, ReaderValue, StopsAt}
+use Rattle.cf_run.specs.Reader.{FindsRecord, HasForm, PassesTo, ReaderValue}
 use Rattle.cf_run.specs.Run.{capture_of, input_of, inputs, inputs_from, inputs_of}
 use Rattle.cf_run.specs.RunCapture.{BeginsWithRecords, BreaksOff, HasRunRecords, HoldsOctets, LeavesRun, RunNamesValue, RunsPartly, RunsRecords, RunsTo, StopsBetween, StopsIn, step_fault}
 use Rattle.cf_run.specs.Step.{EngineValue, IsEngineOf, StepsOn}

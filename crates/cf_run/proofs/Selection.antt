@@ -1,6 +1,6 @@
 -- The output of an event, selected by its moments.
-use Rattle.std.proofs.Common.{◌≡◌, ◌≢◌, ℕ, zero, suc, ◌+◌, ◌≤◌, ◌==◌, Bool, true, false, List, [], ◌∷◌, ◌++◌, cond, Result, Ok, Err, refl, sym, ap, ◌∙◌, subst, arith}
-use Rattle.std.specs.Prelude.{filter, slice_get}
+use Rattle.std.proofs.Common.{◌≡◌, ◌≢◌, ℕ, zero, suc, ◌+◌, ◌≤◌, ◌==◌, true, false, List, [], ◌∷◌, ◌++◌, cond, Result, Ok, Err, refl, sym, ap, ◌∙◌, subst, arith}
+use Rattle.std.specs.Prelude.{slice_get}
 use Rattle.std.specs.List.{flat_map}
 use Rattle.std.proofs.lemmas.List.{append-nil}
 use Rattle.std.proofs.lemmas.List.Elements.{filter-append}
@@ -15,7 +15,7 @@ use Rattle.cf_session.specs.Session.{Flow, SessionEvent}
 use Rattle.cf_run.specs.Selected.{IsSelected, Rises, SelectsByMoment, last_moment, with_moment}
 use Rattle.cf_run.specs.Sessions.{Each}
 use Rattle.cf_run.proofs.Sessions.{each-filter}
-use Rattle.cf_run.specs.Table.{Begins, Full, Goes, Match, Outside, Session, match_of}
+use Rattle.cf_run.specs.Table.{Begins, Goes, Match, Session, match_of}
 use Rattle.cf_run.specs.Trace.{AreRunEvents, AreTicks, Begun, Dropped, RunEvent, GoesOnAt, GoesOnWith, IsRunEvent, NoRoom, NoSession, Received, Receives, ReceivesRecord, Went, kept, sent, sent_in_first, sent_in_second, sent_received, stays, table_after, tick_of, ticked, with_events}
 
 -- all have moments of this kind

@@ -1,4 +1,4 @@
-use Rattle.std.proofs.Common.{ap, ◌∙◌, arith, Err}
+use Rattle.std.proofs.Common.{ap, arith, Err}
 use Rattle.cf_packet.specs.Packet.{read_record}
 use Rattle.cf_session.specs.Told.{told}
 use Rattle.cf_run.proofs.Stepping.{stepped}

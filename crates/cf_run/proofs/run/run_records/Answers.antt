@@ -1,4 +1,4 @@
-use Rattle.std.proofs.Common.{List, ℕ, ◌≡◌, ◌<◌, ◌*◌, ◌^◌, true, Err, refl, sym, ap, ◌∙◌, subst, arith}
+use Rattle.std.proofs.Common.{List, ℕ, ◌≡◌, ◌<◌, true, Err, refl, sym, ap, ◌∙◌, subst, arith}
 use Rattle.cf_outside.specs.Files.{Content}
 use Rattle.cf_run.specs.Capture.{Cut, FileEnd, Large, Refused, TooLong}
 use Rattle.cf_packet.specs.Packet.{read_record}
