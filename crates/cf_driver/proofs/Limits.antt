@@ -41,7 +41,4 @@ pub limit_is : (l : ℕ) (asset : Asset) (h : List Element) (js : List Judged) (
 limit_is l asset h js a b c k e d qc qk =
     let lc : queue_length c ≡ letter_count (stream_to asset side.Client js) = omega (arith, qc.pushed, ap {B = ℕ} (λ x. cond x 1 0) qc.ended) in
     let lk : queue_length k ≡ letter_count (stream_to asset side.Controller js) = omega (arith, qk.pushed, ap {B = ℕ} (λ x. cond x 1 0) qk.ended) in
-    ap (λ n. limit_by l n b (queue_length c) (queue_length k)) e
-    ∙ ap (λ n. limit_by l (letter_count (taken side.Client h)) n (queue_length c) (queue_length k)) d
-    ∙ ap (λ n. limit_by l (letter_count (taken side.Client h)) (letter_count (taken side.Controller h)) n (queue_length k)) lc
-    ∙ ap (λ n. limit_by l (letter_count (taken side.Client h)) (letter_count (taken side.Controller h)) (letter_count (stream_to asset side.Client js)) n) lk
+    rw (e, d, lc, lk) refl

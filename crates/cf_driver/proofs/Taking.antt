@@ -34,6 +34,12 @@ no_end m side.Client side.Controller piece = refl
 no_end m side.Controller side.Client piece = refl
 no_end m side.Controller side.Controller piece = refl
 
+same_pushed : {q : Queue} → OnlyPushed q q
+same_pushed = record { acked = refl; sent = refl; shown = refl }
+
+end_pushed : {q : Queue} → OnlyPushed q (after_end q)
+end_pushed = record { acked = refl; sent = refl; shown = refl }
+
 only_pushed : (most before now : ℕ) (old new : Queue) → Grows most before now old new → OnlyPushed old new
 only_pushed most before now old new g = record {
   acked = ap (λ (q : Queue). q.acked) g.rest;
@@ -116,23 +122,9 @@ module _ (asset : Asset) (moment : ℕ) (s : Side) (lane lane' : LaneValue) (c k
   end_of_controller side.Client e = ap (λ (q : Queue). q.ended) e.0 ∙ sym (or-false c.ended)
   end_of_controller side.Controller e = ap (λ (q : Queue). q.ended) e.0 ∙ sym (or-true c.ended)
 
-  end_pushed : (old new : Queue) → new ≡ after_end old → OnlyPushed old new
-  end_pushed old new e = record {
-    acked = ap (λ (q : Queue). q.acked) e;
-    sent = ap (λ (q : Queue). q.sent) e;
-    shown = ap (λ (q : Queue). q.shown) e;
-  }
-
-  same_pushed : (old new : Queue) → new ≡ old → OnlyPushed old new
-  same_pushed old new e = record {
-    acked = ap (λ (q : Queue). q.acked) e;
-    sent = ap (λ (q : Queue). q.sent) e;
-    shown = ap (λ (q : Queue). q.shown) e;
-  }
-
   ends_pushed : (t : Side) → EndsOther t c k c' k' → OnlyPushed c c' × OnlyPushed k k'
-  ends_pushed side.Client e = (same_pushed c c' e.0, end_pushed k k' e.1)
-  ends_pushed side.Controller e = (end_pushed c c' e.0, same_pushed k k' e.1)
+  ends_pushed side.Client e = (rw e.0 same_pushed, rw e.1 end_pushed)
+  ends_pushed side.Controller e = (rw e.0 end_pushed, rw e.1 same_pushed)
 
   pub takes_end : (rest : List ℕ) (size : ℕ) → size ≡ length rest →
       ((h : List Element) (rests : Rests) (first own : Option (List (List ℕ))) → size ≡ length (rest_of s rests) →

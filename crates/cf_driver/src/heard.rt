@@ -1,5 +1,5 @@
 //! What was heard of a side: its bytes that are no whole unit yet, and how many of its letters were taken. This project's own.
-ghost use Rattle.std.specs.Prelude.{◌≡◌, ◌+◌, ◌*◌, ◌^◌, ◌<◌, ◌≤◌, ◌++◌, [], ◌∷◌, IfOk, OnErr, OnOk, IsErr, None, drop, length, true};
+ghost use Rattle.std.specs.Prelude.{◌≡◌, ◌+◌, ◌*◌, ◌^◌, ◌<◌, ◌≤◌, ◌++◌, [], ◌∷◌, IfOk, IfSome, OnErr, OnOk, IsErr, None, drop, length, true};
 ghost use Rattle.cf_driver.specs.Takes.{MissesEnd, MissesPiece, Takes};
 ghost use Rattle.cf_lane.specs.Handled.{EndsOther, HasRoom, IsLaneOf, IsOpen, MayEnd, WritesLog, debt, debt_limit, rest_limit, state};
 ghost use Rattle.cf_lane.specs.History.{bytes_at, end_at};
@@ -68,6 +68,7 @@ impl Heard {
         ensures misses { OnErr result (MissesPiece asset.now moment side piece.now self.old.rest.items
             (state lane.old to_client.old to_controller.old (DeskValue.lines (D.value desk.old)))
             (DeskValue.lines (D.value desk.new)) (DeskValue.line_part (D.value desk.new))) }
+        ensures cut { IfOk result (λ cut. IfSome cut (λ _. self.new.rest.items ≡ [])) }
         ensures letters { self.new.letters ≡ self.old.letters + length piece.now }
         ensures whole { OnOk result (DeskValue.whole (D.value desk.new) ≡ true) }
         ensures log { WritesLog (D.value desk.old) (D.value desk.new) }

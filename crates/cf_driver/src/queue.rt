@@ -42,6 +42,7 @@ pub fn waiting(queue: &Outq) -> usize
 pub fn front(queue: &Outq, out: &mut [u8]) -> usize
     ensures count { result ≡ min (length queue.now.kept) (length out.old) }
     ensures bytes { take result out.new ≡ take result queue.now.kept }
+    ensures rest { drop result out.new ≡ drop result out.old }
     ensures buffer { length out.new ≡ length out.old }
 {
     let len = waiting(queue).min(out.len());
