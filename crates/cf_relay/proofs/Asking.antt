@@ -1,5 +1,5 @@
 -- Asking a side, and the limit after it, is a stage that is done, or one that breaks off.
-use Rattle.std.proofs.Common.{Err, List, None, Ok, Option, Result, Some, [], ap, arith, false, inl, inr, refl, subst, sym, ℕ, ◌++◌, ◌+◌, ◌<◌, ◌∙◌, ◌∷◌, ◌≡◌, ◌≤◌, ◌||◌}
+use Rattle.std.proofs.Common.{Err, List, None, Ok, Option, Result, Some, ap, arith, false, inl, inr, refl, subst, sym, ℕ, ◌++◌, ◌+◌, ◌<◌, ◌∙◌, ◌∷◌, ◌≡◌, ◌≤◌, ◌||◌, []}
 use Rattle.std.specs.Prelude.{IfErr, OnOk}
 use Rattle.std.specs.List.{list_any}
 use Rattle.std.specs.Option.{option_or}
@@ -13,7 +13,7 @@ use Rattle.cf_lane.specs.Output.{other, stream_to}
 use Rattle.cf_lane.specs.declared.limit.TheConstants.{LETTER_LIMIT}
 use Rattle.cf_links.specs.LinkValue.{LinkValue}
 use Rattle.cf_links.specs.Links.{SessionTold, with_answers}
-use Rattle.cf_outq.specs.SendQueue.{Queue, queue_length}
+use Rattle.cf_outq.specs.SendQueue.{queue_length}
 use Rattle.cf_outside.specs.Desk.{DeskValue}
 use Rattle.cf_outside.specs.Pair.{Entry, Idle}
 use Rattle.cf_policy.specs.declared.Asset.{Asset}
@@ -168,10 +168,11 @@ module _ (law : StreamsGoOn) (quiet : QuietBehindEnd) (asset : Asset) (most : �
       limit_by LETTER_LIMIT old.client_letters old.controller_letters (queue_length old.to_client) (queue_length old.to_controller)
       ≡ limit_by LETTER_LIMIT new.client_letters new.controller_letters (queue_length new.to_client) (queue_length new.to_controller)
   limit_same same =
-      ap (λ n. limit_by LETTER_LIMIT n old.controller_letters (queue_length old.to_client) (queue_length old.to_controller)) (sym (letters_same same side.Client))
-      ∙ ap (λ n. limit_by LETTER_LIMIT new.client_letters n (queue_length old.to_client) (queue_length old.to_controller)) (sym (letters_same same side.Controller))
-      ∙ ap (λ (q : Queue). limit_by LETTER_LIMIT new.client_letters new.controller_letters (queue_length q) (queue_length old.to_controller)) (sym (ap (λ (x : TakeState). x.state.to_client) same))
-      ∙ ap (λ (q : Queue). limit_by LETTER_LIMIT new.client_letters new.controller_letters (queue_length new.to_client) (queue_length q)) (sym (ap (λ (x : TakeState). x.state.to_controller) same))
+      let c : new.client_letters ≡ old.client_letters = letters_same same side.Client in
+      let k : new.controller_letters ≡ old.controller_letters = letters_same same side.Controller in
+      let p : new.to_client ≡ old.to_client = ap (λ (x : TakeState). x.state.to_client) same in
+      let q : new.to_controller ≡ old.to_controller = ap (λ (x : TakeState). x.state.to_controller) same in
+      rw (c, k, p, q) refl
 
   -- a side that was passed over leaves what it was, which was short
   pub limit_goes : links'.faults ≡ links.faults → (x : Unit {0}) (r : Result Unit Stop) → TakesBy asset old.moment most s (take_state_of s old desk.lines links.told) (take_state_of s new desk'.lines links'.told) desk' (Ok x) →

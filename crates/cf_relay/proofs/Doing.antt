@@ -1,8 +1,9 @@
 -- What the code does between two places is a stage that is done, or one that breaks off.
-use Rattle.std.proofs.Common.{Bool, Err, List, Ok, Option, [], ap, arith, false, inl, inr, length, map, max, refl, subst, sym, true, ℕ, ◌++◌, ◌+◌, ◌<◌, ◌∙◌, ◌∷◌, ◌≡◌, ◌≤◌, ◌||◌, ◌⊎◌}
+use Rattle.std.proofs.Common.{Err, List, Ok, Option, ap, arith, false, inl, inr, length, map, max, refl, subst, sym, true, ℕ, ◌++◌, ◌+◌, ◌<◌, ◌∙◌, ◌∷◌, ◌≡◌, ◌≤◌, ◌||◌, ◌⊎◌, if◌then◌else◌, []}
 use Rattle.std.specs.List.{flat_map, list_any}
-use Rattle.std.proofs.Math.Bool.{or-false}
+use Rattle.std.proofs.Math.Bool.{or-false, or-true}
 use Rattle.std.proofs.lemmas.List.{append-nil}
+use Rattle.cf_lane.specs.History.{is_side}
 use Rattle.cf_lane.specs.Output.{other}
 use Rattle.cf_links.specs.LinkValue.{LinkValue}
 use Rattle.cf_links.specs.Links.{SessionTold, with_entry}
@@ -14,9 +15,9 @@ use Rattle.cf_policy.specs.declared.Asset.{Asset}
 use Rattle.cf_stream.specs.Stream.{Stream}
 use Rattle.cf_view.specs.declared.Side.{Side}
 use Rattle.cf_view.specs.declared.Side.TheVariants as side
-use Rattle.cf_relay.proofs.Giving.{given_more, with_none}
+use Rattle.cf_relay.proofs.Giving.{with_none}
 use Rattle.cf_relay.proofs.Lined.{apart_none}
-use Rattle.cf_relay.proofs.Lists.{closes_more, history_more, met_more, told_more}
+use Rattle.cf_relay.proofs.Lists.{closes_more, told_more}
 use Rattle.cf_relay.proofs.Scenes.{writes_none}
 use Rattle.cf_relay.proofs.Stages.{begins_stage, breaks_nothing, finishes_stage, gives_stage, no_finish, one_broken, one_stage, tells_stage}
 use Rattle.cf_relay.proofs.Standing.{Silent, stands_silent}
@@ -127,44 +128,27 @@ pub record IsGiving (s : Side) (answers : List Entry) : Type 0 where
   pub closes_nothing : (t : Side) → list_any (closes t) answers ≡ false
   pub others : given (other s) answers ≡ []
 
-took_history : (s : Side) (pieces : List (List ℕ)) (earlier : List Entry) → history_after earlier (map (Took s) pieces) ≡ []
-took_history s [] earlier = refl
-took_history s (p ∷ pieces) earlier = took_history s pieces (earlier ++ Took s p ∷ [])
+other_side : (s : Side) → is_side (other s) s ≡ false
+other_side side.Client = refl
+other_side side.Controller = refl
 
-took_met : (s : Side) (pieces : List (List ℕ)) → flat_map met_in (map (Took s) pieces) ≡ []
-took_met s [] = refl
-took_met s (p ∷ pieces) = took_met s pieces
-
-took_told : (s : Side) (pieces : List (List ℕ)) → moments (map (Took s) pieces) ≡ []
-took_told s [] = refl
-took_told s (p ∷ pieces) = took_told s pieces
-
-took_closes : (s t : Side) (pieces : List (List ℕ)) → list_any (closes t) (map (Took s) pieces) ≡ false
-took_closes s t [] = refl
-took_closes s t (p ∷ pieces) = took_closes s t pieces
-
-took_other : (s : Side) (pieces : List (List ℕ)) → given (other s) (map (Took s) pieces) ≡ []
-took_other s [] = refl
-took_other side.Client (p ∷ pieces) = took_other side.Client pieces
-took_other side.Controller (p ∷ pieces) = took_other side.Controller pieces
+giving_front : (s : Side) (pieces : List (List ℕ)) (rest : List Entry) → IsGiving s rest → IsGiving s (map (Took s) pieces ++ rest)
+giving_front s [] rest is = is
+giving_front s (p ∷ pieces) rest is =
+    let g = giving_front s pieces rest is in
+    record {
+      history = λ earlier. g.history (earlier ++ Took s p ∷ []);
+      met = g.met;
+      told = g.told;
+      closes_nothing = g.closes_nothing;
+      others = ap (λ b. (if b then p else []) ++ given (other s) (map (Took s) pieces ++ rest)) (other_side s) ∙ g.others;
+    }
 
 giving_pieces : (s : Side) (pieces : List (List ℕ)) → IsGiving s (map (Took s) pieces)
-giving_pieces s pieces = record {
-  history = took_history s pieces;
-  met = took_met s pieces;
-  told = took_told s pieces;
-  closes_nothing = λ t. took_closes s t pieces;
-  others = took_other s pieces;
-}
+giving_pieces s pieces = subst (IsGiving s) (append-nil (map (Took s) pieces)) (giving_front s pieces [] (record { history = λ earlier. refl; met = refl; told = refl; closes_nothing = λ t. refl; others = refl }))
 
 giving_idle : (s : Side) (pieces : List (List ℕ)) → IsGiving s (map (Took s) pieces ++ Idle s ∷ [])
-giving_idle s pieces = record {
-  history = λ earlier. history_more earlier (map (Took s) pieces) (Idle s ∷ []) ∙ ap (λ h. h ++ []) (took_history s pieces earlier);
-  met = met_more (map (Took s) pieces) (Idle s ∷ []) ∙ ap (λ h. h ++ []) (took_met s pieces);
-  told = told_more (map (Took s) pieces) (Idle s ∷ []) ∙ ap (λ h. h ++ []) (took_told s pieces);
-  closes_nothing = λ t. closes_more t (map (Took s) pieces) (Idle s ∷ []) ∙ ap (λ b. b || false) (took_closes s t pieces);
-  others = given_more (other s) (map (Took s) pieces) (Idle s ∷ []) ∙ ap (λ h. h ++ []) (took_other s pieces);
-}
+giving_idle s pieces = giving_front s pieces (Idle s ∷ []) (record { history = λ earlier. refl; met = refl; told = refl; closes_nothing = λ t. refl; others = refl })
 
 giving_until : (s : Side) (pieces : List (List ℕ)) (rest : List ℕ) (answers : List Entry) →
     ((rest ≡ []) × (answers ≡ map (Took s) pieces)) ⊎ (HasBytes rest × (answers ≡ map (Took s) pieces ++ Idle s ∷ [])) → IsGiving s answers
@@ -276,23 +260,11 @@ other_close : (s : Side) → closes (other s) (Finished s) ≡ false
 other_close side.Client = refl
 other_close side.Controller = refl
 
-or_own : (a b : Bool) → b ≡ true → (a || (b || false)) ≡ true
-or_own true true e = refl
-or_own false true e = refl
-or_own true false e = cc
-or_own false false e = cc
-
-or_none : (a b : Bool) → b ≡ false → (a || (b || false)) ≡ a
-or_none true true e = refl
-or_none false true e = e
-or_none true false e = refl
-or_none false false e = refl
-
 silent_close : (s : Side) (old new : RelayingValue) (log : Option (List (List ℕ))) → ClosesTo s old new → is_closed s new ≡ true → OnlyEndIsLeft (queue_to s old) (is_closed s old) → Silent (Finished s ∷ []) old new log log
 silent_close s old new log to closed last =
     silent_kept (Finished s ∷ []) old new log log (quiet_close s) to.keeps refl to.idle
-    (by_own (λ t. is_closed t new ≡ (is_closed t old || list_any (closes t) (Finished s ∷ []))) s (closed ∙ sym (or_own (is_closed s old) (closes s (Finished s)) (own_close s)))
-    (to.others ∙ sym (or_none (is_closed (other s) old) (closes (other s) (Finished s)) (other_close s))))
+    (by_own (λ t. is_closed t new ≡ (is_closed t old || list_any (closes t) (Finished s ∷ []))) s (closed ∙ sym (rw (own_close s, or-true) refl))
+    (to.others ∙ sym (rw (other_close s, or-false) refl)))
     (by_own (λ t. is_closed t new ≡ true → (is_closed t old ≡ true) ⊎ (((queue_to t new).kept ≡ []) × ((queue_to t new).ended ≡ true))) s
     (λ is. inr (ap (λ (k : Queue). k.kept) (to.keeps.queues s) ∙ last.0, ap (λ (k : Queue). k.ended) (to.keeps.queues s) ∙ last.1)) (λ is. inl (sym to.others ∙ is)))
 

@@ -1,7 +1,6 @@
 -- What the answers of a relay mean, by what was done and by the last line.
-use Rattle.std.proofs.Common.{Err, List, Ok, Option, Result, [], ap, arith, subst, sym, ℕ, ◌∙◌, ◌∷◌, ◌≡◌, ◌≤◌}
+use Rattle.std.proofs.Common.{Err, List, Ok, Option, Result, ap, arith, subst, sym, ℕ, ◌∙◌, ◌≡◌, ◌≤◌}
 use Rattle.cf_audit.specs.Line.{Close}
-use Rattle.cf_lane.specs.Handled.{HasAdded, MayHaveAdded}
 use Rattle.cf_lane.specs.Log.{line_about}
 use Rattle.cf_outside.specs.Desk.{DeskValue}
 use Rattle.cf_outside.specs.Pair.{Entry, FaultsBy}
@@ -56,13 +55,9 @@ module _ (asset : Asset) (listen most : ℕ) (client : Endpoint) (m : ℕ) (base
 
 -- ---- the lines, and the answers Idle
 
-pub close_added : (asset : Asset) (client : Endpoint) (m a a' b b' : ℕ) (old new : DeskValue) → a ≡ a' → b ≡ b' → HasAdded (line_about asset client m (Close a b) ∷ []) old new → HasAdded (line_about asset client m (Close a' b') ∷ []) old new
-close_added asset client m a a' b b' old new p q h =
-    subst (λ (x : ℕ). HasAdded (line_about asset client m (Close a' x) ∷ []) old new) q (subst (λ (x : ℕ). HasAdded (line_about asset client m (Close x b) ∷ []) old new) p h)
-
-pub close_may : (asset : Asset) (client : Endpoint) (m a a' b b' : ℕ) (old new : DeskValue) → a ≡ a' → b ≡ b' → MayHaveAdded (line_about asset client m (Close a b) ∷ []) old new → MayHaveAdded (line_about asset client m (Close a' b') ∷ []) old new
-close_may asset client m a a' b b' old new p q h =
-    subst (λ (x : ℕ). MayHaveAdded (line_about asset client m (Close a' x) ∷ []) old new) q (subst (λ (x : ℕ). MayHaveAdded (line_about asset client m (Close x b) ∷ []) old new) p h)
+pub close_as : (P : List ℕ → Type 0) (asset : Asset) (client : Endpoint) (m : ℕ) {a a' b b' : ℕ} → a ≡ a' → b ≡ b' →
+    P (line_about asset client m (Close a b)) → P (line_about asset client m (Close a' b'))
+close_as P asset client m p q h = rw (← p, ← q) h
 
 pub close_idles : (asset : Asset) (client : Endpoint) (now : RelayingValue) (d1 d2 : DeskValue) (most start idles : ℕ) (r : Result RelayDone RelayFault) → ClosesWith asset client now d1 d2 r → IdlesRose most start idles r
 close_idles asset client now d1 d2 most start idles (Ok d) (is, added, whole) = subst (λ (x : RelayDone). IdlesRoseAt most start idles x.end) (sym is) tt

@@ -1,7 +1,9 @@
 -- What a desk over a log tells, as what stands in the file.
-use Rattle.std.proofs.Common.{Bool, Err, List, None, Ok, Result, Some, [], ap, arith, drop, false, inl, inr, length, refl, subst, suc, sym, take, true, zero, ℕ, ◌&&◌, ◌++◌, ◌+◌, ◌<◌, ◌∙◌, ◌∷◌, ◌≡◌, ◌⊎◌, not}
+use Rattle.std.proofs.Common.{Bool, Err, List, None, Ok, Result, Some, ap, drop, false, inl, inr, length, refl, subst, sym, take, true, ℕ, ◌&&◌, ◌++◌, ◌+◌, ◌<◌, ◌∙◌, ◌∷◌, ◌≡◌, ◌⊎◌, not, []}
 use Rattle.std.specs.List.{concat}
-use Rattle.std.proofs.lemmas.List.{append_assoc}
+use Rattle.std.proofs.Math.Seq.{take-append-add}
+use Rattle.std.proofs.lemmas.List.{take-append-drop}
+use Rattle.std.proofs.lemmas.List.Folds.{concat-append}
 use Rattle.std.proofs.lemmas.Option.{same_Some}
 use Rattle.cf_lane.specs.Log.{with_lines}
 use Rattle.cf_outside.proofs.Lines.{file_lines-whole, lines_from-rest}
@@ -22,26 +24,9 @@ use Rattle.cf_relay.specs.declared.done.RelayFault.TheVariants as fault
 
 module _ (asset : Asset) (listen most : ℕ) (P Q : LogContents) (es : List Entry) (all : (ls : List (List ℕ)) → P.Holds ls → Q.Holds ls) (some : (ls : List (List ℕ)) → P.Begins ls → Q.Begins ls) where
   end_over : (done : RelayDone) (end : RelayEnd) → EndsAs asset listen most P es done end → EndsAs asset listen most Q es done end
-  end_over done ends.Done h = record { turns = h.turns; does = h.does; goes = h.goes; all = h.all; counts = h.counts; holds_log = all _ h.holds_log }
-  end_over done ends.IdleEnd h = record {
-    judged = h.judged;
-    relayed = h.relayed;
-    are_items = h.are_items;
-    uncut = h.uncut;
-    idle = h.idle;
-    prefixes = h.prefixes;
-    counts = h.counts;
-    holds_log = all _ h.holds_log;
-  }
-  end_over done (ends.Cut reason) h = record {
-    judged = h.judged;
-    relayed = h.relayed;
-    are_items = h.are_items;
-    is_cut = h.is_cut;
-    prefixes = h.prefixes;
-    counts = h.counts;
-    holds_log = all _ h.holds_log;
-  }
+  end_over done ends.Done h = search all
+  end_over done ends.IdleEnd h = search all
+  end_over done (ends.Cut reason) h = search all
 
   memory_over : (same : Type 0) → IsMemoryEnd asset listen (P.Holds []) ⊥ es → IsMemoryEnd asset listen (Q.Holds []) same es
   memory_over same (inl none) = absurd none.1
@@ -49,18 +34,8 @@ module _ (asset : Asset) (listen most : ℕ) (P Q : LogContents) (es : List Entr
 
   pub ends_over : (same : Type 0) (r : Result RelayDone RelayFault) → RelayEnds asset listen most P ⊥ es r → RelayEnds asset listen most Q same es r
   ends_over same (Ok done) h = end_over done done.end h
-  ends_over same (Err fault.Link) h = record { relayed = h.relayed; goes = h.goes; prefixes = h.prefixes; holds_log = all _ h.holds_log }
-  ends_over same (Err fault.Write) h = record {
-    relayed = h.relayed;
-    history = h.history;
-    is_short = h.is_short;
-    judged = h.judged;
-    are_judged = h.are_judged;
-    prefixes = h.prefixes;
-    last = h.last;
-    is_last = h.is_last;
-    begins = some _ h.begins;
-  }
+  ends_over same (Err fault.Link) h = search all
+  ends_over same (Err fault.Write) h = search some
   ends_over same (Err fault.NoMemory) h = memory_over same h
 
 -- ---- the file
@@ -91,13 +66,7 @@ pub holds_file : (first old new : Content) (ls : List (List ℕ)) → old ≡ co
 holds_file first old new ls created e whole told = file_lines-whole new ls (lines_now first old new ls created e told) whole ∙ sym (created_write first (concat ls) told)
 
 concat_split : (n : ℕ) (ls : List (List ℕ)) → concat ls ≡ concat (take n ls) ++ concat (drop n ls)
-concat_split zero ls = refl
-concat_split (suc n) [] = refl
-concat_split (suc n) (x ∷ ls) = ap (λ xs. x ++ xs) (concat_split n ls) ∙ sym (append_assoc x (concat (take n ls)) (concat (drop n ls)))
-
-take_prefix : (xs ys : List ℕ) (k : ℕ) → take (length xs + k) (xs ++ ys) ≡ xs ++ take k ys
-take_prefix [] ys k = let e : 0 + k ≡ k = omega arith in ap (λ n. take n ys) e
-take_prefix (x ∷ xs) ys k = let e : length (x ∷ xs) + k ≡ suc (length xs + k) = omega arith in ap (λ n. take n (x ∷ (xs ++ ys))) e ∙ ap (λ zs. x ∷ zs) (take_prefix xs ys k)
+concat_split n ls = ap concat (sym (take-append-drop n ls)) ∙ concat-append (take n ls) (drop n ls)
 
 pub begins_file : (first old new : Content) (ls : List (List ℕ)) → old ≡ content_after_create first → BeginsLines (file_lines old) (file_lines new) (file_part new) ls → IsFileTold first → IsPartly (concat ls) first new
 begins_file first old new ls created (count, some, e, d) told =
@@ -106,7 +75,7 @@ begins_file first old new ls created (count, some, e, d) told =
     let whole : f.0 ≡ concat (take count ls) ++ take some (concat (drop count ls)) =
     sym (lines_from-rest [] f.0) ∙ ap (λ zs. concat zs ++ rest_from [] f.0) f.2 ∙ ap (λ xs. concat (take count ls) ++ xs) rest in
     let part : f.0 ≡ take (length (concat (take count ls)) + some) (concat ls) =
-    whole ∙ sym (take_prefix (concat (take count ls)) (concat (drop count ls)) some) ∙ ap (take (length (concat (take count ls)) + some)) (sym (concat_split count ls)) in
+    whole ∙ sym (take-append-add (concat (take count ls)) (concat (drop count ls)) some) ∙ ap (take (length (concat (take count ls)) + some)) (sym (concat_split count ls)) in
     inr (length (concat (take count ls)) + some, f.1 ∙ ap holds part ∙ sym (created_write first (take (length (concat (take count ls)) + some) (concat ls)) told))
 
 pub both_true : (a b : Bool) → (not a && b) ≡ true → b ≡ true

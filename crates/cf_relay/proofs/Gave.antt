@@ -1,5 +1,5 @@
 -- What was given, as one list of answers.
-use Rattle.std.proofs.Common.{◌≡◌, ◌<◌, ◌+◌, ℕ, suc, List, [], ◌∷◌, ◌++◌, length, map, refl, sym, ap, ◌∙◌, subst, arith, inl, inr, Result, Ok, Err}
+use Rattle.std.proofs.Common.{◌≡◌, ◌<◌, ◌+◌, ℕ, suc, List, ◌∷◌, ◌++◌, length, map, refl, sym, ap, ◌∙◌, subst, arith, inl, inr, Result, Ok, Err, []}
 use Rattle.std.specs.Prelude.{OnOk, OnErr}
 use Rattle.std.specs.List.{concat}
 use Rattle.std.proofs.lemmas.List.{append-nil}
@@ -12,7 +12,7 @@ use Rattle.cf_relay.specs.Gave.{Gave, GaveBy}
 use Rattle.cf_relay.specs.Turn.{TookPieces, HasBytes, GivesQueued, BeginsToGive}
 use Rattle.cf_relay.specs.declared.stop.Stop.{Stop}
 use Rattle.cf_relay.specs.declared.stop.Stop.TheVariants as stop
-use Rattle.cf_relay.proofs.Giving.{given_pieces, given_more, idles_more, with_one}
+use Rattle.cf_relay.proofs.Giving.{given_pieces, given_more, idles_more, with_more}
 
 module _ (s : Side) (old new : Queue) (told told' : SessionTold) (idle idle' : ℕ) (pieces : List (List ℕ))
     (took : TookPieces s old.kept pieces new.kept) (tells : told' ≡ with_answers told (map (Took s) pieces)) (counts : idle' ≡ idles_after idle (map (Took s) pieces))
@@ -32,7 +32,7 @@ module _ (s : Side) (old new : Queue) (told told' : SessionTold) (idle idle' : �
 
   pub gave_idle : (told'' : SessionTold) (idle'' : ℕ) → told'' ≡ with_entry told' (Idle s) → idle'' ≡ idle' + 1 → Gave s old new told told'' idle idle'' (map (Took s) pieces ++ Idle s ∷ [])
   gave_idle told'' idle'' e i = record {
-    tells = e ∙ ap (λ t. with_entry t (Idle s)) tells ∙ with_one told (map (Took s) pieces) (Idle s);
+    tells = e ∙ ap (λ t. with_entry t (Idle s)) tells ∙ with_more told (map (Took s) pieces) (Idle s ∷ []);
     counts = i ∙ omega arith ∙ ap suc counts ∙ sym (idles_more idle (map (Took s) pieces) (Idle s ∷ []));
     kept = gave_pieces.kept ∙ ap (λ xs. xs ++ new.kept) (sym same_given);
     acked = gave_pieces.acked ∙ ap (λ xs. old.acked + length xs) (sym same_given);

@@ -17,4 +17,3 @@ mod Standing
 pub mod Starting
 mod Taking
 pub mod Turned
-mod Turning

@@ -1,7 +1,8 @@
 -- What a list of answers says of two lists one after the other.
-use Rattle.std.proofs.Common.{List, [], ap, arith, false, length, refl, sym, ℕ, ◌++◌, ◌∙◌, ◌∷◌, ◌≡◌, ◌||◌}
+use Rattle.std.proofs.Common.{List, ap, arith, false, length, refl, subst, sym, ℕ, ◌++◌, ◌≤◌, ◌∙◌, ◌∷◌, ◌≡◌, ◌||◌, []}
 use Rattle.std.specs.List.{flat_map, list_any}
 use Rattle.std.proofs.lemmas.List.{append-nil, append_assoc}
+use Rattle.std.proofs.lemmas.Grind.{flat_map-append}
 use Rattle.std.proofs.lemmas.List.Folds.{list_any-append}
 use Rattle.cf_lane.specs.History.{bytes_at, bytes_of, end_at, ended_of, taken}
 use Rattle.cf_lane.specs.Output.{other}
@@ -19,53 +20,38 @@ history_more a (x ∷ xs) ys =
     ∙ sym (append_assoc (element_of (moment_of a) x) (history_after (a ++ x ∷ []) xs) (history_after (a ++ x ∷ xs) ys))
 
 pub met_more : (xs ys : List Entry) → flat_map met_in (xs ++ ys) ≡ flat_map met_in xs ++ flat_map met_in ys
-met_more [] ys = refl
-met_more (x ∷ xs) ys = ap (λ zs. met_in x ++ zs) (met_more xs ys) ∙ sym (append_assoc (met_in x) (flat_map met_in xs) (flat_map met_in ys))
+met_more = flat_map-append met_in
 
 pub told_more : (xs ys : List Entry) → moments (xs ++ ys) ≡ moments xs ++ moments ys
-told_more [] ys = refl
-told_more (x ∷ xs) ys = ap (λ zs. told_in x ++ zs) (told_more xs ys) ∙ sym (append_assoc (told_in x) (moments xs) (moments ys))
+told_more = flat_map-append told_in
 
 pub closes_more : (t : Side) (xs ys : List Entry) → list_any (closes t) (xs ++ ys) ≡ (list_any (closes t) xs || list_any (closes t) ys)
 closes_more t xs ys = list_any-append (closes t) xs ys
 
 -- ---- what an answer to a side that was asked says
 
+-- it is one of three
+pub by_answer : (s : Side) (P : Entry → Type 0) → ((bytes : List ℕ) → 1 ≤ length bytes → P (Got s bytes)) → P (Ended s) → P (Idle s) →
+    (e : Entry) → IsTakeAnswer s e → P e
+by_answer s P got ended idle (Met c) is = absurd is
+by_answer s P got ended idle (Moment m) is = absurd is
+by_answer s P got ended idle (Got of bytes) is = subst (λ o. P (Got o bytes)) (sym is.0) (got bytes is.1)
+by_answer s P got ended idle (Took of bytes) is = absurd is
+by_answer s P got ended idle (Ended of) is = subst (λ o. P (Ended o)) (sym is) ended
+by_answer s P got ended idle (Idle of) is = subst (λ o. P (Idle o)) (sym is) idle
+by_answer s P got ended idle (Finished of) is = absurd is
+
 pub gives_none : (s t : Side) (e : Entry) → IsTakeAnswer s e → given_in t e ≡ []
-gives_none s t (Met c) is = absurd is
-gives_none s t (Moment m) is = absurd is
-gives_none s t (Got of bytes) is = refl
-gives_none s t (Took of bytes) is = absurd is
-gives_none s t (Ended of) is = refl
-gives_none s t (Idle of) is = refl
-gives_none s t (Finished of) is = absurd is
+gives_none s t = by_answer s (λ e. given_in t e ≡ []) (λ bytes some. refl) refl refl
 
 pub meets_none : (s : Side) (e : Entry) → IsTakeAnswer s e → met_in e ≡ []
-meets_none s (Met c) is = absurd is
-meets_none s (Moment m) is = refl
-meets_none s (Got of bytes) is = refl
-meets_none s (Took of bytes) is = refl
-meets_none s (Ended of) is = refl
-meets_none s (Idle of) is = refl
-meets_none s (Finished of) is = refl
+meets_none s = by_answer s (λ e. met_in e ≡ []) (λ bytes some. refl) refl refl
 
 pub tells_none : (s : Side) (e : Entry) → IsTakeAnswer s e → told_in e ≡ []
-tells_none s (Met c) is = refl
-tells_none s (Moment m) is = absurd is
-tells_none s (Got of bytes) is = refl
-tells_none s (Took of bytes) is = refl
-tells_none s (Ended of) is = refl
-tells_none s (Idle of) is = refl
-tells_none s (Finished of) is = refl
+tells_none s = by_answer s (λ e. told_in e ≡ []) (λ bytes some. refl) refl refl
 
 pub closes_none : (s t : Side) (e : Entry) → IsTakeAnswer s e → closes t e ≡ false
-closes_none s t (Met c) is = refl
-closes_none s t (Moment m) is = refl
-closes_none s t (Got of bytes) is = refl
-closes_none s t (Took of bytes) is = refl
-closes_none s t (Ended of) is = refl
-closes_none s t (Idle of) is = refl
-closes_none s t (Finished of) is = absurd is
+closes_none s t = by_answer s (λ e. closes t e ≡ false) (λ bytes some. refl) refl refl
 
 -- ---- the letters that it brings
 
@@ -80,23 +66,9 @@ own_end m side.Controller = refl
 
 -- none of the other side
 pub other_bytes : (m : ℕ) (s : Side) (e : Entry) → IsTakeAnswer s e → bytes_of (other s) (element_of m e) ≡ []
-other_bytes m s (Met c) is = absurd is
-other_bytes m s (Moment m') is = absurd is
-other_bytes m side.Client (Got of bytes) is = ap (λ o. bytes_of side.Controller (element_of m (Got o bytes))) is.0
-other_bytes m side.Controller (Got of bytes) is = ap (λ o. bytes_of side.Client (element_of m (Got o bytes))) is.0
-other_bytes m s (Took of bytes) is = absurd is
-other_bytes m side.Client (Ended of) is = ap (λ o. bytes_of side.Controller (element_of m (Ended o))) is
-other_bytes m side.Controller (Ended of) is = ap (λ o. bytes_of side.Client (element_of m (Ended o))) is
-other_bytes m s (Idle of) is = refl
-other_bytes m s (Finished of) is = absurd is
+other_bytes m side.Client = by_answer side.Client (λ e. bytes_of side.Controller (element_of m e) ≡ []) (λ bytes some. refl) refl refl
+other_bytes m side.Controller = by_answer side.Controller (λ e. bytes_of side.Client (element_of m e) ≡ []) (λ bytes some. refl) refl refl
 
 pub other_end : (m : ℕ) (s : Side) (e : Entry) → IsTakeAnswer s e → ended_of (other s) (element_of m e) ≡ false
-other_end m s (Met c) is = refl
-other_end m s (Moment m') is = refl
-other_end m side.Client (Got of bytes) is = ap (λ o. ended_of side.Controller (element_of m (Got o bytes))) is.0
-other_end m side.Controller (Got of bytes) is = ap (λ o. ended_of side.Client (element_of m (Got o bytes))) is.0
-other_end m s (Took of bytes) is = refl
-other_end m side.Client (Ended of) is = ap (λ o. ended_of side.Controller (element_of m (Ended o))) is
-other_end m side.Controller (Ended of) is = ap (λ o. ended_of side.Client (element_of m (Ended o))) is
-other_end m s (Idle of) is = refl
-other_end m s (Finished of) is = refl
+other_end m side.Client = by_answer side.Client (λ e. ended_of side.Controller (element_of m e) ≡ false) (λ bytes some. refl) refl refl
+other_end m side.Controller = by_answer side.Controller (λ e. ended_of side.Client (element_of m e) ≡ false) (λ bytes some. refl) refl refl

@@ -1,5 +1,5 @@
 -- Each answer of a turn raises the progress of a relay, and stages without one leave it as it was.
-use Rattle.std.proofs.Common.{Bool, List, Ok, Option, [], ap, arith, cond, false, inl, inr, length, map, refl, sym, true, ℕ, ◌++◌, ◌*◌, ◌+◌, ◌-◌, ◌<◌, ◌^◌, ◌∙◌, ◌∷◌, ◌≡◌, ◌≤◌, ◌⊎◌}
+use Rattle.std.proofs.Common.{Bool, List, Ok, Option, ap, arith, cond, false, inl, inr, length, map, refl, sym, true, ℕ, ◌++◌, ◌*◌, ◌+◌, ◌-◌, ◌<◌, ◌^◌, ◌∙◌, ◌∷◌, ◌≡◌, ◌≤◌, ◌⊎◌, []}
 use Rattle.std.specs.List.{concat}
 use Rattle.std.proofs.Math.Nat.{mul-le-mul_left}
 use Rattle.std.proofs.lemmas.List.{length-append}
@@ -9,14 +9,14 @@ use Rattle.cf_lane.specs.Output.{other}
 use Rattle.cf_links.specs.Links.{SessionTold}
 use Rattle.cf_outq.specs.SendQueue.{Queue}
 use Rattle.cf_outside.specs.Desk.{DeskValue}
-use Rattle.cf_outside.specs.Pair.{Ended, Entry, Finished, Got, Idle, Met, Moment, Took}
+use Rattle.cf_outside.specs.Pair.{Entry, Idle, Took}
 use Rattle.cf_policy.specs.declared.Asset.{Asset}
 use Rattle.cf_view.specs.declared.Side.{Side}
 use Rattle.cf_view.specs.declared.Side.TheVariants as side
 use Rattle.cf_relay.proofs.Asking.{take_state_of}
 use Rattle.cf_relay.proofs.Doing.{ClosesTo, GivesTo, by_own, by_side}
 use Rattle.cf_relay.proofs.Giving.{given_more, given_pieces}
-use Rattle.cf_relay.proofs.Lists.{own_bytes, own_end}
+use Rattle.cf_relay.proofs.Lists.{by_answer, own_bytes, own_end}
 use Rattle.cf_relay.proofs.Standing.{TakesTo}
 use Rattle.cf_relay.specs.Answers.{given, idles_after}
 use Rattle.cf_relay.specs.Gave.{FinishesBy, Gave, GaveBy}
@@ -126,13 +126,10 @@ module _ (most : ℕ) (s : Side) (old mid new : RelayingValue) (few : old.idle <
 
 answer_moves : (m : ℕ) (s : Side) (e : Entry) (letters letters' idle idle' : ℕ) → IsTakeAnswer s e → letters' ≡ letters + letters_brought m s e → idle' ≡ idles_after idle (e ∷ []) →
     (letters < letters') ⊎ ((letters' ≡ letters) × (idle' ≡ idle + 1))
-answer_moves m s (Met c) letters letters' idle idle' is e d = absurd is
-answer_moves m s (Moment m') letters letters' idle idle' is e d = absurd is
-answer_moves m s (Got of bytes) letters letters' idle idle' is e d = inl (omega (arith, is.1, e, ap (λ o. letters_brought m s (Got o bytes)) is.0, own_bytes m s bytes))
-answer_moves m s (Took of bytes) letters letters' idle idle' is e d = absurd is
-answer_moves m s (Ended of) letters letters' idle idle' is e d = inl (omega (arith, e, ap (λ o. letters_brought m s (Ended o)) is, own_end m s))
-answer_moves m s (Idle of) letters letters' idle idle' is e d = inr (omega (arith, e), omega (arith, d))
-answer_moves m s (Finished of) letters letters' idle idle' is e d = absurd is
+answer_moves m s e letters letters' idle idle' is more i =
+    by_answer s (λ x. letters' ≡ letters + letters_brought m s x → idle' ≡ idles_after idle (x ∷ []) → (letters < letters') ⊎ ((letters' ≡ letters) × (idle' ≡ idle + 1)))
+    (λ bytes some n j. inl (omega (arith, some, n, own_bytes m s bytes))) (λ n j. inl (omega (arith, n, own_end m s)))
+    (λ n j. inr (omega (arith, n), omega (arith, j))) e is more i
 
 letters_sum : (s : Side) (old new : RelayingValue) → letters_from s old < letters_from s new → letters_from (other s) new ≡ letters_from (other s) old →
     old.client_letters + old.controller_letters < new.client_letters + new.controller_letters

@@ -1,19 +1,19 @@
 -- One pair, as the links of the session 0.
-use Rattle.std.proofs.Common.{List, None, Option, Some, [], ap, map, refl, subst, sym, true, ℕ, ◌++◌, ◌∙◌, ◌∷◌, ◌≡◌}
+use Rattle.std.proofs.Common.{List, None, Option, Some, ap, map, refl, subst, sym, true, ℕ, ◌++◌, ◌∙◌, ◌∷◌, ◌≡◌, []}
 use Rattle.std.specs.Prelude.{option_map, ◌==◌}
 use Rattle.std.proofs.lemmas.Bool.{eqb-true}
-use Rattle.std.proofs.lemmas.List.{append-nil, append_assoc}
+use Rattle.std.proofs.lemmas.List.{map-append}
 use Rattle.std.proofs.lemmas.Option.{same_Some}
 use Rattle.cf_links.specs.Links.{LinksEntry, Of, SessionTold, with_answers, with_entry}
 use Rattle.cf_outside.specs.Pair.{Entry, with_entry as with_pair}
-use Rattle.cf_relay.proofs.Giving.{mapped_more}
+use Rattle.cf_relay.proofs.Lined.{more_both, more_none}
 use Rattle.cf_relay.specs.Answers.{with_answers as with_all}
 use Rattle.cf_relay.specs.Only.{only_told}
 
 only_list : (list list' : Option (List Entry)) (e : Entry) → list' ≡ with_pair list e →
     only_told list' ≡ option_map (λ es. es ++ Of 0 e ∷ []) (only_told list)
 only_list None list' e is = ap only_told is
-only_list (Some es) list' e is = ap only_told is ∙ ap Some (mapped_more 0 es (e ∷ []))
+only_list (Some es) list' e is = ap only_told is ∙ ap Some (map-append (Of 0) es (e ∷ []))
 
 abbrev shown : ℕ → Option (List LinksEntry) → SessionTold
 shown k list = record { session = k; list = list }
@@ -30,29 +30,18 @@ only_same session list list' is = ap (λ l. shown session (only_told l)) is
 
 -- ---- and back: the entries of the one session are the answers
 
-same_entry : (x y : Entry) → Of 0 x ≡ Of 0 y → x ≡ y
-same_entry x y e = cc
-
-same_head : (x y : LinksEntry) (a b : List LinksEntry) → x ∷ a ≡ y ∷ b → x ≡ y
-same_head x y a b e = cc
-
-same_tail : (x y : LinksEntry) (a b : List LinksEntry) → x ∷ a ≡ y ∷ b → a ≡ b
-same_tail x y a b e = cc
-
 same_answers : (a b : List Entry) → map (Of 0) a ≡ map (Of 0) b → a ≡ b
 same_answers [] [] e = refl
 same_answers [] (y ∷ b) e = cc
 same_answers (x ∷ a) [] e = cc
-same_answers (x ∷ a) (y ∷ b) e =
-    ap (λ z. z ∷ a) (same_entry x y (same_head (Of 0 x) (Of 0 y) (map (Of 0) a) (map (Of 0) b) e))
-    ∙ ap (λ zs. y ∷ zs) (same_answers a b (same_tail (Of 0 x) (Of 0 y) (map (Of 0) a) (map (Of 0) b) e))
+same_answers (x ∷ a) (y ∷ b) e = let tail : map (Of 0) a ≡ map (Of 0) b = cc in let rest = same_answers a b tail in cc
 
 back_list : (told told' : Option (List Entry)) (answers : List Entry) → only_told told' ≡ option_map (λ es. es ++ map (Of 0) answers) (only_told told) →
     told' ≡ with_all told answers
 back_list None None answers e = refl
 back_list None (Some es') answers e = cc
 back_list (Some es) None answers e = cc
-back_list (Some es) (Some es') answers e = ap Some (same_answers es' (es ++ answers) (same_Some _ _ e ∙ sym (mapped_more 0 es answers)))
+back_list (Some es) (Some es') answers e = ap Some (same_answers es' (es ++ answers) (same_Some _ _ e ∙ sym (map-append (Of 0) es answers)))
 
 pub told_back : (told told' : Option (List Entry)) (answers : List Entry) → shown 0 (only_told told') ≡ with_answers (shown 0 (only_told told)) answers →
     told' ≡ with_all told answers
@@ -61,19 +50,10 @@ told_back told told' answers e = back_list told told' answers (ap (λ (t : Sessi
 -- ---- answers of a pair that are added
 
 pub all_none : (told : Option (List Entry)) → told ≡ with_all told []
-all_none None = refl
-all_none (Some es) = ap Some (sym (append-nil es))
-
-all_more : (told : Option (List Entry)) (xs ys : List Entry) → with_all (with_all told xs) ys ≡ with_all told (xs ++ ys)
-all_more None xs ys = refl
-all_more (Some es) xs ys = ap Some (append_assoc es xs ys)
-
-all_one : (told : Option (List Entry)) (xs : List Entry) (e : Entry) → with_pair (with_all told xs) e ≡ with_all told (xs ++ e ∷ [])
-all_one None xs e = refl
-all_one (Some es) xs e = ap Some (append_assoc es xs (e ∷ []))
+all_none = more_none
 
 pub told_two : (told a b c : Option (List Entry)) (e f : Entry) (xs : List Entry) → a ≡ with_pair told e → b ≡ with_pair a f → c ≡ with_all b xs → c ≡ with_all told (e ∷ f ∷ xs)
-told_two told a b c e f xs p q r = r ∙ ap (λ t. with_all t xs) (q ∙ ap (λ t. with_pair t f) p ∙ all_one told (e ∷ []) f) ∙ all_more told (e ∷ f ∷ []) xs
+told_two told a b c e f xs p q r = simp (r, q, p, more_both)
 
 -- what holds of the pair that was lent last holds of the pair once the loan ends
 pub at_pair : {P : Type 0} (x now : P) (A : P → Type 0) → x ≡ now → A now → A x

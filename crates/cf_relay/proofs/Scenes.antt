@@ -1,5 +1,5 @@
 -- Stages that are done one after the other, and those that break off.
-use Rattle.std.proofs.Common.{Err, List, Ok, Option, Result, [], ap, append_assoc, arith, refl, subst, sym, ℕ, ◌++◌, ◌∙◌, ◌≡◌}
+use Rattle.std.proofs.Common.{Err, List, Ok, Result, ap, append_assoc, arith, refl, subst, sym, ℕ, ◌++◌, ◌∙◌, ◌≡◌, []}
 use Rattle.std.specs.Prelude.{IfErr, OnOk}
 use Rattle.std.proofs.lemmas.List.{append-nil}
 use Rattle.cf_lane.specs.Handled.{WritesLog}
@@ -11,10 +11,10 @@ use Rattle.cf_outside.specs.Faults.{Rose}
 use Rattle.cf_outside.specs.Pair.{Entry, FaultsBy}
 use Rattle.cf_policy.specs.declared.Asset.{Asset}
 use Rattle.cf_relay.proofs.Giving.{with_more, with_none}
-use Rattle.cf_relay.proofs.Lined.{apart_as, apart_more, apart_none}
+use Rattle.cf_relay.proofs.Lined.{apart_more, apart_none}
 use Rattle.cf_relay.proofs.Stages.{breaks_more, does_broken, does_then}
 use Rattle.cf_relay.specs.Scene.{AddsAnswers, DoesBetween, Scene, StopsBetween, StopsBy}
-use Rattle.cf_relay.specs.Stands.{StandsFor, StandsStopped}
+use Rattle.cf_relay.specs.Stands.{StandsFor}
 use Rattle.cf_relay.specs.Turn.{Stage}
 use Rattle.cf_relay.specs.declared.stop.Stop.{Stop}
 use Rattle.cf_relay.specs.declared.stop.Stop.TheVariants as stop
@@ -47,49 +47,42 @@ goes_none asset most now = record {
   does = λ first own es st. (refl, apart_none own now.desk.lines now.desk.lines (λ log. StandsFor asset first (es ++ []) now.relaying log) refl (subst (λ (x : List Entry). StandsFor asset first x now.relaying own) (sym (append-nil es)) st));
 }
 
-pub goes_then : (asset : Asset) (most : ℕ) (ps qs : List Stage) (old mid new : Scene) → DoesBetween asset most ps old mid → DoesBetween asset most qs mid new → DoesBetween asset most (ps ++ qs) old new
-goes_then asset most ps qs old mid new h g = record {
-  answers = h.answers ++ g.answers;
-  adds = adds_both old mid new h.answers g.answers h.adds g.adds;
-  still = g.still ∙ h.still;
-  does = λ first own es st.
-      let a = h.does first own es st in
-      let b = g.does first (with_lines own a.1.more) (es ++ h.answers) a.1.stands in (
-        does_then asset most ps qs es h.answers g.answers a.0 b.0,
-        apart_more own old.desk.lines mid.desk.lines new.desk.lines (λ log. StandsFor asset first (es ++ (h.answers ++ g.answers)) new.relaying log) a.1.more a.1.added
-            (apart_as (with_lines own a.1.more) mid.desk.lines new.desk.lines (λ log. StandsFor asset first ((es ++ h.answers) ++ g.answers) new.relaying log) (λ log. StandsFor asset first (es ++ (h.answers ++ g.answers)) new.relaying log)
-            (λ log s. subst (λ (x : List Entry). StandsFor asset first x new.relaying log) (append_assoc es h.answers g.answers) s) b.1),
-      );
-}
-
-stopped_at : (asset : Asset) (most : ℕ) (first : Option (List (List ℕ))) (es fs : List Entry) (why : Stop) (now : Scene) → es ≡ fs → (log : Option (List (List ℕ))) →
-    StandsStopped asset most first es why now.relaying log now.desk.line_part → StandsStopped asset most first fs why now.relaying log now.desk.line_part
-stopped_at asset most first es fs why now e log st = subst (λ (x : List Entry). StandsStopped asset most first x why now.relaying log now.desk.line_part) e st
-
 cause_later : (why : Stop) (old mid new : Scene) (xs : List Entry) → AddsAnswers old mid xs → mid.links.faults ≡ old.links.faults → StopsBy why mid new → StopsBy why old new
 cause_later stop.Idle old mid new xs h still c = c ∙ still
 cause_later (stop.Cut reason) old mid new xs h still c = c ∙ still
 cause_later stop.Link old mid new xs h still c = omega (arith, h.link, c)
 cause_later stop.Write old mid new xs h still c = (c.0 ∙ still, omega (arith, h.log.keeps.later, c.1))
 
-pub goes_stops : (asset : Asset) (most : ℕ) (ps qs : List Stage) (why : Stop) (old mid new : Scene) → DoesBetween asset most ps old mid → StopsBetween asset most qs why mid new → StopsBetween asset most (ps ++ qs) why old new
-goes_stops asset most ps qs why old mid new h g = record {
-  answers = h.answers ++ g.answers;
-  adds = adds_both old mid new h.answers g.answers h.adds g.adds;
-  cause = cause_later why old mid new h.answers h.adds h.still g.cause;
-  does = λ first own es st.
-      let a = h.does first own es st in
-      let b = g.does first (with_lines own a.1.more) (es ++ h.answers) a.1.stands in (
-        does_broken asset most ps qs es h.answers g.answers a.0 b.0,
-        apart_more own old.desk.lines mid.desk.lines new.desk.lines (λ log. StandsStopped asset most first (es ++ (h.answers ++ g.answers)) why new.relaying log new.desk.line_part) a.1.more a.1.added
-            (apart_as (with_lines own a.1.more) mid.desk.lines new.desk.lines (λ log. StandsStopped asset most first ((es ++ h.answers) ++ g.answers) why new.relaying log new.desk.line_part)
-            (λ log. StandsStopped asset most first (es ++ (h.answers ++ g.answers)) why new.relaying log new.desk.line_part)
-            (stopped_at asset most first ((es ++ h.answers) ++ g.answers) (es ++ (h.answers ++ g.answers)) why new (append_assoc es h.answers g.answers)) b.1),
-      );
-}
+module _ {asset : Asset} {most : ℕ} {ps qs : List Stage} {old mid new : Scene} (h : DoesBetween asset most ps old mid) where
+  pub goes_then : DoesBetween asset most qs mid new → DoesBetween asset most (ps ++ qs) old new
+  goes_then g = record {
+    answers = h.answers ++ g.answers;
+    adds = adds_both old mid new h.answers g.answers h.adds g.adds;
+    still = g.still ∙ h.still;
+    does = λ first own es st.
+        let a = h.does first own es st in
+        let b = g.does first (with_lines own a.1.more) (es ++ h.answers) a.1.stands in (
+          does_then asset most ps qs es h.answers g.answers a.0 b.0,
+          apart_more own old.desk.lines mid.desk.lines new.desk.lines _ a.1.more a.1.added (rw (append_assoc es h.answers g.answers) at b.1),
+        );
+  }
 
-pub stops_more : (asset : Asset) (most : ℕ) (ps qs : List Stage) (why : Stop) (old new : Scene) → StopsBetween asset most ps why old new → StopsBetween asset most (ps ++ qs) why old new
-stops_more asset most ps qs why old new h = record {
+  pub goes_stops : {why : Stop} → StopsBetween asset most qs why mid new → StopsBetween asset most (ps ++ qs) why old new
+  goes_stops {why = why} g = record {
+    answers = h.answers ++ g.answers;
+    adds = adds_both old mid new h.answers g.answers h.adds g.adds;
+    cause = cause_later why old mid new h.answers h.adds h.still g.cause;
+    does = λ first own es st.
+        let a = h.does first own es st in
+        let b = g.does first (with_lines own a.1.more) (es ++ h.answers) a.1.stands in (
+          does_broken asset most ps qs es h.answers g.answers a.0 b.0,
+          apart_more own old.desk.lines mid.desk.lines new.desk.lines _ a.1.more a.1.added (rw (append_assoc es h.answers g.answers) at b.1),
+        );
+  }
+
+pub stops_more : {asset : Asset} {most : ℕ} {ps : List Stage} (qs : List Stage) {why : Stop} {old new : Scene} →
+    StopsBetween asset most ps why old new → StopsBetween asset most (ps ++ qs) why old new
+stops_more {asset = asset} {most = most} {ps = ps} qs h = record {
   answers = h.answers;
   adds = h.adds;
   cause = h.cause;

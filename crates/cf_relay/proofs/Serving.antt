@@ -1,5 +1,5 @@
 -- A side that is given what is queued for it, and closed where that is all.
-use Rattle.std.proofs.Common.{Bool, Err, List, Ok, Result, [], ap, arith, cond, length, refl, subst, sym, ℕ, ◌+◌, ◌<◌, ◌∙◌, ◌∷◌, ◌≡◌, ◌≤◌}
+use Rattle.std.proofs.Common.{Bool, Err, List, Ok, Result, ap, arith, cond, length, refl, subst, sym, ℕ, ◌+◌, ◌<◌, ◌∙◌, ◌∷◌, ◌≡◌, ◌≤◌, []}
 use Rattle.std.specs.Prelude.{IfErr, OnOk}
 use Rattle.std.specs.Result.{IsErrAnd}
 use Rattle.std.proofs.lemmas.List.{length-append}
@@ -84,14 +84,14 @@ module _ (most : ℕ) (s : Side) (old mid new : RelayingValue) (links linksm lin
     (gives : (asset : Asset) (desk : DeskValue) → DoesBetween asset most (Giving s ∷ []) (scene old links desk) (scene mid linksm desk)) (same : links'.idles ≡ linksm.idles) where
   serve_goes : (r : Result (Unit {0}) Stop) → FinishesBy s (queue_to s mid) (is_closed s mid) (is_closed s new) linksm.told links'.told r → FaultsBy linksm.faults links'.faults (r ≡ Err stop.Link) →
       OnOk r ((asset : Asset) (desk : DeskValue) → DoesBetween asset most (Giving s ∷ Finishing s ∷ []) (scene old links desk) (scene new links' desk))
-  serve_goes (Ok x) finishes cause = λ asset desk. goes_then asset most (Giving s ∷ []) (Finishing s ∷ []) (scene old links desk) (scene mid linksm desk) (scene new links' desk) (gives asset desk)
+  serve_goes (Ok x) finishes cause = λ asset desk. goes_then (gives asset desk)
       (finish_goes asset most s mid new linksm links' desk few closes cause.later same (cause.still (λ is. cc)) x finishes)
   serve_goes (Err e) finishes cause = tt
 
   serve_stops : (r : Result (Unit {0}) Stop) → FinishesBy s (queue_to s mid) (is_closed s mid) (is_closed s new) linksm.told links'.told r → FaultsBy linksm.faults links'.faults (r ≡ Err stop.Link) →
       IfErr r (λ why. (asset : Asset) (desk : DeskValue) → StopsBetween asset most (Giving s ∷ Finishing s ∷ []) why (scene old links desk) (scene new links' desk))
   serve_stops (Ok x) finishes cause = tt
-  serve_stops (Err e) finishes cause = λ asset desk. goes_stops asset most (Giving s ∷ []) (Finishing s ∷ []) e (scene old links desk) (scene mid linksm desk) (scene new links' desk) (gives asset desk)
+  serve_stops (Err e) finishes cause = λ asset desk. goes_stops (gives asset desk)
       (finish_stops asset most s mid new linksm links' desk few closes cause.later same e finishes
       (finish_cause s (queue_to s mid) (is_closed s mid) (is_closed s new) linksm.told links'.told (scene mid linksm desk) (scene new links' desk) e finishes (faults_of linksm.faults links'.faults (Err e) e refl cause)))
 
@@ -109,8 +109,7 @@ give_breaks : (asset : Asset) (most : ℕ) (s : Side) (old new : RelayingValue) 
     GaveBy s most (queue_to s old) (queue_to s new) links.told links'.told old.idle new.idle (Err why) →
     StopsBetween asset most (Giving s ∷ Finishing s ∷ []) why (scene old links desk) (scene new links' desk)
 give_breaks asset most s old new links links' desk few to stands r why was cause idles gave =
-    stops_more asset most (Giving s ∷ []) (Finishing s ∷ []) why (scene old links desk) (scene new links' desk)
-    (give_stops asset most s old new links links' desk few to stands cause.later idles why gave
+    stops_more (Finishing s ∷ []) (give_stops asset most s old new links links' desk few to stands cause.later idles why gave
     (give_cause s most (queue_to s old) (queue_to s new) links.told links'.told old.idle new.idle (scene old links desk) (scene new links' desk) why gave (faults_of links.faults links'.faults r why was cause)))
 
 -- ---- the calls of a side that is served

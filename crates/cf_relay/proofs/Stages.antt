@@ -1,5 +1,5 @@
 -- What the code does in a stage is that stage of the turn, for the list so far; and stages one after the other.
-use Rattle.std.proofs.Common.{Bool, List, Option, [], ap, cond, drop, false, inl, inr, length, refl, subst, sym, true, ℕ, ◌++◌, ◌+◌, ◌<◌, ◌∙◌, ◌∷◌, ◌≡◌, ◌≤◌, ◌&&◌}
+use Rattle.std.proofs.Common.{Bool, List, Option, ap, cond, drop, false, inl, inr, length, refl, subst, sym, true, ℕ, ◌++◌, ◌+◌, ◌<◌, ◌∙◌, ◌∷◌, ◌≡◌, ◌≤◌, ◌&&◌, []}
 use Rattle.std.specs.Option.{option_or}
 use Rattle.std.proofs.lemmas.List.{append-nil, append_assoc}
 use Rattle.cf_lane.specs.Follows.{AreJudged}

@@ -1,10 +1,11 @@
 -- A relay stands for the longer list: after answers that add nothing to the history, and after an answer of a side that was
 -- asked.
 use Rattle.cf_lane.specs.Rings.{KnowsRules}
-use Rattle.std.proofs.Common.{Bool, List, None, Option, Some, [], ap, drop, false, inl, inr, length, refl, subst, sym, true, ℕ, ◌++◌, ◌+◌, ◌∙◌, ◌∷◌, ◌≡◌, ◌||◌, ◌⊎◌}
+use Rattle.std.proofs.Common.{Bool, List, None, Option, Some, ap, drop, false, inl, inr, length, refl, subst, sym, true, ℕ, ◌++◌, ◌+◌, ◌∙◌, ◌∷◌, ◌≡◌, ◌||◌, ◌⊎◌, []}
 use Rattle.std.specs.List.{flat_map}
 use Rattle.std.specs.Option.{option_or}
 use Rattle.std.proofs.Math.Bool.{or-false}
+use Rattle.std.proofs.Math.Seq.{drop-append_seam}
 use Rattle.std.proofs.lemmas.List.{append-nil, append_assoc, append_cancel_left, length-append}
 use Rattle.cf_audit.specs.declared.line.CutReason.{CutReason}
 use Rattle.cf_driver.proofs.Histories.{ended_of-append, letters_more, letters_still}
@@ -39,19 +40,7 @@ use Rattle.cf_relay.specs.Turn.{IsTakeAnswer, cut_at}
 -- the same items of the same history
 pub follows_at : (asset : Asset) (h h' : List Element) (r r' : Rests) (cut : Option CutReason) (first : Option (List (List ℕ))) (now : State) → h ≡ h' → r ≡ r' →
     (f : Follows asset h r cut first now) → (g : Follows asset h' r' cut first now) × (g.judged ≡ f.judged)
-follows_at asset h h' r r' cut first now e d f = (
-  record {
-    judged = f.judged;
-    are_judged = subst (λ (x : List Element). AreJudged asset now.lane.client.address x f.judged) e f.are_judged;
-    is_cut = f.is_cut;
-    are_rests = subst (λ (x : Rests). AreRests asset.protocol h' x cut) d (subst (λ (x : List Element). AreRests asset.protocol x r cut) e f.are_rests);
-    knows = f.knows;
-    client_stream = f.client_stream;
-    controller_stream = f.controller_stream;
-    of_lines = f.of_lines;
-  },
-  refl,
-)
+follows_at asset h h' r r' cut first now e d f = rw (← e, ← d) (f, refl)
 
 -- ---- answers that add nothing to the history: a moment, what a side took, Idle, and a close
 
@@ -129,14 +118,10 @@ module _ (asset : Asset) (first : Option (List (List ℕ))) (es xs : List Entry)
 
 -- ---- an answer of a side that was asked
 
-drop_front : (xs ys : List ℕ) → drop (length xs) (xs ++ ys) ≡ ys
-drop_front [] ys = refl
-drop_front (x ∷ xs) ys = drop_front xs ys
-
 front_more : (front kept kept' out out' more : List ℕ) (acked : ℕ) → acked ≡ length front → out ≡ front ++ kept → out' ≡ out ++ more → kept' ≡ drop acked out' → out' ≡ front ++ kept'
 front_more front kept kept' out out' more acked a e f k =
     let whole : out' ≡ front ++ (kept ++ more) = f ∙ ap (λ xs. xs ++ more) e ∙ append_assoc front kept more in
-    whole ∙ ap (λ xs. front ++ xs) (sym (k ∙ ap (λ n. drop n out') a ∙ ap (drop (length front)) whole ∙ drop_front front (kept ++ more)))
+    whole ∙ ap (λ xs. front ++ xs) (sym (k ∙ ap (λ n. drop n out') a ∙ ap (drop (length front)) whole ∙ drop-append_seam front (kept ++ more)))
 
 -- a relay of which one side was asked: nothing of the other side, of the closes and of the moment changed
 pub record TakesTo (s : Side) (old new : RelayingValue) : Type 0 where

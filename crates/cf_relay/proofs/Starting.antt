@@ -1,6 +1,7 @@
 -- How a relay begins: its first lines and answers, what it keeps before its first turn, and how it ends there.
-use Rattle.std.proofs.Common.{List, None, Option, [], ap, arith, drop, inl, inr, length, refl, subst, sym, take, true, ℕ, ◌++◌, ◌<◌, ◌∙◌, ◌∷◌, ◌≡◌}
+use Rattle.std.proofs.Common.{List, None, Option, ap, arith, inl, inr, length, refl, subst, sym, take, true, ℕ, ◌++◌, ◌<◌, ◌∙◌, ◌∷◌, ◌≡◌, []}
 use Rattle.std.specs.List.{concat}
+use Rattle.std.proofs.Math.Seq.{drop-append_seam, take-append_seam}
 use Rattle.std.proofs.lemmas.List.{append-nil}
 use Rattle.cf_audit.specs.Line.{Begun}
 use Rattle.cf_driver.proofs.Limits.{limit_is}
@@ -22,26 +23,18 @@ use Rattle.cf_relay.proofs.Stages.{breaks_nothing, does_broken}
 use Rattle.cf_relay.specs.Answers.{given, history_of, is_finished}
 use Rattle.cf_relay.specs.Closing.{BeginsLines}
 use Rattle.cf_relay.specs.Ends.{LogContents, IsLinkEnd, IsWriteEnd}
-use Rattle.cf_relay.specs.Relaying.{IsSound, RelayingValue, begun_value, is_closed, letters_from, queue_to}
+use Rattle.cf_relay.specs.Relaying.{IsSound, begun_value, is_closed, letters_from, queue_to}
 use Rattle.cf_relay.specs.Stands.{GivenPrefixes, IsNewLane, StandsFor}
 use Rattle.cf_relay.specs.Turn.{IsUnstopped, DoesStages, IsRelayed, Meeting, Telling, stages}
 
 -- ---- the lines of a log
 
-take_all : {A : Type 0} (xs ys : List A) → take (length xs) (xs ++ ys) ≡ xs
-take_all [] ys = refl
-take_all (x ∷ xs) ys = ap (λ zs. x ∷ zs) (take_all xs ys)
-
-drop_all : {A : Type 0} (xs ys : List A) → drop (length xs) (xs ++ ys) ≡ ys
-drop_all [] ys = refl
-drop_all (x ∷ xs) ys = drop_all xs ys
-
 -- a last line failed after lines that stand there
 pub begins_last : (base log : Option (List (List ℕ))) (part : List ℕ) (xs : List (List ℕ)) (line : List ℕ) → MayHaveMore (line ∷ []) (with_lines base xs) log part → BeginsLines base log part (xs ++ line ∷ [])
 begins_last base log part xs line (inl (same, (k, some))) =
-    (length xs, k, same ∙ ap (with_lines base) (sym (take_all xs (line ∷ []))), some ∙ ap (λ ls. take k (concat ls)) (sym (drop_all xs (line ∷ []))))
+    (length xs, k, same ∙ ap (with_lines base) (sym (take-append_seam xs (line ∷ []))), some ∙ ap (λ ls. take k (concat ls)) (sym (drop-append_seam xs (line ∷ []))))
 begins_last base log part xs line (inr (added, none)) =
-    (length (xs ++ line ∷ []), 0, added ∙ lines_both base xs (line ∷ []) ∙ ap (with_lines base) (sym (take_all (xs ++ line ∷ []) []) ∙ ap (take (length (xs ++ line ∷ []))) (append-nil (xs ++ line ∷ []))), none)
+    (length (xs ++ line ∷ []), 0, added ∙ lines_both base xs (line ∷ []) ∙ ap (with_lines base) (sym (take-append_seam (xs ++ line ∷ []) []) ∙ ap (take (length (xs ++ line ∷ []))) (append-nil (xs ++ line ∷ []))), none)
 
 pub some_idle : (idle most : ℕ) → idle < most → 0 < most
 some_idle idle most h = omega (arith, h)
@@ -154,9 +147,8 @@ pub new_lane : (asset : Asset) (client : Endpoint) (lane : LaneValue) → IsLane
     ((c k : Queue) (x : Option (List (List ℕ))) → IsQueueOf c no_letters → IsQueueOf k no_letters → Follows asset [] no_rests None x (state lane c k x)) → IsNewLane asset client lane
 new_lane asset client lane of_asset is counts follows = record { of_asset = of_asset; of_client = is; counts = counts; follows = follows }
 
--- a relay of a lane, of two queues, and of what was heard of two sides
-abbrev pub begun_of : LaneValue → (c k : Queue) → (rest : List ℕ) → (letters : ℕ) → (rest' : List ℕ) → (letters' : ℕ) → (moment : ℕ) → RelayingValue
-begun_of lane c k rest letters rest' letters' moment =
+-- a relay of a lane, of two empty queues, and of two sides of which nothing was heard
+pub begun_is : (lane : LaneValue) (c k : Queue) (rest : List ℕ) (letters : ℕ) (rest' : List ℕ) (letters' moment : ℕ) → c ≡ empty → k ≡ empty → rest ≡ [] → letters ≡ 0 → rest' ≡ [] → letters' ≡ 0 →
     record (begun_value lane moment) {
       to_client = c;
       to_controller = k;
@@ -164,11 +156,5 @@ begun_of lane c k rest letters rest' letters' moment =
       client_letters = letters;
       controller_rest = rest';
       controller_letters = letters';
-    }
-
-pub begun_is : (lane : LaneValue) (c k : Queue) (rest : List ℕ) (letters : ℕ) (rest' : List ℕ) (letters' moment : ℕ) → c ≡ empty → k ≡ empty → rest ≡ [] → letters ≡ 0 → rest' ≡ [] → letters' ≡ 0 →
-    begun_of lane c k rest letters rest' letters' moment ≡ begun_value lane moment
-begun_is lane c k rest letters rest' letters' moment p q r s r' s' =
-    ap (λ (x : Queue). begun_of lane x k rest letters rest' letters' moment) p ∙ ap (λ (x : Queue). begun_of lane empty x rest letters rest' letters' moment) q
-    ∙ ap (λ (x : List ℕ). begun_of lane empty empty x letters rest' letters' moment) r ∙ ap (λ (x : ℕ). begun_of lane empty empty [] x rest' letters' moment) s
-    ∙ ap (λ (x : List ℕ). begun_of lane empty empty [] 0 x letters' moment) r' ∙ ap (λ (x : ℕ). begun_of lane empty empty [] 0 [] x moment) s'
+    } ≡ begun_value lane moment
+begun_is lane c k rest letters rest' letters' moment p q r s r' s' = rw (p, q, r, s, r', s') refl

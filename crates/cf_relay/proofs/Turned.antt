@@ -1,6 +1,6 @@
 -- A relay between two turns, and one that stopped within a turn: how it begins, goes on and ends, over any log that has the lines of its
 -- own. The interface of lemmas for a loop over many sessions.
-use Rattle.std.proofs.Common.{List, None, Option, [], ap, inl, inr, refl, subst, suc, sym, take, true, ℕ, ◌++◌, ◌<◌, ◌∙◌, ◌∷◌, ◌≡◌}
+use Rattle.std.proofs.Common.{List, None, Option, ap, inl, inr, refl, subst, suc, sym, take, true, ℕ, ◌++◌, ◌<◌, ◌∙◌, ◌∷◌, ◌≡◌, []}
 use Rattle.std.specs.Option.{option_or}
 use Rattle.std.proofs.lemmas.List.{append-nil}
 use Rattle.cf_audit.specs.Line.{Begun, Close, Cut}

@@ -1,4 +1,4 @@
-use Rattle.std.proofs.Common.{take, [], ◌∷◌, ◌++◌, ◌∙◌, arith}
+use Rattle.std.proofs.Common.{take, ◌∷◌, ◌++◌, ◌∙◌, arith, []}
 use Rattle.cf_relay.proofs.Giving.{took_step, acked_step, tells_step, idles_took, some_of}
 use Rattle.cf_relay.proofs.Gave.{gave_pieces, gave_by_idle, gives_all, begins, none_left}
 use Rattle.cf_relay.proofs.give.give_to.Goals as goal

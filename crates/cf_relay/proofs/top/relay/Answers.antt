@@ -1,4 +1,4 @@
-use Rattle.std.proofs.Common.{[], ap, arith, ◌*◌}
+use Rattle.std.proofs.Common.{ap, arith, ◌*◌, []}
 use Rattle.cf_relay.proofs.Files.{ends_same, write_first}
 use Rattle.cf_relay.proofs.OnePair.{all_none}
 use Rattle.cf_relay.proofs.top.relay.Goals as goal

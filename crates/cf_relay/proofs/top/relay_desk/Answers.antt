@@ -1,4 +1,4 @@
-use Rattle.std.proofs.Common.{List, Option, [], ap, arith, inr, refl, subst, sym, ℕ, ◌∙◌, ◌∷◌}
+use Rattle.std.proofs.Common.{List, Option, ap, arith, inr, refl, subst, sym, ℕ, ◌∙◌, ◌∷◌, []}
 use Rattle.cf_audit.specs.Line.{Begun}
 use Rattle.cf_lane.specs.Log.{line_about, with_lines}
 use Rattle.cf_outside.specs.Pair.{Moment, met_at}

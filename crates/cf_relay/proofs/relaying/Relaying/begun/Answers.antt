@@ -1,4 +1,4 @@
-use Rattle.std.proofs.Common.{[], subst, sym, ◌∷◌}
+use Rattle.std.proofs.Common.{subst, sym, ◌∷◌, []}
 use Rattle.cf_outside.specs.Pair.{Moment, met_at}
 use Rattle.cf_relay.proofs.Starting.{begun_is, first_stands}
 use Rattle.cf_relay.specs.Relaying.{RelayingValue}

@@ -3,7 +3,6 @@ use Rattle.cf_relay.proofs.Moving.{goes_nearer, not_both}
 use Rattle.cf_relay.proofs.Scenes.{goes_none, goes_stops, goes_then}
 use Rattle.cf_relay.proofs.Serving.{handed_on}
 use Rattle.cf_relay.specs.Relaying.{relaying_value}
-use Rattle.cf_relay.specs.Turn.{turn, turns}
 use Rattle.cf_relay.proofs.relaying.Relaying.run.Goals as goal
 
 pub turns-init : goal.turns-init
@@ -13,13 +12,13 @@ pub returns-in_err-turn-clause-stops : goal.returns-in_err-turn-clause-stops
 returns-in_err-turn-clause-stops g c =
     handed_on c.from_residual.result c.in_err-turn.field-0.0 _ c.from_residual.ensures.1 (
       suc c.turns.invariant.count,
-      goes_stops c.args.asset.now c.args.most (turns c.turns.invariant.count) turn c.in_err-turn.field-0.0 _ _ _ c.turns.invariant.goes c.in_err-turn.ensures.stops,
+      goes_stops c.turns.invariant.goes c.in_err-turn.ensures.stops,
     )
 
 pub returns-then-is_closed-clause-goes : goal.returns-then-is_closed-clause-goes
 returns-then-is_closed-clause-goes g c = (
   suc c.turns.invariant.count,
-  goes_then c.args.asset.now c.args.most (turns c.turns.invariant.count) turn _ _ _ c.turns.invariant.goes c.in_ok-turn.ensures.goes,
+  goes_then c.turns.invariant.goes c.in_ok-turn.ensures.goes,
 )
 
 pub turns-smaller : goal.turns-smaller
@@ -30,7 +29,7 @@ turns-smaller g c =
 pub turns-preserved : goal.turns-preserved
 turns-preserved g c = record {
   count = suc c.turns.invariant.count;
-  goes = goes_then c.args.asset.now c.args.most (turns c.turns.invariant.count) turn _ _ _ c.turns.invariant.goes c.in_ok-turn.ensures.goes;
+  goes = goes_then c.turns.invariant.goes c.in_ok-turn.ensures.goes;
   place = c.turn.ensures.place ∙ c.turns.invariant.place;
   sound = c.in_ok-turn.ensures.sound;
   still = λ closed. not_both c.is_closed.result c.if-is_closed.false (c.is_closed.ensures.1 closed);

@@ -1,14 +1,13 @@
 use Rattle.cf_relay.proofs.Moving.{turn_moves}
-use Rattle.cf_relay.proofs.Scenes.{if_err, on_ok}
+use Rattle.cf_relay.proofs.Scenes.{goes_stops, goes_then, if_err, on_ok, stops_more}
 use Rattle.cf_relay.proofs.Serving.{handed_on}
-use Rattle.cf_relay.proofs.Turning.{client_stops, controller_stops, first_stops, moment_stops, turn_goes, turn_stops}
 use Rattle.cf_relay.specs.Relaying.{relaying_value}
 use Rattle.cf_relay.proofs.relaying.Relaying.turn.Goals as goal
 
 pub returns-in_err-tell-clause-stops : goal.returns-in_err-tell-clause-stops
 returns-in_err-tell-clause-stops g c =
     handed_on c.from_residual.result c.in_err-tell.field-0.0 _ c.from_residual.ensures.1
-    (moment_stops c.args.asset.now c.args.most _ _ c.in_err-tell.field-0.0 (c.in_err-tell.ensures.stops c.args.asset.now c.args.most (g.D.Desk.value c.args.desk.now) c.requires.sound.few))
+    (stops_more _ (c.in_err-tell.ensures.stops c.args.asset.now c.args.most (g.D.Desk.value c.args.desk.now) c.requires.sound.few))
 
 pub take-requires-clause-sound : goal.take-requires-clause-sound
 take-requires-clause-sound g c = c.tell.ensures.sound c.args.asset.now c.args.most c.requires.sound
@@ -16,32 +15,39 @@ take-requires-clause-sound g c = c.tell.ensures.sound c.args.asset.now c.args.mo
 pub returns-in_err-take-clause-stops : goal.returns-in_err-take-clause-stops
 returns-in_err-take-clause-stops g c =
     handed_on c.from_residual-in_err-take.result c.in_err-take.field-0.0 _ c.from_residual-in_err-take.ensures.1
-    (client_stops c.args.asset.now c.args.most _ _ _ (c.in_ok-tell.ensures.goes c.args.asset.now c.args.most (g.D.Desk.value c.args.desk.now) c.requires.sound.few) c.in_err-take.field-0.0 c.in_err-take.ensures.stops)
+    (goes_stops (c.in_ok-tell.ensures.goes c.args.asset.now c.args.most (g.D.Desk.value c.args.desk.now) c.requires.sound.few)
+    (stops_more _ c.in_err-take.ensures.stops))
 
 pub returns-in_err-take-2-clause-stops : goal.returns-in_err-take-2-clause-stops
 returns-in_err-take-2-clause-stops g c =
     handed_on c.from_residual-in_err-take-2.result c.in_err-take-2.field-0.0 _ c.from_residual-in_err-take-2.ensures.1
-    (controller_stops c.args.asset.now c.args.most _ _ _ (c.in_ok-tell.ensures.goes c.args.asset.now c.args.most (g.D.Desk.value c.args.desk.now) c.requires.sound.few) _ c.in_ok-take.ensures.goes
-    c.in_err-take-2.field-0.0 c.in_err-take-2.ensures.stops)
+    (goes_stops (c.in_ok-tell.ensures.goes c.args.asset.now c.args.most (g.D.Desk.value c.args.desk.now) c.requires.sound.few)
+    (goes_stops c.in_ok-take.ensures.goes (stops_more _ c.in_err-take-2.ensures.stops)))
 
 pub returns-in_err-serve-clause-stops : goal.returns-in_err-serve-clause-stops
 returns-in_err-serve-clause-stops g c =
     handed_on c.from_residual-in_err-serve.result c.in_err-serve.field-0.0 _ c.from_residual-in_err-serve.ensures.1
-    (first_stops c.args.asset.now c.args.most _ _ _ (c.in_ok-tell.ensures.goes c.args.asset.now c.args.most (g.D.Desk.value c.args.desk.now) c.requires.sound.few) _ c.in_ok-take.ensures.goes _ c.in_ok-take-2.ensures.goes
-    c.in_err-serve.field-0.0 (c.in_err-serve.ensures.stops c.args.asset.now (g.D.Desk.value c.take-2.new.desk)))
+    (goes_stops (c.in_ok-tell.ensures.goes c.args.asset.now c.args.most (g.D.Desk.value c.args.desk.now) c.requires.sound.few)
+    (goes_stops c.in_ok-take.ensures.goes
+    (goes_stops c.in_ok-take-2.ensures.goes
+    (stops_more _ (c.in_err-serve.ensures.stops c.args.asset.now (g.D.Desk.value c.take-2.new.desk))))))
 
 pub returns-clause-goes : goal.returns-clause-goes
 returns-clause-goes g c =
     on_ok c.serve-2.result _ _
-    (λ last. turn_goes c.args.asset.now c.args.most _ _ _ (c.in_ok-tell.ensures.goes c.args.asset.now c.args.most (g.D.Desk.value c.args.desk.now) c.requires.sound.few) _ c.in_ok-take.ensures.goes _ c.in_ok-take-2.ensures.goes
-    _ (c.in_ok-serve.ensures.goes c.args.asset.now (g.D.Desk.value c.take-2.new.desk)) (last c.args.asset.now (g.D.Desk.value c.take-2.new.desk)))
+    (λ last. goes_then (c.in_ok-tell.ensures.goes c.args.asset.now c.args.most (g.D.Desk.value c.args.desk.now) c.requires.sound.few)
+    (goes_then c.in_ok-take.ensures.goes (goes_then c.in_ok-take-2.ensures.goes
+    (goes_then (c.in_ok-serve.ensures.goes c.args.asset.now (g.D.Desk.value c.take-2.new.desk))
+    (last c.args.asset.now (g.D.Desk.value c.take-2.new.desk))))))
     c.serve-2.ensures.goes
 
 pub returns-clause-stops : goal.returns-clause-stops
 returns-clause-stops g c =
     if_err c.serve-2.result _ _
-    (λ why last. turn_stops c.args.asset.now c.args.most _ _ _ (c.in_ok-tell.ensures.goes c.args.asset.now c.args.most (g.D.Desk.value c.args.desk.now) c.requires.sound.few) _ c.in_ok-take.ensures.goes _ c.in_ok-take-2.ensures.goes
-    _ (c.in_ok-serve.ensures.goes c.args.asset.now (g.D.Desk.value c.take-2.new.desk)) why (last c.args.asset.now (g.D.Desk.value c.take-2.new.desk)))
+    (λ why last. goes_stops (c.in_ok-tell.ensures.goes c.args.asset.now c.args.most (g.D.Desk.value c.args.desk.now) c.requires.sound.few)
+    (goes_stops c.in_ok-take.ensures.goes (goes_stops c.in_ok-take-2.ensures.goes
+    (goes_stops (c.in_ok-serve.ensures.goes c.args.asset.now (g.D.Desk.value c.take-2.new.desk))
+    (last c.args.asset.now (g.D.Desk.value c.take-2.new.desk))))))
     c.serve-2.ensures.stops
 
 pub returns-clause-moves : goal.returns-clause-moves
