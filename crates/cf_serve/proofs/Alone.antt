@@ -1,5 +1,5 @@
 -- What a session puts in the log follows from its own answers and its end.
-use Rattle.std.proofs.Common.{List, [], ap, inl, inr, subst, sym, ℕ, ◌∙◌, ◌≡◌, ◌++◌, ◌∷◌, true}
+use Rattle.std.proofs.Common.{List, ap, inl, inr, subst, sym, ℕ, ◌∙◌, ◌≡◌, ◌++◌, ◌∷◌, true, []}
 use Rattle.cf_lane.specs.Judged.{Judged}
 use Rattle.cf_lane.specs.Laws.{HasOneJudgement}
 use Rattle.cf_outside.specs.Pair.{Entry}

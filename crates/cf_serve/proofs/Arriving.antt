@@ -1,8 +1,8 @@
 -- A client that came: what it does to the table.
-use Rattle.std.proofs.Common.{Bool, List, None, Option, Some, [], ap, arith, length, map, refl, subst, sym, true, false, ℕ, ◌++◌, ◌+◌}
+use Rattle.std.proofs.Common.{Bool, List, None, Option, Some, ap, arith, length, map, refl, subst, sym, true, false, ℕ, ◌++◌, ◌+◌, []}
 use Rattle.std.proofs.Common.{◌<◌, ◌≤◌, ◌∙◌, ◌∷◌, ◌≡◌}
 use Rattle.std.specs.Prelude.{Err, Ok, OnErr, OnOk, Result, option_map, option_to_list, slice_get, ◌==◌, if◌then◌else◌}
-use Rattle.std.specs.List.{AllByRecursion, flat_map}
+use Rattle.std.specs.List.{AllByRecursion}
 use Rattle.std.proofs.lemmas.Grind.{flat_map-append}
 use Rattle.std.proofs.lemmas.List.{append-nil, append_assoc, length-append, map-append}
 use Rattle.cf_audit.specs.Line.{Full}
@@ -10,7 +10,7 @@ use Rattle.cf_lane.specs.Handled.{MayHaveMore}
 use Rattle.cf_lane.specs.Log.{line_about, with_lines}
 use Rattle.cf_links.specs.Links.{Came, LinksEntry, LinksPlace, Woke}
 use Rattle.cf_links.specs.Service.{GetsSession}
-use Rattle.cf_relay.proofs.Lined.{lines_both, lines_none}
+use Rattle.cf_relay.proofs.Lined.{lines_none}
 use Rattle.cf_view.specs.declared.Endpoint.{Endpoint}
 use Rattle.cf_view.specs.declared.WriteFault.{WriteFault}
 use Rattle.cf_serve.proofs.Keeping.{part_none}
@@ -19,7 +19,7 @@ use Rattle.cf_serve.proofs.Numbers.{all_join, all_map, all_zip, above, below, me
 use Rattle.cf_serve.proofs.Rounding.{more_none, more_twice}
 use Rattle.cf_serve.specs.Failing.{MissesArrival}
 use Rattle.cf_serve.specs.Phase.{Phase}
-use Rattle.cf_serve.specs.Rounds.{Arrival, AreArrivals, Seat, TurnOf, arrival_entries, turn_entries, full_line, full_lines, has_place}
+use Rattle.cf_serve.specs.Rounds.{Arrival, AreArrivals, Seat, TurnOf, full_line, full_lines, has_place}
 use Rattle.cf_serve.specs.Session.{Listening}
 use Rattle.cf_serve.specs.Table.{Arrive, IfOver, IsBetween, IsHeld, IsTable, Keeps, MayGo, RoundDoes, TurnsDo, new_phase, seats_of}
 use Rattle.cf_serve.specs.declared.end.SessionEnd.{SessionEnd}
@@ -30,7 +30,7 @@ one_more low next (q ∷ ps) p is (l, b) = (l, one_more (q.seat.session + 1) nex
 
 module _ (places : List Listening) (most next place : ℕ) (client : Endpoint) (ps : List Phase) where
   -- the links have it
-  pub table_new : (old new : LinksPlace) → place < length places → GetsSession next old new → IsTable places most old.serves next ps →
+  table_new : (old new : LinksPlace) → place < length places → GetsSession next old new → IsTable places most old.serves next ps →
       IsTable places most new.serves (next + 1) (ps ++ new_phase next place client ∷ [])
   table_new old new placed gets t = record {
     ordered = one_more 0 next ps (new_phase next place client) refl t.ordered;
@@ -42,9 +42,9 @@ module _ (places : List Listening) (most next place : ℕ) (client : Endpoint) (
     free = λ session h. gets.others session (below next session (omega (arith, h))) ∙ t.free session (omega (arith, h));
   }
 
-  pub free_new : (old new : LinksPlace) → GetsSession next old new → ((session : ℕ) → next ≤ session → old.serves session ≡ false) →
-      (session : ℕ) → next + 1 ≤ session → new.serves session ≡ false
-  free_new old new gets free session h = gets.others session (below next session (omega (arith, h))) ∙ free session (omega (arith, h))
+  pub table_in : (old new : LinksPlace) (qs : List Phase) (next' : ℕ) → qs ≡ ps ++ new_phase next place client ∷ [] → next' ≡ next + 1 → place < length places → GetsSession next old new →
+      IsTable places most old.serves next ps → IsTable places most new.serves next' qs
+  table_in old new qs next' is one placed gets t = rw (is, one) (table_new old new placed gets t)
 
   module _ (past : List TurnOf) (keeps : Keeps places most next past ps) where
     fresh : AllByRecursion (λ (t : TurnOf). (t.seat.session == next) ≡ false) past
@@ -92,17 +92,24 @@ module _ (places : List Listening) (most moment place next : ℕ) (told : Option
     seats_new : seats_of new ≡ seats_of ps ++ (new_phase next place client).seat ∷ []
     seats_new = ap seats_of is ∙ map-append (λ (p : Phase). p.seat) ps (new_phase next place client ∷ [])
 
+    own_line : (at : Listening) → slice_get places place ≡ Some at → has_place (seats_of new) place ≡ false → full_line (Some at) client moment ≡ full_lines places moment (seats_of new) place client
+    own_line at there full =
+        ap (λ (o : Option Listening). full_line o client moment) (sym there) ∙ ap (λ (b : Bool). if b then [] else full_line (slice_get places place) client moment) (sym full)
+
+    kept_in : (past : List TurnOf) → Keeps places most next past ps → Keeps places most next' past new
+    kept_in past k = rw (is, one) (keeps_new places most next place client ps past k)
+
     came_with : (lines : List (List ℕ)) → log' ≡ with_lines log lines → lines ≡ full_lines places moment (seats_of new) place client →
         Arrive places most moment place (place + 1) next next' told after log log' ps new
     came_with lines added full = record {
       arrivals = record { seat = (new_phase next place client).seat; lines = lines } ∷ [];
       tells = came;
-      added = added ∙ ap (with_lines log) (sym (append-nil lines));
+      added = simp (added, append-nil);
       come = (omega arith, (refl, (room, (full ∙ ap (λ (ss : List Seat). full_lines places moment ss place client) seats_new, tt))));
       below = (omega arith, tt);
       seats = seats_new;
       counts = one;
-      keeps = λ past k. subst (λ n. Keeps places most n past new) (sym one) (subst (Keeps places most (next + 1) past) (sym is) (keeps_new places most next place client ps past k));
+      keeps = kept_in;
     }
 
     pub came_in : log' ≡ log → has_place (seats_of new) place ≡ true → Arrive places most moment place (place + 1) next next' told after log log' ps new
@@ -111,8 +118,7 @@ module _ (places : List Listening) (most moment place next : ℕ) (told : Option
     pub came_last : (at : Listening) → slice_get places place ≡ Some at → has_place (seats_of new) place ≡ false → (r : Result Unit WriteFault) →
         OnOk r (log' ≡ with_lines log (full_line (Some at) client moment)) → OnOk r (Arrive places most moment place (place + 1) next next' told after log log' ps new)
     came_last at there full (Ok u) added =
-        came_with (full_line (Some at) client moment) added
-        (ap (λ (o : Option Listening). full_line o client moment) (sym there) ∙ ap (λ (b : Bool). if b then [] else full_line (slice_get places place) client moment) (sym full))
+        came_with (full_line (Some at) client moment) added (own_line at there full)
     came_last at there full (Err e) added = tt
 
     -- it took the last, and its line failed
@@ -121,23 +127,21 @@ module _ (places : List Listening) (most moment place next : ℕ) (told : Option
     came_missed at there full part may =
         let line = line_about at.asset client moment Full in
         let w = begins_line line log log' part may in
-        let own : full_line (Some at) client moment ≡ full_lines places moment (seats_of new) place client =
-        ap (λ (o : Option Listening). full_line o client moment) (sym there) ∙ ap (λ (b : Bool). if b then [] else full_line (slice_get places place) client moment) (sym full) in
         record {
           arrivals = record { seat = (new_phase next place client).seat; lines = w.0 } ∷ [];
           tells = came;
-          added = w.1.0 ∙ ap (with_lines log) (sym (append-nil w.0));
+          added = simp (w.1.0, append-nil);
           fails = record {
             before = [];
             seat = (new_phase next place client).seat;
             line = line;
-            come = (omega arith, (refl, (room, (own ∙ ap (λ (ss : List Seat). full_lines places moment ss place client) seats_new, tt))));
+            come = (omega arith, (refl, (room, (own_line at there full ∙ ap (λ (ss : List Seat). full_lines places moment ss place client) seats_new, tt))));
             whole = w.0;
             are = refl;
             begins = w.1.1;
           };
           seats = seats_new;
-          keeps = λ past k. subst (λ n. Keeps places most n past new) (sym one) (subst (Keeps places most (next + 1) past) (sym is) (keeps_new places most next place client ps past k));
+          keeps = kept_in;
         }
 
 pub for_all : {E : Type 0} (P : ℕ → Type 0) (r : Result Unit E) → ((most : ℕ) → OnOk r (P most)) → OnOk r ((most : ℕ) → P most)
@@ -198,20 +202,14 @@ module _ (places : List Listening) (most moment next : ℕ) (told : Option (List
       Arrive places most moment 0 (place + 1) next next2 told told2 log log2 old new
   arrive_then place next1 next2 told1 told2 log1 log2 mid new a b = record {
     arrivals = a.arrivals ++ b.arrivals;
-    tells = b.tells ∙ ap (option_map (λ es. es ++ flat_map arrival_entries b.arrivals)) a.tells
-        ∙ more_twice told (flat_map arrival_entries a.arrivals) (flat_map arrival_entries b.arrivals)
-        ∙ ap (λ (xs : List LinksEntry). option_map (λ es. es ++ xs) told) (sym (flat_map-append arrival_entries a.arrivals b.arrivals));
-    added = b.added ∙ ap (λ l. with_lines l (flat_map (λ (x : Arrival). x.lines) b.arrivals)) a.added
-        ∙ lines_both log (flat_map (λ (x : Arrival). x.lines) a.arrivals) (flat_map (λ (x : Arrival). x.lines) b.arrivals)
-        ∙ ap (with_lines log) (sym (flat_map-append (λ (x : Arrival). x.lines) a.arrivals b.arrivals));
+    tells = simp (b.tells, a.tells, more_twice, flat_map-append);
+    added = simp (b.added, a.added, more_twice, flat_map-append);
     come = come_join places moment 0 place next (seats_of old) a.arrivals b.arrivals (omega arith) a.come a.below
         (subst (λ n. AreArrivals places moment place n (seats_of old ++ map (λ (x : Arrival). x.seat) a.arrivals) b.arrivals) a.counts
         (subst (λ (ss : List Seat). AreArrivals places moment place next1 ss b.arrivals) a.seats b.come));
     below = all_join (λ (x : Arrival). x.seat.place < place + 1) a.arrivals b.arrivals
         (all_map (λ (x : Arrival). x.seat.place < place) (λ (x : Arrival). x.seat.place < place + 1) a.arrivals (λ x h. omega (arith, h)) a.below) b.below;
-    seats = b.seats ∙ ap (λ (ss : List Seat). ss ++ map (λ (x : Arrival). x.seat) b.arrivals) a.seats
-        ∙ append_assoc (seats_of old) (map (λ (x : Arrival). x.seat) a.arrivals) (map (λ (x : Arrival). x.seat) b.arrivals)
-        ∙ ap (λ ss. seats_of old ++ ss) (sym (map-append (λ (x : Arrival). x.seat) a.arrivals b.arrivals));
+    seats = simp (b.seats, a.seats, append_assoc, map-append);
     counts = let l : length (a.arrivals ++ b.arrivals) ≡ length a.arrivals + length b.arrivals = length-append a.arrivals b.arrivals in omega (arith, l, a.counts, b.counts);
     keeps = λ past k. b.keeps past (a.keeps past k);
   }
@@ -227,12 +225,8 @@ module _ (places : List Listening) (most moment next : ℕ) (told : Option (List
       let cut : List Arrival = record { seat = f.seat; lines = f.whole } ∷ [] in
       record {
         arrivals = a.arrivals ++ b.arrivals;
-        tells = b.tells ∙ ap (option_map (λ es. es ++ flat_map arrival_entries b.arrivals)) a.tells
-            ∙ more_twice told (flat_map arrival_entries a.arrivals) (flat_map arrival_entries b.arrivals)
-            ∙ ap (λ (xs : List LinksEntry). option_map (λ es. es ++ xs) told) (sym (flat_map-append arrival_entries a.arrivals b.arrivals));
-        added = b.added ∙ ap (λ l. with_lines l (flat_map (λ (x : Arrival). x.lines) b.arrivals)) a.added
-            ∙ lines_both log (flat_map (λ (x : Arrival). x.lines) a.arrivals) (flat_map (λ (x : Arrival). x.lines) b.arrivals)
-            ∙ ap (with_lines log) (sym (flat_map-append (λ (x : Arrival). x.lines) a.arrivals b.arrivals));
+        tells = simp (b.tells, a.tells, more_twice, flat_map-append);
+        added = simp (b.added, a.added, more_twice, flat_map-append);
         fails = record {
           before = a.arrivals ++ f.before;
           seat = f.seat;
@@ -245,9 +239,7 @@ module _ (places : List Listening) (most moment next : ℕ) (told : Option (List
           are = ap (λ xs. a.arrivals ++ xs) f.are ∙ sym (append_assoc a.arrivals f.before cut);
           begins = f.begins;
         };
-        seats = b.seats ∙ ap (λ (ss : List Seat). ss ++ map (λ (x : Arrival). x.seat) b.arrivals) a.seats
-            ∙ append_assoc (seats_of old) (map (λ (x : Arrival). x.seat) a.arrivals) (map (λ (x : Arrival). x.seat) b.arrivals)
-            ∙ ap (λ ss. seats_of old ++ ss) (sym (map-append (λ (x : Arrival). x.seat) a.arrivals b.arrivals));
+        seats = simp (b.seats, a.seats, append_assoc, map-append);
         keeps = λ past k. b.keeps past (a.keeps past k);
       }
 
@@ -259,11 +251,8 @@ module _ (places : List Listening) (most moment next : ℕ) (told : Option (List
       RoundDoes places most next next1 past told0 told2 log log2 old new
   round_is upto next1 told0 told1 told2 log1 log2 mid new past woke a b = record {
     round = record { moment = moment; arrivals = a.arrivals; turns = b.turns };
-    tells = b.tells ∙ ap (option_map (λ es. es ++ flat_map turn_entries b.turns)) (a.tells ∙ ap (option_map (λ es. es ++ flat_map arrival_entries a.arrivals)) woke
-        ∙ more_twice told0 (Woke moment ∷ []) (flat_map arrival_entries a.arrivals))
-        ∙ more_twice told0 (Woke moment ∷ flat_map arrival_entries a.arrivals) (flat_map turn_entries b.turns);
-    added = b.added ∙ ap (λ l. with_lines l (flat_map (λ (t : TurnOf). t.lines) b.turns)) a.added
-        ∙ lines_both log (flat_map (λ (x : Arrival). x.lines) a.arrivals) (flat_map (λ (t : TurnOf). t.lines) b.turns);
+    tells = simp (b.tells, a.tells, woke, more_twice);
+    added = simp (b.added, a.added, more_twice);
     is_round = record {
       arrive = a.come;
       in_turn = b.in_turn ∙ a.seats;

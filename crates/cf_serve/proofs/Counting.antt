@@ -1,5 +1,5 @@
 -- How many sessions of a table are of a listening place.
-use Rattle.std.proofs.Common.{List, [], ap, map, refl, ℕ, ◌+◌, ◌∙◌, ◌∷◌, ◌≡◌, sym, if◌then◌else◌}
+use Rattle.std.proofs.Common.{List, ap, map, refl, ℕ, ◌+◌, ◌∙◌, ◌∷◌, ◌≡◌, sym, if◌then◌else◌, []}
 use Rattle.std.specs.Prelude.{◌==◌}
 use Rattle.std.specs.List.{sum_by}
 use Rattle.std.proofs.lemmas.List.Sums.{sum_by-cons}

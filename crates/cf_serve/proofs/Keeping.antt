@@ -1,14 +1,14 @@
 -- One turn more: what it does to the sessions that stand, and to those that ended.
-use Rattle.std.proofs.Common.{Bool, List, None, Option, Some, [], ap, refl, subst, sym, true, false, ℕ, ◌++◌, ◌<◌, ◌∙◌, ◌∷◌, ◌≡◌}
+use Rattle.std.proofs.Common.{Bool, List, None, Option, Some, ap, arith, refl, subst, sym, true, false, ℕ, ◌++◌, ◌<◌, ◌∙◌, ◌∷◌, ◌≡◌, []}
 use Rattle.std.proofs.Common.{if◌then◌else◌}
 use Rattle.std.specs.Prelude.{◌==◌, option_to_list, slice_get}
 use Rattle.std.specs.List.{AllByRecursion}
-use Rattle.std.proofs.lemmas.Bool.{eq-eqb, eqb-false}
+use Rattle.std.proofs.lemmas.Bool.{eq-eqb}
+use Rattle.std.proofs.lemmas.Bool.Decides.{nat_tests}
 use Rattle.std.proofs.lemmas.Grind.{flat_map-append}
 use Rattle.std.proofs.lemmas.List.{append-nil}
 use Rattle.cf_outside.specs.Pair.{Entry}
-use Rattle.cf_serve.proofs.Numbers.{after_it, all_back, all_front, all_join, all_map, all_zip, before_it, differs, number_below}
-use Rattle.cf_serve.proofs.Numbers.{others_after, others_before}
+use Rattle.cf_serve.proofs.Numbers.{all_join, all_map, all_one, all_others, all_with, all_zip, number_within, others}
 use Rattle.cf_serve.specs.Phase.{LinkedValue, Phase, StandsAs, TurnLeaves}
 use Rattle.cf_serve.specs.Rounds.{TurnOf, answers_in, ends_in, lines_in, part}
 use Rattle.cf_serve.specs.Session.{EndsSo, Listening}
@@ -93,94 +93,61 @@ module _ (places : List Listening) (most : ℕ) (past : List TurnOf) (t : TurnOf
         (subst (λ (ls : List (List ℕ)). EndsSo at most t.seat.client (answers_in t.seat.session past ++ t.answers) ls e) (sym own_lines) (leaves at is));
   }
 
-flip : (a b : ℕ) → (a == b) ≡ false → (b == a) ≡ false
-flip a b h = differs b a (λ e. eqb-false a b h (sym e))
-
 module _ (places : List Listening) (most next : ℕ) (past : List TurnOf) (t : TurnOf) (before after : List Phase) (linked new : Option LinkedValue)
     (ordered : IsBetween 0 next (before ++ record { seat = t.seat; linked = linked } ∷ after))
     (keeps : Keeps places most next past (before ++ record { seat = t.seat; linked = linked } ∷ after)) where
   abbrev it : Option LinkedValue → Phase
   it l = record { seat = t.seat; linked = l }
 
-  abbrev IsOther : Phase → Type 0
-  IsOther q = (t.seat.session == q.seat.session) ≡ false
+  abbrev IsNot : TurnOf → Phase → Type 0
+  IsNot u p = (p.seat.session == u.seat.session) ≡ false
 
-  other_before : AllByRecursion IsOther before
-  other_before = others_before 0 (it linked) before (before_it 0 next before (it linked) after ordered)
-
-  other_after : AllByRecursion IsOther after
-  other_after = others_after next (it linked) after (after_it 0 next before (it linked) after ordered)
+  abbrev Then : List Phase → TurnOf → Type 0
+  Then ps u = IfOver places most (past ++ t ∷ []) ps u u.end
 
   early : AllByRecursion (λ (u : TurnOf). u.seat.session < next) (past ++ t ∷ [])
-  early = all_join (λ (u : TurnOf). u.seat.session < next) past (t ∷ []) keeps.early (number_below 0 next before (it linked) after ordered, tt)
+  early = all_join (λ (u : TurnOf). u.seat.session < next) past (t ∷ []) keeps.early ((number_within 0 next before (it linked) after ordered).1, tt)
 
-  held_it : IsHeld places most past (it linked)
-  held_it = (all_back (IsHeld places most past) before (it linked ∷ after) keeps.held).0
+  none : ends_in t.seat.session past ≡ []
+  none = (all_one (IsHeld places most past) before (it linked) after keeps.held).no_end
 
-  held_before : AllByRecursion (IsHeld places most (past ++ t ∷ [])) before
-  held_before = all_zip IsOther (IsHeld places most past) (IsHeld places most (past ++ t ∷ [])) before (held_other places most past t) other_before
-      (all_front (IsHeld places most past) before (it linked ∷ after) keeps.held)
+  pub others_held : AllByRecursion (IsHeld places most (past ++ t ∷ [])) (before ++ after)
+  others_held = all_zip (λ (q : Phase). (t.seat.session == q.seat.session) ≡ false) (IsHeld places most past) (IsHeld places most (past ++ t ∷ [])) (before ++ after) (held_other places most past t)
+      (others 0 next before (it linked) after ordered) (all_others (IsHeld places most past) before (it linked) after keeps.held)
 
-  held_after : AllByRecursion (IsHeld places most (past ++ t ∷ [])) after
-  held_after = all_zip IsOther (IsHeld places most past) (IsHeld places most (past ++ t ∷ [])) after (held_other places most past t) other_after
-      (all_back (IsHeld places most past) before (it linked ∷ after) keeps.held).1
-
-  -- those that ended before
-  module _ (qs : List Phase) (fewer : (u : TurnOf) → AllByRecursion (λ (p : Phase). (p.seat.session == u.seat.session) ≡ false) (before ++ it linked ∷ after) →
-      AllByRecursion (λ (p : Phase). (p.seat.session == u.seat.session) ≡ false) qs) where
+  -- those that ended before, where fewer may stand
+  module _ (qs : List Phase) (fewer : (u : TurnOf) → AllByRecursion (IsNot u) (before ++ it linked ∷ after) → AllByRecursion (IsNot u) qs) where
     over_by : (u : TurnOf) (o : Option SessionEnd) → IfOver places most past (before ++ it linked ∷ after) u o → IfOver places most (past ++ t ∷ []) qs u o
     over_by u None h = tt
     over_by u (Some e) h =
-        over_other places most past t u (before ++ it linked ∷ after) qs e
-        (all_back (λ (p : Phase). (p.seat.session == u.seat.session) ≡ false) before (it linked ∷ after) h.gone).0 (fewer u h.gone) h
+        over_other places most past t u (before ++ it linked ∷ after) qs e (all_one (IsNot u) before (it linked) after h.gone) (fewer u h.gone) h
 
-    over_past : AllByRecursion (λ (u : TurnOf). IfOver places most (past ++ t ∷ []) qs u u.end) past
-    over_past = all_map (λ (u : TurnOf). IfOver places most past (before ++ it linked ∷ after) u u.end) (λ (u : TurnOf). IfOver places most (past ++ t ∷ []) qs u u.end) past
-        (λ u h. over_by u u.end h) keeps.over
-
-    over_all : IfOver places most (past ++ t ∷ []) qs t t.end → AllByRecursion (λ (u : TurnOf). IfOver places most (past ++ t ∷ []) qs u u.end) (past ++ t ∷ [])
-    over_all last = all_join (λ (u : TurnOf). IfOver places most (past ++ t ∷ []) qs u u.end) past (t ∷ []) over_past (last, tt)
+    over_all : Then qs t → AllByRecursion (Then qs) (past ++ t ∷ [])
+    over_all last = all_join (Then qs) past (t ∷ [])
+        (all_map (λ (u : TurnOf). IfOver places most past (before ++ it linked ∷ after) u u.end) (Then qs) past (λ u h. over_by u u.end h) keeps.over) (last, tt)
 
   -- it stays
-  same_gone : (u : TurnOf) → AllByRecursion (λ (p : Phase). (p.seat.session == u.seat.session) ≡ false) (before ++ it linked ∷ after) →
-      AllByRecursion (λ (p : Phase). (p.seat.session == u.seat.session) ≡ false) (before ++ it new ∷ after)
-  same_gone u h =
-      let back = all_back (λ (p : Phase). (p.seat.session == u.seat.session) ≡ false) before (it linked ∷ after) h in
-      all_join (λ (p : Phase). (p.seat.session == u.seat.session) ≡ false) before (it new ∷ after)
-      (all_front (λ (p : Phase). (p.seat.session == u.seat.session) ≡ false) before (it linked ∷ after) h) (back.0, back.1)
-
   pub keeps_stay : t.end ≡ None → Leaves places most past t new None → Keeps places most next (past ++ t ∷ []) (before ++ it new ∷ after)
   keeps_stay stands leaves = record {
     early = early;
-    held = all_join (IsHeld places most (past ++ t ∷ [])) before (it new ∷ after) held_before (held_own places most past t new stands held_it.no_end leaves, held_after);
-    over = over_all (before ++ it new ∷ after) same_gone (subst (λ o. IfOver places most (past ++ t ∷ []) (before ++ it new ∷ after) t o) (sym stands) tt);
+    held = all_with (IsHeld places most (past ++ t ∷ [])) before (it new) after (held_own places most past t new stands none leaves) others_held;
+    over = over_all (before ++ it new ∷ after)
+        (λ u h. all_with (IsNot u) before (it new) after (all_one (IsNot u) before (it linked) after h) (all_others (IsNot u) before (it linked) after h))
+        (subst (IfOver places most (past ++ t ∷ []) (before ++ it new ∷ after) t) (sym stands) tt);
   }
 
-  -- its line failed: the others stand as they stood, and those that ended have ended so
-  pub others_held : AllByRecursion (IsHeld places most (past ++ t ∷ [])) (before ++ after)
-  others_held = all_join (IsHeld places most (past ++ t ∷ [])) before after held_before held_after
-
-  pub over_still : t.end ≡ None →
-      AllByRecursion (λ (u : TurnOf). IfOver places most (past ++ t ∷ []) (before ++ it linked ∷ after) u u.end) (past ++ t ∷ [])
-  over_still none = over_all (before ++ it linked ∷ after) (λ u h. h)
-      (subst (λ o. IfOver places most (past ++ t ∷ []) (before ++ it linked ∷ after) t o) (sym none) tt)
+  -- its line failed: those that ended have ended so
+  pub over_still : t.end ≡ None → AllByRecursion (Then (before ++ it linked ∷ after)) (past ++ t ∷ [])
+  over_still stands = over_all (before ++ it linked ∷ after) (λ u h. h) (subst (IfOver places most (past ++ t ∷ []) (before ++ it linked ∷ after) t) (sym stands) tt)
 
   -- it ended
-  fewer_gone : (u : TurnOf) → AllByRecursion (λ (p : Phase). (p.seat.session == u.seat.session) ≡ false) (before ++ it linked ∷ after) →
-      AllByRecursion (λ (p : Phase). (p.seat.session == u.seat.session) ≡ false) (before ++ after)
-  fewer_gone u h =
-      let back = all_back (λ (p : Phase). (p.seat.session == u.seat.session) ≡ false) before (it linked ∷ after) h in
-      all_join (λ (p : Phase). (p.seat.session == u.seat.session) ≡ false) before after
-      (all_front (λ (p : Phase). (p.seat.session == u.seat.session) ≡ false) before (it linked ∷ after) h) back.1
-
-  own_gone : AllByRecursion (λ (p : Phase). (p.seat.session == t.seat.session) ≡ false) (before ++ after)
-  own_gone = all_map IsOther (λ (p : Phase). (p.seat.session == t.seat.session) ≡ false) (before ++ after) (λ p h. flip t.seat.session p.seat.session h)
-      (all_join IsOther before after other_before other_after)
+  own_gone : AllByRecursion (IsNot t) (before ++ after)
+  own_gone = all_map (λ (q : Phase). (t.seat.session == q.seat.session) ≡ false) (IsNot t) (before ++ after) (λ q h. grind (arith, nat_tests)) (others 0 next before (it linked) after ordered)
 
   pub keeps_end : (e : SessionEnd) → t.end ≡ Some e → Leaves places most past t new (Some e) → Keeps places most next (past ++ t ∷ []) (before ++ after)
   keeps_end e ended leaves = record {
     early = early;
-    held = all_join (IsHeld places most (past ++ t ∷ [])) before after held_before held_after;
-    over = over_all (before ++ after) fewer_gone
-        (subst (λ o. IfOver places most (past ++ t ∷ []) (before ++ after) t o) (sym ended) (over_own places most past t new (before ++ after) e ended held_it.no_end own_gone leaves));
+    held = others_held;
+    over = over_all (before ++ after) (λ u h. all_others (IsNot u) before (it linked) after h)
+        (subst (IfOver places most (past ++ t ∷ []) (before ++ after) t) (sym ended) (over_own places most past t new (before ++ after) e ended none own_gone leaves));
   }

@@ -1,5 +1,5 @@
 -- A log that is gone on with ends with a line.
-use Rattle.std.proofs.Common.{Bool, List, [], ap, arith, length, refl, suc, sym, true, false, ℕ, ◌++◌, ◌-◌, ◌∙◌, ◌∷◌, ◌≡◌, if◌then◌else◌}
+use Rattle.std.proofs.Common.{Bool, List, ap, arith, length, refl, suc, sym, true, false, ℕ, ◌++◌, ◌-◌, ◌∙◌, ◌∷◌, ◌≡◌, if◌then◌else◌, []}
 use Rattle.std.specs.Prelude.{slice_get, unwrap_or, ◌==◌}
 use Rattle.std.proofs.lemmas.List.{append-nil}
 use Rattle.cf_outside.specs.Files.{Content, absent, content_gone_on, holds, untold}

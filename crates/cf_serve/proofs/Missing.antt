@@ -1,5 +1,5 @@
 -- A line that failed, and what it leaves of its session.
-use Rattle.std.proofs.Common.{Err, List, None, Ok, Option, Result, Some, [], ap, inl, inr, refl, subst, sym, ℕ, ◌++◌, ◌<◌, ◌∙◌, ◌∷◌, ◌≡◌}
+use Rattle.std.proofs.Common.{Err, List, None, Ok, Option, Result, Some, ap, inl, inr, refl, subst, sym, ℕ, ◌++◌, ◌<◌, ◌∙◌, ◌∷◌, ◌≡◌, []}
 use Rattle.std.specs.Prelude.{OnErr, take}
 use Rattle.std.proofs.lemmas.List.{append-nil, append_assoc}
 use Rattle.std.proofs.lemmas.Option.{same_Some}
@@ -38,49 +38,42 @@ own_more line whole part (inr (all, none)) = inr (ap Some all, none)
 own_begins : (own : List (List ℕ)) (part : List ℕ) (ls : List (List ℕ)) → BeginsLines (Some []) (Some own) part ls → (own_begun own part).Begins ls
 own_begins own part ls (count, some, is, rest) = (count, some, same_Some _ _ is, rest)
 
+last_fails : (at : Listening) (most : ℕ) (client : Endpoint) (es : List Entry) (before : List (List ℕ)) (line : List ℕ) (whole : List (List ℕ)) (part : List ℕ) (e : SessionEnd) →
+    EndsSo at most client es (before ++ line ∷ []) e → BeginsLine line whole part → FailsSo at most client es (before ++ whole) part
+last_fails at most client es before line whole part e ends begins =
+    inl (record { end = e; before = before; line = line; ends = ends; whole = whole; own_is = refl; begins = begins })
+
+module _ {at : Listening} {most : ℕ} {client : Endpoint} {told after : SessionTold} {log mid log' : Option (List (List ℕ))} {line : List ℕ} {old : Option LinkedValue} {e : SessionEnd}
+    (t : EndsTurn at most client told after log mid line old e) where
+  -- the last line was put
+  pub last_put : (new : Option LinkedValue) → log' ≡ with_lines mid (line ∷ []) → TurnDoes at most client told after log log' old new (Some e)
+  last_put new put = record {
+    answers = t.answers;
+    tells = t.tells;
+    leaves = λ es own stands.
+        let x = t.ends es own stands in
+        (x.0 ++ line ∷ [], (simp (put, x.1.0, lines_both), subst (λ (ls : List (List ℕ)). EndsSo at most client (es ++ t.answers) ls e) (append_assoc own x.0 (line ∷ [])) x.1.1));
+  }
+
+  -- it failed
+  pub last_missed : {part : List ℕ} → MayHaveMore (line ∷ []) mid log' part → MissesTurn at most client told after log log' part old
+  last_missed {part = part} may =
+      let w = begins_line line mid log' part may in
+      record {
+        answers = t.answers;
+        tells = t.tells;
+        fails = λ es own stands.
+            let x = t.ends es own stands in (
+              x.0 ++ w.0,
+              (
+                simp (w.1.0, x.1.0, lines_both),
+                subst (λ (ls : List (List ℕ)). FailsSo at most client (es ++ t.answers) ls part) (append_assoc own x.0 w.0)
+                    (last_fails at most client (es ++ t.answers) (own ++ x.0) line w.0 part e x.1.1 w.1.1),
+              ),
+            );
+      }
+
 module _ (at : Listening) (most : ℕ) (client : Endpoint) where
-  -- ---- the last line
-
-  last_fails : (es : List Entry) (before : List (List ℕ)) (line : List ℕ) (whole : List (List ℕ)) (part : List ℕ) (e : SessionEnd) →
-      EndsSo at most client es (before ++ line ∷ []) e → BeginsLine line whole part → FailsSo at most client es (before ++ whole) part
-  last_fails es before line whole part e ends begins =
-      inl (record { end = e; before = before; line = line; ends = ends; whole = whole; own_is = refl; begins = begins })
-
-  module _ (told after : SessionTold) (log mid log' : Option (List (List ℕ))) (line : List ℕ) (old : Option LinkedValue) (e : SessionEnd)
-      (t : EndsTurn at most client told after log mid line old e) where
-    -- it was put
-    pub last_put : (new : Option LinkedValue) → log' ≡ with_lines mid (line ∷ []) → TurnDoes at most client told after log log' old new (Some e)
-    last_put new put = record {
-      answers = t.answers;
-      tells = t.tells;
-      leaves = λ es own stands.
-          let x = t.ends es own stands in (
-            x.0 ++ line ∷ [],
-            (
-              put ∙ ap (λ l. with_lines l (line ∷ [])) x.1.0 ∙ lines_both log x.0 (line ∷ []),
-              subst (λ (ls : List (List ℕ)). EndsSo at most client (es ++ t.answers) ls e) (append_assoc own x.0 (line ∷ [])) x.1.1,
-            ),
-          );
-    }
-
-    -- it failed
-    pub last_missed : (part : List ℕ) → MayHaveMore (line ∷ []) mid log' part → MissesTurn at most client told after log log' part old
-    last_missed part may =
-        let w = begins_line line mid log' part may in
-        record {
-          answers = t.answers;
-          tells = t.tells;
-          fails = λ es own stands.
-              let x = t.ends es own stands in (
-                x.0 ++ w.0,
-                (
-                  w.1.0 ∙ ap (λ l. with_lines l w.0) x.1.0 ∙ lines_both log x.0 w.0,
-                  subst (λ (ls : List (List ℕ)). FailsSo at most client (es ++ t.answers) ls part) (append_assoc own x.0 w.0)
-                      (last_fails (es ++ t.answers) (own ++ x.0) line w.0 part e x.1.1 w.1.1),
-                ),
-              );
-        }
-
   -- ---- a line amid a turn
 
   pub write_fails : (met : Endpoint) (m : ℕ) (answers : List Entry) (now : RelayingValue) (own : List (List ℕ)) (part : List ℕ) →
@@ -107,7 +100,7 @@ module _ (at : Listening) (most : ℕ) (client : Endpoint) where
 
     -- a line with which it ends
     pub end_missed : (e : SessionEnd) → EndsSo at most client (before ++ answers) (line ∷ []) e → MissesReach at most client before told after log log' part
-    end_missed e ends = reach_missed (λ whole begins. last_fails (before ++ answers) [] line whole part e ends begins)
+    end_missed e ends = reach_missed (λ whole begins. last_fails at most client (before ++ answers) [] line whole part e ends begins)
 
   module _ (session : ℕ) (list : Option (List LinksEntry)) (after : SessionTold) (log log' : Option (List (List ℕ))) (part : List ℕ) where
     -- the meeting and what came then
@@ -129,12 +122,6 @@ module _ (at : Listening) (most : ℕ) (client : Endpoint) where
       answers = does.answers;
       tells = does.tells;
       fails = λ es own h.
-          let n : (es ≡ []) × (own ≡ []) = subst (λ x. StandsAs at most es own x) none h in (
-            does.lines,
-            (
-              does.added,
-              subst (λ (xs : List Entry). FailsSo at most client (xs ++ does.answers) (own ++ does.lines) part) (sym n.0)
-                  (subst (λ (ls : List (List ℕ)). FailsSo at most client does.answers (ls ++ does.lines) part) (sym n.1) does.fails),
-            ),
-          );
+          let n : (es ≡ []) × (own ≡ []) = subst (λ x. StandsAs at most es own x) none h in
+          (does.lines, (does.added, rw (n.0, n.1) does.fails));
     }

@@ -1,23 +1,28 @@
 -- Sessions in the order of their numbers, and facts of each element of a list.
-use Rattle.std.proofs.Common.{Bool, List, [], arith, refl, true, false, ℕ, ◌++◌, ◌+◌, ◌<◌, ◌≤◌, ◌∷◌, ◌≡◌}
+use Rattle.std.proofs.Common.{List, Option, arith, false, ℕ, ◌++◌, ◌+◌, ◌<◌, ◌≤◌, ◌∷◌, ◌≡◌, []}
 use Rattle.std.specs.Prelude.{◌==◌}
 use Rattle.std.specs.List.{AllByRecursion}
-use Rattle.std.proofs.lemmas.Bool.{eqb-true}
-use Rattle.cf_serve.specs.Phase.{Phase}
+use Rattle.std.proofs.lemmas.Bool.Decides.{nat_tests}
+use Rattle.cf_serve.specs.Phase.{LinkedValue, Phase}
 use Rattle.cf_serve.specs.Table.{IsBetween}
 
 module _ {X : Type 0} where
-  pub all_front : (P : X → Type 0) (xs ys : List X) → AllByRecursion P (xs ++ ys) → AllByRecursion P xs
-  all_front P [] ys h = tt
-  all_front P (x ∷ xs) ys (p, h) = (p, all_front P xs ys h)
-
-  pub all_back : (P : X → Type 0) (xs ys : List X) → AllByRecursion P (xs ++ ys) → AllByRecursion P ys
-  all_back P [] ys h = h
-  all_back P (x ∷ xs) ys (p, h) = all_back P xs ys h
-
   pub all_join : (P : X → Type 0) (xs ys : List X) → AllByRecursion P xs → AllByRecursion P ys → AllByRecursion P (xs ++ ys)
   all_join P [] ys h k = k
   all_join P (x ∷ xs) ys (p, h) k = (p, all_join P xs ys h k)
+
+  -- of one element, of the others, and with another in its place
+  pub all_one : (P : X → Type 0) (xs : List X) (x : X) (ys : List X) → AllByRecursion P (xs ++ x ∷ ys) → P x
+  all_one P [] x ys (p, h) = p
+  all_one P (z ∷ xs) x ys (p, h) = all_one P xs x ys h
+
+  pub all_others : (P : X → Type 0) (xs : List X) (x : X) (ys : List X) → AllByRecursion P (xs ++ x ∷ ys) → AllByRecursion P (xs ++ ys)
+  all_others P [] x ys (p, h) = h
+  all_others P (z ∷ xs) x ys (p, h) = (p, all_others P xs x ys h)
+
+  pub all_with : (P : X → Type 0) (xs : List X) (x : X) (ys : List X) → P x → AllByRecursion P (xs ++ ys) → AllByRecursion P (xs ++ x ∷ ys)
+  all_with P [] x ys p h = (p, h)
+  all_with P (z ∷ xs) x ys p (q, h) = (q, all_with P xs x ys p h)
 
   pub all_map : (P Q : X → Type 0) (xs : List X) → ((x : X) → P x → Q x) → AllByRecursion P xs → AllByRecursion Q xs
   all_map P Q [] f h = tt
@@ -28,18 +33,11 @@ module _ {X : Type 0} where
   all_zip P Q R (x ∷ xs) f (p, h) (q, k) = (f x p q, all_zip P Q R xs f h k)
 
 -- two numbers that differ
-differ : (a b : ℕ) → (a ≡ b → ⊥) → (t : Bool) → (a == b) ≡ t → t ≡ false
-differ a b n true e = absurd (n (eqb-true a b e))
-differ a b n false e = refl
-
-pub differs : (a b : ℕ) → (a ≡ b → ⊥) → (a == b) ≡ false
-differs a b n = differ a b n (a == b) refl
-
 pub above : (a b : ℕ) → b < a → (a == b) ≡ false
-above a b h = differs a b (λ e. omega (arith, h, e))
+above a b h = grind (arith, nat_tests)
 
 pub below : (a b : ℕ) → a < b → (a == b) ≡ false
-below a b h = differs a b (λ e. omega (arith, h, e))
+below a b h = grind (arith, nat_tests)
 
 abbrev IsWithin : (low high : ℕ) → Phase → Type 0
 IsWithin low high p = (low ≤ p.seat.session) × (p.seat.session < high)
@@ -62,35 +60,28 @@ members low high (p ∷ ps) (l, b) =
     let top : p.seat.session + 1 ≤ high = bounds (p.seat.session + 1) high ps b in
     ((l, omega (arith, top)), all_map (IsWithin (p.seat.session + 1) high) (IsWithin low high) ps (λ q h. (omega (arith, l, h.0), h.1)) (members (p.seat.session + 1) high ps b))
 
--- what stands before a session, and what behind it
-pub before_it : (low high : ℕ) (before : List Phase) (p : Phase) (after : List Phase) → IsBetween low high (before ++ p ∷ after) → IsBetween low p.seat.session before
-before_it low high [] p after (l, b) = l
-before_it low high (q ∷ before) p after (l, b) = (l, before_it (q.seat.session + 1) high before p after b)
+-- a session among others: as another, or gone
+pub with_it : (low high : ℕ) (before : List Phase) (p : Phase) (new : Option LinkedValue) (after : List Phase) → IsBetween low high (before ++ p ∷ after) →
+    IsBetween low high (before ++ record { seat = p.seat; linked = new } ∷ after)
+with_it low high [] p new after b = b
+with_it low high (q ∷ before) p new after (l, b) = (l, with_it (q.seat.session + 1) high before p new after b)
 
-pub after_it : (low high : ℕ) (before : List Phase) (p : Phase) (after : List Phase) → IsBetween low high (before ++ p ∷ after) → IsBetween (p.seat.session + 1) high after
-after_it low high [] p after (l, b) = b
-after_it low high (q ∷ before) p after (l, b) = after_it (q.seat.session + 1) high before p after b
+pub without_it : (low high : ℕ) (before : List Phase) (p : Phase) (after : List Phase) → IsBetween low high (before ++ p ∷ after) → IsBetween low high (before ++ after)
+without_it low high [] p after (l, b) = lower (p.seat.session + 1) low high after (omega (arith, l)) b
+without_it low high (q ∷ before) p after (l, b) = (l, without_it (q.seat.session + 1) high before p after b)
 
-pub without_it : (low mid high : ℕ) (before after : List Phase) → IsBetween low mid before → IsBetween (mid + 1) high after → IsBetween low high (before ++ after)
-without_it low mid high [] after b c = lower (mid + 1) low high after (omega (arith, b)) c
-without_it low mid high (q ∷ before) after (l, b) c = (l, without_it (q.seat.session + 1) mid high before after b c)
-
-pub with_it : (low high : ℕ) (before : List Phase) (p : Phase) (after : List Phase) → IsBetween low p.seat.session before → IsBetween (p.seat.session + 1) high after →
-    IsBetween low high (before ++ p ∷ after)
-with_it low high [] p after b c = (b, c)
-with_it low high (q ∷ before) p after (l, b) c = (l, with_it (q.seat.session + 1) high before p after b c)
+pub number_within : (low high : ℕ) (before : List Phase) (p : Phase) (after : List Phase) → IsBetween low high (before ++ p ∷ after) → (low ≤ p.seat.session) × (p.seat.session < high)
+number_within low high [] p after (l, b) = let top : p.seat.session + 1 ≤ high = bounds (p.seat.session + 1) high after b in (l, omega (arith, top))
+number_within low high (q ∷ before) p after (l, b) = let h = number_within (q.seat.session + 1) high before p after b in (omega (arith, l, h.0), h.1)
 
 -- every other session has another number
-pub others_before : (low : ℕ) (p : Phase) (before : List Phase) → IsBetween low p.seat.session before →
-    AllByRecursion (λ (q : Phase). (p.seat.session == q.seat.session) ≡ false) before
-others_before low p before b = all_map (IsWithin low p.seat.session) (λ (q : Phase). (p.seat.session == q.seat.session) ≡ false) before
-    (λ q h. above p.seat.session q.seat.session h.1) (members low p.seat.session before b)
-
 pub others_after : (high : ℕ) (p : Phase) (after : List Phase) → IsBetween (p.seat.session + 1) high after →
     AllByRecursion (λ (q : Phase). (p.seat.session == q.seat.session) ≡ false) after
 others_after high p after b = all_map (IsWithin (p.seat.session + 1) high) (λ (q : Phase). (p.seat.session == q.seat.session) ≡ false) after
     (λ q h. below p.seat.session q.seat.session (omega (arith, h.0))) (members (p.seat.session + 1) high after b)
 
-pub number_below : (low high : ℕ) (before : List Phase) (p : Phase) (after : List Phase) → IsBetween low high (before ++ p ∷ after) → p.seat.session < high
-number_below low high [] p after (l, b) = let top : p.seat.session + 1 ≤ high = bounds (p.seat.session + 1) high after b in omega (arith, top)
-number_below low high (q ∷ before) p after (l, b) = number_below (q.seat.session + 1) high before p after b
+pub others : (low high : ℕ) (before : List Phase) (p : Phase) (after : List Phase) → IsBetween low high (before ++ p ∷ after) →
+    AllByRecursion (λ (q : Phase). (p.seat.session == q.seat.session) ≡ false) (before ++ after)
+others low high [] p after (l, b) = others_after high p after b
+others low high (q ∷ before) p after (l, b) =
+    (above p.seat.session q.seat.session (omega (arith, (number_within (q.seat.session + 1) high before p after b).0)), others (q.seat.session + 1) high before p after b)

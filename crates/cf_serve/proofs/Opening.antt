@@ -1,5 +1,5 @@
 -- The places that were opened, one after the other.
-use Rattle.std.proofs.Common.{List, Option, Some, [], ap, arith, inl, length, refl, sym, ℕ, ◌++◌, ◌+◌, ◌∙◌, ◌∷◌, ◌≡◌}
+use Rattle.std.proofs.Common.{List, Option, Some, ap, arith, inl, length, refl, sym, ℕ, ◌++◌, ◌+◌, ◌∙◌, ◌∷◌, ◌≡◌, []}
 use Rattle.std.specs.Prelude.{option_map, slice_get}
 use Rattle.std.proofs.lemmas.List.{length-append}
 use Rattle.std.proofs.lemmas.Option.{same_Some}
@@ -7,7 +7,7 @@ use Rattle.cf_audit.specs.Line.{Listen}
 use Rattle.cf_lane.specs.Handled.{MayHaveMore}
 use Rattle.cf_lane.specs.Log.{line_about, with_lines}
 use Rattle.cf_links.specs.Links.{LinksEntry, Opened}
-use Rattle.cf_relay.proofs.Lined.{lines_both, lines_none}
+use Rattle.cf_relay.proofs.Lined.{lines_none}
 use Rattle.cf_serve.proofs.Missing.{begins_line}
 use Rattle.cf_serve.proofs.Rounding.{more_none, more_twice}
 use Rattle.cf_serve.specs.Broken.{Breaks}
@@ -38,17 +38,21 @@ opens_none places told log = record {
   added = lines_none log ∙ ap (with_lines log) (sym (no_lines places));
 }
 
+-- one more was told
+told_opened : (n m : ℕ) (ms : List ℕ) (told told1 told2 : Option (List LinksEntry)) → length ms ≡ n → told1 ≡ option_map (λ es. es ++ opened_from 0 ms) told →
+    told2 ≡ option_map (λ es. es ++ Opened n m ∷ []) told1 → told2 ≡ option_map (λ es. es ++ opened_from 0 (ms ++ m ∷ [])) told
+told_opened n m ms told told1 told2 all o e =
+    e ∙ ap (option_map (λ es. es ++ Opened n m ∷ [])) o ∙ more_twice told (opened_from 0 ms) (Opened n m ∷ [])
+    ∙ ap (λ (xs : List LinksEntry). option_map (λ es. es ++ xs) told) (ap (λ k. opened_from 0 ms ++ Opened k m ∷ []) (sym all ∙ omega arith) ∙ sym (opened_more 0 ms m))
+
 pub opens_more : (places : List Place) (n : ℕ) (told told1 told2 : Option (List LinksEntry)) (log log1 log2 : Option (List (List ℕ))) (m : ℕ) (p : Place) →
     slice_get places n ≡ Some p → OpensDo places n told told1 log log1 → told2 ≡ option_map (λ es. es ++ Opened n m ∷ []) told1 →
     log2 ≡ with_lines log1 (line_about p.asset.now p.at m Listen ∷ []) → OpensDo places (n + 1) told told2 log log2
 opens_more places n told told1 told2 log log1 log2 m p at o e f = record {
   moments = o.moments ++ m ∷ [];
   all = length-append o.moments (m ∷ []) ∙ ap (λ k. k + 1) o.all;
-  tells = e ∙ ap (option_map (λ es. es ++ Opened n m ∷ [])) o.tells ∙ more_twice told (opened_from 0 o.moments) (Opened n m ∷ [])
-      ∙ ap (λ (xs : List LinksEntry). option_map (λ es. es ++ xs) told)
-      (ap (λ k. opened_from 0 o.moments ++ Opened k m ∷ []) (sym o.all ∙ omega arith) ∙ sym (opened_more 0 o.moments m));
-  added = f ∙ ap (λ l. with_lines l (line_about p.asset.now p.at m Listen ∷ [])) o.added ∙ lines_both log (listen_lines places o.moments) (line_about p.asset.now p.at m Listen ∷ [])
-      ∙ ap (with_lines log) (sym (lines_more places o.moments m p (ap (slice_get places) o.all ∙ at)));
+  tells = told_opened n m o.moments told told1 told2 o.all o.tells e;
+  added = simp (f, o.added, more_twice, lines_more places o.moments m p (ap (slice_get places) o.all ∙ at));
 }
 
 -- the line of a place failed
@@ -61,11 +65,9 @@ opens_missed places most n told told1 told2 log log1 log2 part m p at o e may =
       (
         listen_lines places o.moments ++ w.0,
         (
-          e ∙ ap (option_map (λ es. es ++ Opened n m ∷ [])) o.tells ∙ more_twice told (opened_from 0 o.moments) (Opened n m ∷ [])
-              ∙ ap (λ (xs : List LinksEntry). option_map (λ es. es ++ xs) told)
-              (ap (λ k. opened_from 0 o.moments ++ Opened k m ∷ []) (sym o.all ∙ omega arith) ∙ sym (opened_more 0 o.moments m)),
+          told_opened n m o.moments told told1 told2 o.all o.tells e,
           (
-            w.1.0 ∙ ap (λ l. with_lines l w.0) o.added ∙ lines_both log (listen_lines places o.moments) w.0,
+            simp (w.1.0, o.added, more_twice),
             inl (record {
               moments = o.moments;
               place = p;

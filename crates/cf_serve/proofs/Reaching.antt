@@ -1,13 +1,14 @@
 -- What comes of asking for the controller of a session.
-use Rattle.std.proofs.Common.{Err, List, None, Ok, Option, Result, Some, [], ap, refl, subst, sym, ℕ, ◌++◌, ◌<◌, ◌∙◌, ◌∷◌, ◌≡◌}
+use Rattle.std.proofs.Common.{Err, List, None, Ok, Option, Result, Some, ap, refl, subst, ℕ, ◌<◌, ◌∙◌, ◌∷◌, ◌≡◌, []}
 use Rattle.std.specs.Prelude.{IfOk}
-use Rattle.std.proofs.lemmas.List.{append-nil, append_assoc}
+use Rattle.std.proofs.lemmas.List.{append_assoc}
 use Rattle.cf_links.specs.Links.{LinksEntry, Of, SessionTold, with_answers, with_entry}
 use Rattle.cf_outside.specs.Pair.{Entry, met_at}
 use Rattle.cf_relay.proofs.Starting.{empty_judged, relayed_met}
+use Rattle.cf_serve.proofs.Rounding.{more_none}
 use Rattle.cf_view.specs.declared.Endpoint.{Endpoint}
 use Rattle.cf_view.specs.declared.WriteFault.{WriteFault}
-use Rattle.cf_serve.specs.Phase.{LinkedValue, ReachDoes, StandsAs, TurnDoes}
+use Rattle.cf_serve.specs.Phase.{LinkedValue, ReachDoes, ReachLeaves, StandsAs, TurnDoes}
 use Rattle.cf_serve.specs.Session.{EndsSo, Listening, lost_line}
 use Rattle.cf_serve.specs.declared.end.SessionEnd.{SessionEnd}
 use Rattle.cf_serve.specs.declared.end.SessionEnd.TheVariants as end
@@ -19,8 +20,7 @@ told_as session list = record { session = session; list = list }
 
 -- nothing was told
 pub told_none : (session : ℕ) (list : Option (List LinksEntry)) → told_as session list ≡ with_answers (told_as session list) []
-told_none session None = refl
-told_none session (Some es) = ap (λ xs. told_as session (Some xs)) (sym (append-nil es))
+told_none session list = ap (told_as session) (more_none list)
 
 -- one answer and then more
 pub told_more : (session : ℕ) (list : Option (List LinksEntry)) (x : Entry) (xs : List Entry) →
@@ -58,26 +58,13 @@ module _ (at : Listening) (most : ℕ) (client : Endpoint) where
     }
     met_then mid x (Err e) is does = tt
 
-    at_none : (o : Option LinkedValue) → o ≡ None → (es : List Entry) (own : List (List ℕ)) → StandsAs at most es own o → (es ≡ []) × (own ≡ [])
-    at_none o none es own h = subst (λ x. StandsAs at most es own x) none h
-
     -- an end before the first turn
-    by_end : (o : Option LinkedValue) (e : SessionEnd) → o ≡ None →
-        ReachDoes at most client [] (told_as session list) after log log' (reached.Ended e) → TurnDoes at most client (told_as session list) after log log' o o (Some e)
-    by_end o e none does = record {
+    pub ended_turn : (o : Option LinkedValue) (v : Reached) (e : SessionEnd) → o ≡ None → v ≡ reached.Ended e →
+        ReachDoes at most client [] (told_as session list) after log log' v → TurnDoes at most client (told_as session list) after log log' o o (Some e)
+    ended_turn o v e none is does = record {
       answers = does.answers;
       tells = does.tells;
       leaves = λ es own h.
-          let n : (es ≡ []) × (own ≡ []) = at_none o none es own h in (
-            does.lines,
-            (
-              does.added,
-              subst (λ (xs : List Entry). EndsSo at most client (xs ++ does.answers) (own ++ does.lines) e) (sym n.0)
-                  (subst (λ (ls : List (List ℕ)). EndsSo at most client does.answers (ls ++ does.lines) e) (sym n.1) does.leaves),
-            ),
-          );
+          let n : (es ≡ []) × (own ≡ []) = subst (λ x. StandsAs at most es own x) none h in
+          (does.lines, (does.added, rw (n.0, n.1) (subst (λ x. ReachLeaves at most client does.answers does.lines x) is does.leaves)));
     }
-
-    pub ended_turn : (o : Option LinkedValue) (v : Reached) (e : SessionEnd) → o ≡ None → v ≡ reached.Ended e →
-        ReachDoes at most client [] (told_as session list) after log log' v → TurnDoes at most client (told_as session list) after log log' o o (Some e)
-    ended_turn o v e none is does = by_end o e none (subst (λ x. ReachDoes at most client [] (told_as session list) after log log' x) is does)

@@ -1,5 +1,5 @@
 -- The turns of a round, one after the other.
-use Rattle.std.proofs.Common.{Bool, List, None, Option, Some, [], ap, arith, length, map, refl, subst, sym, true, false, ℕ, ◌++◌, ◌+◌}
+use Rattle.std.proofs.Common.{Bool, List, None, Option, Some, ap, arith, length, map, refl, subst, sym, true, false, ℕ, ◌++◌, ◌+◌, []}
 use Rattle.std.proofs.Common.{◌<◌, ◌≤◌, ◌∙◌, ◌∷◌, ◌≡◌, if◌then◌else◌}
 use Rattle.std.specs.Prelude.{option_map, ◌==◌}
 use Rattle.std.specs.List.{flat_map}
@@ -7,13 +7,12 @@ use Rattle.std.proofs.lemmas.Grind.{flat_map-append}
 use Rattle.std.proofs.lemmas.List.{append-nil, append_assoc, map-append, length-append}
 use Rattle.std.proofs.Math.Seq.{drop-append_seam, take-append_seam}
 use Rattle.std.specs.Prelude.{drop, take}
-use Rattle.cf_lane.specs.Log.{with_lines}
 use Rattle.cf_links.specs.Links.{Left, LinksEntry, LinksPlace}
 use Rattle.cf_links.specs.Service.{LosesSession}
-use Rattle.cf_relay.proofs.Lined.{lines_both, lines_none}
+use Rattle.cf_relay.proofs.Lined.{lines_none}
 use Rattle.cf_serve.proofs.Numbers.{all_map, all_zip, lower, others_after}
 use Rattle.cf_serve.specs.Phase.{Phase, phase_of}
-use Rattle.cf_serve.specs.Rounds.{AreTurns, Seat, TurnOf, stays, turn_entries}
+use Rattle.cf_serve.specs.Rounds.{AreTurns, Seat, TurnOf}
 use Rattle.cf_serve.specs.Session.{Listening}
 use Rattle.cf_serve.specs.Table.{IsTable, Keeps, MayGo, MayLeave, StepDoes, TurnsBegin, TurnsDo, seats_of}
 use Rattle.cf_serve.specs.Served.{left_of}
@@ -39,12 +38,13 @@ pub turns_join : (ts us : List TurnOf) → AreTurns ts → AreTurns us → AreTu
 turns_join [] us h k = k
 turns_join (t ∷ ts) us (p, h) k = (p, turns_join ts us h k)
 
-pub more_twice : (told : Option (List LinksEntry)) (xs ys : List LinksEntry) →
+-- more of what was told, or of a log
+pub more_twice : {A : Type 0} (told : Option (List A)) (xs ys : List A) →
     option_map (λ es. es ++ ys) (option_map (λ es. es ++ xs) told) ≡ option_map (λ es. es ++ (xs ++ ys)) told
 more_twice None xs ys = refl
 more_twice (Some es) xs ys = ap Some (append_assoc es xs ys)
 
-pub more_none : (told : Option (List LinksEntry)) → told ≡ option_map (λ es. es ++ []) told
+pub more_none : {A : Type 0} (told : Option (List A)) → told ≡ option_map (λ es. es ++ []) told
 more_none None = refl
 more_none (Some es) = ap Some (sym (append-nil es))
 
@@ -101,18 +101,11 @@ module _ (places : List Listening) (most next : ℕ) (past : List TurnOf) (told 
         was = d.is ∙ sym (append_assoc d.before d.left d.after);
         at = length-append d.before d.left ∙ ap (λ n. n + length d.left) d.at ∙ ap (λ n. index + n) d.count;
         turns = b.turns ++ d.turn ∷ [];
-        tells = d.tells ∙ ap (option_map (λ es. es ++ turn_entries d.turn)) b.tells ∙ more_twice told (flat_map turn_entries b.turns) (turn_entries d.turn)
-            ∙ ap (λ (xs : List LinksEntry). option_map (λ es. es ++ xs) told) (sym (flat_one turn_entries b.turns d.turn));
-        added = d.added ∙ ap (λ l. with_lines l d.turn.lines) b.added ∙ lines_both log (flat_map (λ (t : TurnOf). t.lines) b.turns) d.turn.lines
-            ∙ ap (with_lines log) (sym (flat_one (λ (t : TurnOf). t.lines) b.turns d.turn));
-        in_turn = ap (λ (xs : List Seat). xs ++ map (λ (p : Phase). p.seat) d.after) (map-append (λ (t : TurnOf). t.seat) b.turns (d.turn ∷ []))
-            ∙ append_assoc (map (λ (t : TurnOf). t.seat) b.turns) (d.turn.seat ∷ []) (map (λ (p : Phase). p.seat) d.after)
-            ∙ ap (λ (s : Seat). map (λ (t : TurnOf). t.seat) b.turns ++ s ∷ map (λ (p : Phase). p.seat) d.after) d.seat
-            ∙ ap (λ (ps : List Phase). map (λ (t : TurnOf). t.seat) b.turns ++ map (λ (p : Phase). p.seat) ps) (sym back)
-            ∙ b.in_turn;
+        tells = simp (d.tells, b.tells, more_twice, flat_one);
+        added = simp (d.added, b.added, more_twice, flat_one);
+        in_turn = simp (map-append, append_assoc, d.seat) (rw back at b.in_turn);
         each = turns_join b.turns (d.turn ∷ []) b.each (d.is_turn, tt);
-        stay = map-append (λ (p : Phase). p.seat) d.before d.left ∙ ap (λ (xs : List Seat). xs ++ map (λ (p : Phase). p.seat) d.left) (ap (map (λ (p : Phase). p.seat)) (sym front) ∙ b.stay)
-            ∙ ap (λ (xs : List Seat). flat_map stays b.turns ++ xs) d.stay ∙ sym (flat_one stays b.turns d.turn);
+        stay = simp (map-append, d.stay, flat_one, ← b.stay, front);
         keeps = subst (λ p. Keeps places most next p new) (append_assoc past b.turns (d.turn ∷ [])) d.keeps;
       }
 

@@ -1,15 +1,13 @@
 -- Round after round.
-use Rattle.std.proofs.Common.{Err, List, Option, [], ap, refl, subst, sym, ℕ, ◌++◌, ◌+◌, ◌∙◌, ◌∷◌, ◌≡◌}
-use Rattle.std.specs.Prelude.{option_map}
-use Rattle.std.specs.List.{AllByRecursion, flat_map}
+use Rattle.std.proofs.Common.{Err, List, Option, ap, refl, subst, sym, ℕ, ◌++◌, ◌+◌, ◌∙◌, ◌∷◌, ◌≡◌, []}
+use Rattle.std.specs.List.{AllByRecursion}
 use Rattle.std.proofs.lemmas.List.{append-nil, append_assoc, length-append}
-use Rattle.cf_lane.specs.Log.{with_lines}
 use Rattle.cf_links.specs.Links.{LinksEntry}
-use Rattle.cf_relay.proofs.Lined.{lines_both, lines_none}
+use Rattle.cf_relay.proofs.Lined.{lines_none}
 use Rattle.cf_serve.proofs.Rounding.{flat_one, more_none, more_twice}
 use Rattle.cf_serve.specs.Failing.{MissesRound, MissesRounds}
 use Rattle.cf_serve.specs.Phase.{Phase}
-use Rattle.cf_serve.specs.Rounds.{AreRounds, IsRound, Round, Seat, TurnOf, round_entries, round_lines, turns_of}
+use Rattle.cf_serve.specs.Rounds.{AreRounds, IsRound, Round, Seat, TurnOf, turns_of}
 use Rattle.cf_serve.specs.Served.{IfEnded}
 use Rattle.cf_serve.specs.Session.{Listening}
 use Rattle.cf_serve.specs.Table.{IfWhole, Keeps, RoundDoes, RoundsDo, seats_of}
@@ -22,6 +20,9 @@ rounds_more places next standing [] n mid r n' after (p, q) is =
     (n', (after, (subst (λ k. IsRound places k standing r n' after) p (subst (λ (s : List Seat). IsRound places n s r n' after) q is), (refl, refl))))
 rounds_more places next standing (x ∷ rs) n mid r n' after (k, (s, (one, later))) is =
     (k, (s, (one, rounds_more places k s rs n mid r n' after later is)))
+
+turns_behind : (past : List TurnOf) (rs : List Round) (r : Round) → (past ++ turns_of rs) ++ r.turns ≡ past ++ turns_of (rs ++ r ∷ [])
+turns_behind past rs r = simp (append_assoc, flat_one)
 
 module _ (places : List Listening) (most next : ℕ) (past : List TurnOf) (told : Option (List LinksEntry)) (log : Option (List (List ℕ))) (old : List Phase) where
   pub rounds_none : Keeps places most next past old → RoundsDo places most next next 0 past told told log log old old
@@ -43,13 +44,10 @@ module _ (places : List Listening) (most next : ℕ) (past : List TurnOf) (told 
       record {
         rounds = a.rounds ++ b.round ∷ [];
         count = length-append a.rounds (b.round ∷ []) ∙ ap (λ n. n + 1) a.count;
-        tells = b.tells ∙ ap (option_map (λ es. es ++ round_entries b.round)) a.tells ∙ more_twice told (flat_map round_entries a.rounds) (round_entries b.round)
-            ∙ ap (λ (xs : List LinksEntry). option_map (λ es. es ++ xs) told) (sym (flat_one round_entries a.rounds b.round));
-        added = b.added ∙ ap (λ l. with_lines l (round_lines b.round)) a.added ∙ lines_both log (flat_map round_lines a.rounds) (round_lines b.round)
-            ∙ ap (with_lines log) (sym (flat_one round_lines a.rounds b.round));
+        tells = simp (b.tells, a.tells, more_twice, flat_one);
+        added = simp (b.added, a.added, more_twice, flat_one);
         in_turn = rounds_more places next (seats_of old) a.rounds next1 (seats_of mid) b.round next2 (seats_of new) a.in_turn b.is_round;
-        keeps = subst (λ (p : List TurnOf). Keeps places most next2 p new)
-            (append_assoc past (turns_of a.rounds) b.round.turns ∙ ap (λ (xs : List TurnOf). past ++ xs) (sym (flat_one (λ (r : Round). r.turns) a.rounds b.round))) b.keeps;
+        keeps = subst (λ (p : List TurnOf). Keeps places most next2 p new) (turns_behind past a.rounds b.round) b.keeps;
       }
 
   -- a line failed in the round behind them
@@ -63,12 +61,9 @@ module _ (places : List Listening) (most next : ℕ) (past : List TurnOf) (told 
         rounds = a.rounds;
         count = a.count;
         round = b.round;
-        tells = b.tells ∙ ap (option_map (λ es. es ++ round_entries b.round)) a.tells ∙ more_twice told (flat_map round_entries a.rounds) (round_entries b.round)
-            ∙ ap (λ (xs : List LinksEntry). option_map (λ es. es ++ xs) told) (sym (flat_one round_entries a.rounds b.round));
-        added = b.added ∙ ap (λ l. with_lines l (round_lines b.round)) a.added ∙ lines_both log (flat_map round_lines a.rounds) (round_lines b.round)
-            ∙ ap (with_lines log) (sym (flat_one round_lines a.rounds b.round));
-        ended = subst (λ (p : List TurnOf). AllByRecursion (λ (t : TurnOf). IfEnded places most p t t.end) p)
-            (append_assoc past (turns_of a.rounds) b.round.turns ∙ ap (λ (xs : List TurnOf). past ++ xs) (sym (flat_one (λ (r : Round). r.turns) a.rounds b.round))) b.ended;
+        tells = simp (b.tells, a.tells, more_twice, flat_one);
+        added = simp (b.added, a.added, more_twice, flat_one);
+        ended = subst (λ (p : List TurnOf). AllByRecursion (λ (t : TurnOf). IfEnded places most p t t.end) p) (turns_behind past a.rounds b.round) b.ended;
         mid = next1;
         standing = seats_of mid;
         in_turn = a.in_turn;

@@ -1,19 +1,17 @@
 -- What a service did, from its rounds.
-use Rattle.std.proofs.Common.{Bool, List, None, Option, Some, [], ap, arith, length, map, inl, inr, refl, subst, sym, true, false, ℕ}
+use Rattle.std.proofs.Common.{Bool, List, None, Option, Some, ap, arith, length, map, inl, inr, refl, subst, sym, true, false, ℕ, []}
 use Rattle.std.proofs.Common.{◌++◌, ◌+◌, ◌∙◌, ◌∷◌, ◌≡◌, if◌then◌else◌}
 use Rattle.std.specs.Prelude.{Err, Ok, Result, option_map, ◌==◌}
 use Rattle.std.specs.List.{AllByRecursion, flat_map}
 use Rattle.std.proofs.lemmas.Grind.{flat_map-append}
 use Rattle.std.proofs.lemmas.List.{append-nil, append_assoc}
-use Rattle.cf_lane.specs.Log.{with_lines}
+use Rattle.std.proofs.lemmas.Option.{same_Some}
 use Rattle.cf_links.proofs.Projection.{answers_more}
 use Rattle.cf_links.specs.Links.{LinksEntry, Of, Ready, answers_of}
 use Rattle.cf_outside.specs.Pair.{Entry}
-use Rattle.cf_relay.proofs.Lined.{lines_both}
-use Rattle.cf_serve.proofs.Leaving.{positive}
+use Rattle.cf_relay.proofs.Turned.{turned_stands}
 use Rattle.cf_serve.proofs.Numbers.{all_map, all_zip}
 use Rattle.cf_serve.proofs.Rounding.{flat_one, more_twice}
-use Rattle.cf_serve.proofs.Turning.{stands_so}
 use Rattle.cf_serve.specs.Phase.{LinkedValue, MayTurn, Phase, StandsAs, listenings}
 use Rattle.cf_serve.specs.Rounds.{AreRounds, AreTurns, Arrival, IsTurn, Round, Seat, TurnOf, answers_in, arrival_entries, left_by}
 use Rattle.cf_serve.specs.Rounds.{round_entries, round_lines, turn_entries, turns_of}
@@ -90,15 +88,15 @@ module _ (k : ℕ) where
   of_all_left [] = refl
   of_all_left (s ∷ ss) = of_all_left ss
 
+  own_of_whole : (ms : List ℕ) (es : List LinksEntry) (ss : List Seat) → answers_of k (opened_from 0 ms ++ (es ++ left_of ss)) ≡ answers_of k es
+  own_of_whole ms es ss =
+      answers_more k (opened_from 0 ms) (es ++ left_of ss) ∙ ap (λ xs. xs ++ answers_of k (es ++ left_of ss)) (of_opened 0 ms)
+      ∙ answers_more k es (left_of ss) ∙ ap (λ xs. answers_of k es ++ xs) (of_all_left ss) ∙ append-nil (answers_of k es)
+
   pub own_of_broken : (places : List Listening) (ms : List ℕ) (rs : List Round) (n : ℕ) (standing ss : List Seat) (r : Round) → AreRounds places 0 [] rs n standing →
       AreTurns r.turns → answers_of k (opened_from 0 ms ++ (flat_map round_entries (rs ++ r ∷ []) ++ left_of ss)) ≡ answers_in k (turns_of (rs ++ r ∷ []))
   own_of_broken places ms rs n standing ss r are turns =
-      answers_more k (opened_from 0 ms) (flat_map round_entries (rs ++ r ∷ []) ++ left_of ss)
-      ∙ ap (λ xs. xs ++ answers_of k (flat_map round_entries (rs ++ r ∷ []) ++ left_of ss)) (of_opened 0 ms)
-      ∙ answers_more k (flat_map round_entries (rs ++ r ∷ [])) (left_of ss)
-      ∙ ap (λ xs. answers_of k (flat_map round_entries (rs ++ r ∷ [])) ++ xs) (of_all_left ss)
-      ∙ append-nil (answers_of k (flat_map round_entries (rs ++ r ∷ [])))
-      ∙ ap (answers_of k) (flat_one round_entries rs r)
+      own_of_whole ms (flat_map round_entries (rs ++ r ∷ [])) ss ∙ ap (answers_of k) (flat_one round_entries rs r)
       ∙ answers_more k (flat_map round_entries rs) (round_entries r)
       ∙ ap (λ xs. xs ++ answers_of k (round_entries r)) (of_rounds places 0 [] rs n standing are)
       ∙ ap (λ xs. answers_in k (turns_of rs) ++ xs) (of_round r turns)
@@ -107,21 +105,15 @@ module _ (k : ℕ) where
 
   pub own_of_all : (places : List Listening) (ms : List ℕ) (rs : List Round) (n : ℕ) (standing ss : List Seat) → AreRounds places 0 [] rs n standing →
       answers_of k (opened_from 0 ms ++ (flat_map round_entries rs ++ left_of ss)) ≡ answers_in k (turns_of rs)
-  own_of_all places ms rs n standing ss are =
-      answers_more k (opened_from 0 ms) (flat_map round_entries rs ++ left_of ss)
-      ∙ ap (λ xs. xs ++ answers_of k (flat_map round_entries rs ++ left_of ss)) (of_opened 0 ms)
-      ∙ answers_more k (flat_map round_entries rs) (left_of ss)
-      ∙ ap (λ xs. answers_of k (flat_map round_entries rs) ++ xs) (of_all_left ss)
-      ∙ append-nil (answers_of k (flat_map round_entries rs))
-      ∙ of_rounds places 0 [] rs n standing are
+  own_of_all places ms rs n standing ss are = own_of_whole ms (flat_map round_entries rs) ss ∙ of_rounds places 0 [] rs n standing are
 
 -- ---- what stands, and what ended
 
 stands_session : (at : Listening) (most : ℕ) (es : List Entry) (own : List (List ℕ)) (o : Option LinkedValue) → StandsAs at most es own o → MayTurn at most o → StandsSo at most es own
 stands_session at most es own None h may = inl h
 stands_session at most es own (Some v) h may =
-    subst (λ (xs : List Entry). StandsSo at most xs own) (sym h.split)
-    (stands_so at most (positive v.now.idle most may.0.few) v.met h.moment h.answers v.now own h.stands h.count h.does may.0.few)
+    let t = turned_stands at.asset at.port most v.met h.moment (Some []) h.answers v.now (Some own) (record { count = h.count; does = h.does; stands = h.stands; few = may.0.few }) in
+    subst (λ (xs : List Entry). StandsSo at most xs own) (sym h.split) (inr (h.count, (t.0, (t.1.0, same_Some _ _ t.1.1))))
 
 pub all_seats : (P : Seat → Type 0) (ps : List Phase) → AllByRecursion (λ (p : Phase). P p.seat) ps → AllByRecursion P (seats_of ps)
 all_seats P [] h = tt
@@ -155,9 +147,9 @@ module _ (places : List Place) (most : ℕ) (told told1 : Option (List LinksEntr
     (
       listen_lines places o.moments ++ [],
       (
-        o.tells ∙ ap (λ (xs : List LinksEntry). option_map (λ es. es ++ xs) told) (sym (append-nil (opened_from 0 o.moments))),
+        simp (o.tells, append-nil),
         (
-          o.added ∙ ap (with_lines log) (sym (append-nil (listen_lines places o.moments))),
+          simp (o.added, append-nil),
           (
             record {
               moments = o.moments;
@@ -188,12 +180,9 @@ module _ (places : List Place) (most : ℕ) (told told1 : Option (List LinksEntr
     (
       listen_lines places o.moments ++ flat_map round_lines r.rounds,
       (
-        left ∙ ap (option_map (λ es. es ++ left_of (seats_of ps))) (r.tells ∙ ap (option_map (λ es. es ++ flat_map round_entries r.rounds)) o.tells
-            ∙ more_twice told (opened_from 0 o.moments) (flat_map round_entries r.rounds))
-            ∙ more_twice told (opened_from 0 o.moments ++ flat_map round_entries r.rounds) (left_of (seats_of ps))
-            ∙ ap (λ (xs : List LinksEntry). option_map (λ es. es ++ xs) told) (append_assoc (opened_from 0 o.moments) (flat_map round_entries r.rounds) (left_of (seats_of ps))),
+        simp (left, r.tells, o.tells, more_twice, append_assoc),
         (
-          r.added ∙ ap (λ l. with_lines l (flat_map round_lines r.rounds)) o.added ∙ lines_both log (listen_lines places o.moments) (flat_map round_lines r.rounds),
+          simp (r.added, o.added, more_twice),
           (
             record {
               moments = o.moments;

@@ -1,4 +1,4 @@
-use Rattle.std.proofs.Common.{[], Some, refl, ◌∙◌, ◌∷◌}
+use Rattle.std.proofs.Common.{Some, refl, ◌∙◌, ◌∷◌, []}
 use Rattle.cf_audit.specs.Line.{Begun, Lost, NoMemory}
 use Rattle.cf_lane.specs.Log.{line_about}
 use Rattle.cf_links.specs.LinkValue.{told_of}

@@ -1,4 +1,4 @@
-use Rattle.std.proofs.Common.{[], refl, ◌∙◌}
+use Rattle.std.proofs.Common.{refl, ◌∙◌, []}
 use Rattle.cf_audit.specs.Line.{Unreached}
 use Rattle.cf_lane.specs.Log.{line_about}
 use Rattle.cf_outside.specs.Pair.{met_at}

@@ -1,4 +1,4 @@
-use Rattle.std.proofs.Common.{ap, arith, drop, length, map, subst, sym, take, ◌++◌, ◌<◌, ◌∙◌, ◌∷◌, ◌≡◌, [], ◌+◌}
+use Rattle.std.proofs.Common.{ap, arith, drop, length, map, subst, sym, take, ◌++◌, ◌<◌, ◌∙◌, ◌∷◌, ◌≡◌, ◌+◌, []}
 use Rattle.std.specs.Prelude.{option_map}
 use Rattle.std.proofs.Math.ListN.{get_or}
 use Rattle.std.proofs.lemmas.List.{drop_more, take_more}
