@@ -1,18 +1,15 @@
 -- Lists of corners: how they come about, and how many there are.
-use Rattle.std.proofs.Common.{◌≡◌, ◌+◌, ◌*◌, ◌<◌, ◌≤◌, ℤ, pos, ◌+ℤ◌, ◌<ℤ◌, Bool, true, false, cond, ◌||◌, List, [], ◌∷◌, ◌++◌, map, length, refl, sym, ap, subst, ◌∙◌, arith, append_assoc}
+use Rattle.std.proofs.Common.{◌≡◌, ◌+◌, ◌*◌, ◌≤◌, ℤ, pos, ◌+ℤ◌, Bool, true, false, List, [], ◌∷◌, ◌++◌, map, length, refl, sym, ap, subst, ◌∙◌, arith, append_assoc}
 use Rattle.std.specs.Prelude.{filter, flat_map, Contains, IsPermutation, IsSorted, Decides}
 use Rattle.std.specs.Set.{is_member}
 use Rattle.std.specs.List.{dedup}
 use Rattle.std.specs.List.Sorted.{IsStrictlySortedBy}
 use Rattle.std.specs.Ordering.{int_eq, int_cmp, eq_by_cmp}
 use Rattle.std.specs.Cmp.{both_ways, int_ranks}
-use Rattle.std.specs.Ordering.{MatchOrdering, is_eq}
-use Rattle.std.specs.declared.cmp.Ordering.{Ordering}
-use Rattle.std.specs.declared.cmp.Ordering.TheVariants.{Less, Equal, Greater}
 use Rattle.std.proofs.lemmas.Int.{ints}
 use Rattle.std.proofs.lemmas.Cmp.{int_cmp_total, int_eq_equiv}
-use Rattle.std.proofs.lemmas.Bool.{false≢true}
-use Rattle.std.proofs.lemmas.Bool.Decides.{Decides-int_eq, same_from_decides}
+use Rattle.std.proofs.lemmas.Bool.{false≢true, or_left}
+use Rattle.std.proofs.lemmas.Bool.Decides.{Decides-int_eq, nat_tests}
 use Rattle.std.proofs.lemmas.List.Elements.{filter-append}
 use Rattle.std.proofs.lemmas.List.Folds.{flat_map-map}
 use Rattle.std.proofs.lemmas.List.Kept.{IsStrictlySortedBy-dedup, Contains-dedup, Contains-from_dedup}
@@ -50,20 +47,11 @@ gathered axis ours other one two three e f g =
     let p = is_on axis in
     let mine = flat_map turns (stated_spans axis ours) in
     let theirs = flat_map turns (stated_spans axis other) in
-    let both : flat_map turns (stated_spans axis (ours ++ other)) ≡ mine ++ theirs =
-    ap (flat_map turns) (flat_map-append (axis_spans axis) ours other) ∙ flat_map-append turns (stated_spans axis ours) (stated_spans axis other) in
-    g ∙ (ap (λ l. l ++ filter p theirs) (f ∙ ap (λ l. l ++ filter p mine) e)
-    ∙ (append_assoc (filter p (lowest axis ∷ [])) (filter p mine) (filter p theirs)
-    ∙ (ap (λ l. filter p (lowest axis ∷ []) ++ l) (sym (filter-append p mine theirs))
-    ∙ (sym (filter-append p (lowest axis ∷ []) (mine ++ theirs)) ∙ ap (λ l. filter p (lowest axis ∷ l)) (sym both)))))
+    rw (g, f, e, flat_map-append (axis_spans axis) ours other, flat_map-append turns (stated_spans axis ours) (stated_spans axis other), filter-append p (lowest axis ∷ []) (mine ++ theirs), filter-append p mine theirs)
+    (append_assoc (filter p (lowest axis ∷ [])) (filter p mine) (filter p theirs))
 
 int_ties : (x y : ℤ) → int_eq x y ≡ eq_by_cmp int_cmp x y
-int_ties x y = same_from_decides (int_eq x y) (eq_by_cmp int_cmp x y) (Decides-int_eq x y) (by x y (int_cmp x y) (int_ranks x y))
-  where
-    by : (x y : ℤ) (o : Ordering) → MatchOrdering o (x <ℤ y) (x ≡ y) (y <ℤ x) → Decides (is_eq o) (x ≡ y)
-    by x y Less h = (λ e. absurd (false≢true e), λ e. absurd (omega (arith, ints, h, e)))
-    by x y Equal h = (λ e. h, λ e. refl)
-    by x y Greater h = (λ e. absurd (false≢true e), λ e. absurd (omega (arith, ints, h, e)))
+int_ties x y = let ranks = int_ranks x y in let tells = Decides-int_eq x y in grind (arith, ints, nat_tests)
 
 -- equal by the test
 pub int_same : (x y : ℤ) → int_eq x y ≡ true → x ≡ y
@@ -89,30 +77,25 @@ lowest_on Groups = refl
 lowest_on Points = refl
 lowest_on Values = refl
 
-int_eq_self : (n : ℤ) → int_eq n n ≡ true
+pub int_eq_self : (n : ℤ) → int_eq n n ≡ true
 int_eq_self n = (Decides-int_eq n n).1 refl
 
 -- it is a corner
 pub lowest_in : (axis : Axis) (spans : List Span) → is_member int_eq (corner_numbers axis spans) (lowest axis) ≡ true
-lowest_in axis spans =
-    ap (λ b. is_member int_eq (cond b (lowest axis ∷ filter (is_on axis) (flat_map turns spans)) (filter (is_on axis) (flat_map turns spans))) (lowest axis)) (lowest_on axis)
-    ∙ ap (λ b. b || is_member int_eq (filter (is_on axis) (flat_map turns spans)) (lowest axis)) (int_eq_self (lowest axis))
+lowest_in axis spans = rw (lowest_on axis) (or_left (int_eq (lowest axis) (lowest axis)) _ (int_eq_self (lowest axis)))
 
-IsDistinct-from_tied : (l : List ℤ) → IsDistinct (eq_by_cmp int_cmp) l → IsDistinct int_eq l
+distinct_ints : (l : List ℤ) → IsDistinct (eq_by_cmp int_cmp) l → IsDistinct int_eq l
 unfolding IsDistinct
-IsDistinct-from_tied [] h = h
-IsDistinct-from_tied (x ∷ l) h = (apart x l h.0, IsDistinct-from_tied l h.1)
+distinct_ints [] h = h
+distinct_ints (x ∷ l) h = (apart l h.0, distinct_ints l h.1)
   where
-    apart : (x : ℤ) (l : List ℤ) → AllByRecursion (λ y. eq_by_cmp int_cmp x y ≡ false) l → AllByRecursion (λ y. int_eq x y ≡ false) l
-    apart x [] h = h
-    apart x (y ∷ l) h = (int_ties x y ∙ h.0, apart x l h.1)
+    apart : (l : List ℤ) → AllByRecursion (λ y. eq_by_cmp int_cmp x y ≡ false) l → AllByRecursion (λ y. int_eq x y ≡ false) l
+    apart [] h = h
+    apart (y ∷ l) h = (int_ties x y ∙ h.0, apart l h.1)
 
 module _ (axis : Axis) (rules : List Rule) (corners : List ℤ) (are : AreCorners axis rules corners) where
   pub corner_length : length corners ≡ corner_count axis rules
-  corner_length = length-from_keys int_eq_equiv corners (corner_numbers axis (stated_spans axis rules)) distinct are.exact
-    where
-      distinct : IsDistinct int_eq corners
-      distinct = IsDistinct-from_tied corners (IsDistinct-from_sorted int_cmp corners are.ascending)
+  corner_length = length-from_keys int_eq_equiv corners (corner_numbers axis (stated_spans axis rules)) (distinct_ints corners (IsDistinct-from_sorted int_cmp corners are.ascending)) are.exact
 
   pub some_corner : 1 ≤ length corners
   some_corner = filled corners (are.exact (lowest axis) ∙ lowest_in axis (stated_spans axis rules))

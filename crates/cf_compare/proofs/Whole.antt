@@ -44,18 +44,12 @@ module _ (ours other : Asset) where
         (cases_lt later.code code);
   }
 
-too_many : (m n : ℕ) → m ≤ n → n < m → ⊥
-too_many m n h k = omega (arith, h, k)
-
 module _ (ours other : Policy) where
   passes_included : (asset : Asset) → Passes other asset → IsIncludedAsset other asset
   passes_included asset p = record { partner = p.partner; here = p.found.here; same = p.found.same; allows = p.allows }
 
   pub included : (r : Result Compared CompareFault) → Answers ours other r → r ≡ Ok Included → IsIncludedIn ours other
-  included (Ok Included) h e = All-weaker (Passes other) (IsIncludedAsset other) passes_included ours.assets h
-  included (Ok (Missing n)) h e = absurd (cc e)
-  included (Ok (Shown n c a)) h e = absurd (cc e)
-  included (Err x) h e = absurd (cc e)
+  included r h e = All-weaker (Passes other) (IsIncludedAsset other) passes_included ours.assets (subst (Answers ours other) e h)
 
   -- an asset has one partner
   one_partner : IsWithin other → (asset p q : Asset) → IsPartner other asset p → IsPartner other asset q → p ≡ q
@@ -84,17 +78,15 @@ module _ (ours other : Policy) where
     partner = λ none. none p.partner p.found;
     cells = λ many.
         let few : cells_of asset many.partner ≤ most_cells = subst (λ q. cells_of asset q ≤ most_cells) (one_partner within asset p.partner many.partner p.found many.found) p.few in
-        too_many (cells_of asset many.partner) most_cells few many.many;
+        let more = many.many in
+        omega (arith, few, more);
     difference = λ client act d.
         let allows_all : AllowsAllOf asset d.partner = subst (λ q. AllowsAllOf asset q) (one_partner within asset p.partner d.partner p.found d.found) p.allows in
         d.first.differs.refused (allows_all client act d.first.differs.in_range d.first.differs.allowed);
   }
 
   pub nothing : IsWithin other → (r : Result Compared CompareFault) → Answers ours other r → r ≡ Ok Included → All (HasNothing other) ours.assets
-  nothing within (Ok Included) h e = All-weaker (Passes other) (HasNothing other) (nothing_at within) ours.assets h
-  nothing within (Ok (Missing n)) h e = absurd (cc e)
-  nothing within (Ok (Shown n c a)) h e = absurd (cc e)
-  nothing within (Err x) h e = absurd (cc e)
+  nothing within r h e = All-weaker (Passes other) (HasNothing other) (nothing_at within) ours.assets (subst (Answers ours other) e h)
 
   stops_at : (n : ℕ) (reason : Asset → Type 0) → StopsAt ours other n reason → All (HasNothing other) ours.assets → ((asset : Asset) → HasNothing other asset → reason asset → ⊥) → ⊥
   stops_at n reason s all lacks = lacks s.asset (subst (HasNothing other) (get_or_from_slice_get ours.assets n s.asset s.asset s.here) (all n s.asset (slice_get_within ours.assets n s.asset s.here))) s.stops
