@@ -1,9 +1,9 @@
 -- Acts of regions: which rules have them, and what a part leaves.
-use Rattle.std.proofs.Common.{◌≡◌, ℕ, zero, suc, ◌<◌, length, map, get_or, ◌⊎◌, inl, inr, ℤ, pos, ◌+ℤ◌, int_le, int_lt, Bool, true, false, List, [], ◌∷◌, ◌++◌, Option, Some, None, IfSome, sym, subst, ap, ◌∙◌, arith}
+use Rattle.std.proofs.Common.{◌≡◌, ℕ, ◌⊎◌, inl, inr, ℤ, pos, ◌+ℤ◌, int_le, int_lt, Bool, true, false, ◌||◌, List, [], ◌∷◌, ◌++◌, Option, Some, None, refl, sym, subst, ap, ◌∙◌, arith}
 use mathlib.Core.Logic.{⊎_elim}
 use Rattle.std.specs.List.{flat_map, list_any}
 use Rattle.std.proofs.lemmas.Int.{ints}
-use Rattle.std.proofs.lemmas.Bool.{true≢false, and_parts, and_from, or_cases, or_left, or_right, false_from_ne_true, cases_Bool, cond-true}
+use Rattle.std.proofs.lemmas.Bool.{true≢false, and_parts, and_from, or_cases, or_left, or_right, cases_Bool, cond-true}
 use Rattle.std.proofs.lemmas.List.Folds.{list_any-append}
 use Rattle.cf_view.specs.declared.base.Act.{Act}
 use Rattle.cf_policy.specs.declared.policy.Rule.{Rule}
@@ -103,27 +103,10 @@ module _ (client : ℕ) (act : Act) where
   some_has None = false
   some_has (Some g) = has g
 
-  in_listed : (os : List (Option Region)) → list_any some_has os ≡ true → list_any has (flat_map listed os) ≡ true
-  in_listed [] h = h
-  in_listed (None ∷ os) h = in_listed os h
-  in_listed (Some g ∷ os) h =
-      ⊎_elim
-      (λ here. or_left (has g) _ here)
-      (λ later. or_right (has g) _ (in_listed os later))
-      (or_cases (has g) (list_any some_has os) h)
-
-  module _ (a b c d : Option Region) where
-    first_of : some_has a ≡ true → list_any some_has (a ∷ b ∷ c ∷ d ∷ []) ≡ true
-    first_of h = or_left (some_has a) _ h
-
-    second_of : some_has b ≡ true → list_any some_has (a ∷ b ∷ c ∷ d ∷ []) ≡ true
-    second_of h = or_right (some_has a) _ (or_left (some_has b) _ h)
-
-    third_of : some_has c ≡ true → list_any some_has (a ∷ b ∷ c ∷ d ∷ []) ≡ true
-    third_of h = or_right (some_has a) _ (or_right (some_has b) _ (or_left (some_has c) _ h))
-
-    fourth_of : some_has d ≡ true → list_any some_has (a ∷ b ∷ c ∷ d ∷ []) ≡ true
-    fourth_of h = or_right (some_has a) _ (or_right (some_has b) _ (or_right (some_has c) _ (or_left (some_has d) _ h)))
+  in_listed : (os : List (Option Region)) → list_any has (flat_map listed os) ≡ list_any some_has os
+  in_listed [] = refl
+  in_listed (None ∷ os) = in_listed os
+  in_listed (Some g ∷ os) = ap (λ b. has g || b) (in_listed os)
 
   module _ (g part : Region) where
     abbrev by_clients : Option Region
@@ -143,27 +126,27 @@ module _ (client : ℕ) (act : Act) where
     left_or_in begins h =
         let each = in_each g client act h in
         let found : list_any some_has (by_clients ∷ by_groups ∷ by_points ∷ by_values ∷ []) ≡ true → (has part ≡ true) ⊎ (list_any has (rest g part) ≡ true) =
-        λ some. inr (in_listed (by_clients ∷ by_groups ∷ by_points ∷ by_values ∷ []) some) in
+        λ some. inr (in_listed (by_clients ∷ by_groups ∷ by_points ∷ by_values ∷ []) ∙ some) in
         ⊎_elim
         (λ clients. ⊎_elim
         (λ groups. ⊎_elim
         (λ points. ⊎_elim
         (λ values. inl (in_from part client act (record { clients = clients; groups = groups; points = points; values = values })))
-        (λ v. found (fourth_of by_clients by_groups by_points by_values
+        (λ v. found (or_right (some_has by_clients) _ (or_right (some_has by_groups) _ (or_right (some_has by_points) _ (or_left (some_has by_values) _
         (ap (λ o. some_has (with_values part o)) v.1
-        ∙ in_from (record part { values = Some v.0 }) client act (record { clients = clients; groups = groups; points = points; values = v.2 }))))
+        ∙ in_from (record part { values = Some v.0 }) client act (record { clients = clients; groups = groups; points = points; values = v.2 })))))))
         (beyond_values g.values part.values act.value begins.values each.values))
-        (λ p. found (third_of by_clients by_groups by_points by_values
+        (λ p. found (or_right (some_has by_clients) _ (or_right (some_has by_groups) _ (or_left (some_has by_points) _
         (ap (λ o. some_has (with_points (record g { clients = part.clients; groups = part.groups }) o)) p.1
         ∙ in_from (record g { clients = part.clients; groups = part.groups; points = p.0 }) client act
-        (record { clients = clients; groups = groups; points = p.2; values = each.values }))))
+        (record { clients = clients; groups = groups; points = p.2; values = each.values }))))))
         (beyond g.points part.points (pos act.point) begins.points each.points))
-        (λ q. found (second_of by_clients by_groups by_points by_values
+        (λ q. found (or_right (some_has by_clients) _ (or_left (some_has by_groups) _
         (ap (λ o. some_has (with_groups (record g { clients = part.clients }) o)) q.1
         ∙ in_from (record g { clients = part.clients; groups = q.0 }) client act
-        (record { clients = clients; groups = q.2; points = each.points; values = each.values }))))
+        (record { clients = clients; groups = q.2; points = each.points; values = each.values })))))
         (beyond g.groups part.groups (pos act.group) begins.groups each.groups))
-        (λ c. found (first_of by_clients by_groups by_points by_values
+        (λ c. found (or_left (some_has by_clients) _
         (ap (λ o. some_has (with_clients g o)) c.1
         ∙ in_from (record g { clients = c.0 }) client act (record { clients = c.2; groups = each.groups; points = each.points; values = each.values }))))
         (beyond g.clients part.clients (pos client) begins.clients each.clients)
@@ -172,69 +155,14 @@ module _ (client : ℕ) (act : Act) where
 pub settled_step : (rule : Rule) (others : List Rule) (code : ℕ) (left : List Region) (g part : Region) → Begins part g
     → AreSettled rule others code (part ∷ []) → AreSettled rule others code (left ++ rest g part) → AreSettled rule others code (left ++ g ∷ [])
 settled_step rule others code left g part begins settled next client act same inside has =
-    let p : Region → Bool = λ q. is_in q client act in
-    let later : list_any p left ≡ true ⊎ list_any p (rest g part) ≡ true → list_any (λ r. has_act r client act) others ≡ true =
-    λ some. next client act same
-    (list_any-append p left (rest g part) ∙ ⊎_elim (λ l. or_left (list_any p left) (list_any p (rest g part)) l) (λ r. or_right (list_any p left) (list_any p (rest g part)) r) some) has in
+    let before = list_any-append (λ q. is_in q client act) left (g ∷ []) in
+    let after = list_any-append (λ q. is_in q client act) left (rest g part) in
+    let some : list_any (λ q. is_in q client act) left ≡ true → list_any (λ r. has_act r client act) others ≡ true =
+    λ early. next client act same (after ∙ or_left _ (list_any (λ q. is_in q client act) (rest g part)) early) has in
     ⊎_elim
-    (λ l. later (inl l))
+    some
     (λ here. ⊎_elim
-    (λ own. ⊎_elim
     (λ done. settled client act same (or_left (is_in part client act) false done) has)
-    (λ r. later (inr r))
-    (left_or_in client act g part begins own))
-    (λ none. absurd (true≢false (sym none)))
-    (or_cases (is_in g client act) false here))
-    (or_cases (list_any p left) (list_any p (g ∷ [])) (sym (list_any-append p left (g ∷ [])) ∙ inside))
-
--- a part whose groups, points or values the rule lacks
-pub lacks_groups : (r : Rule) (part : Region) → ((n : ℤ) → covers part.groups n ≡ true → takes r.groups n ≡ false)
-    → (client : ℕ) (act : Act) → is_in part client act ≡ true → has_act r client act ≡ false
-lacks_groups r part none client act inside = false_from_ne_true (has_act r client act) (λ has.
-    true≢false (sym (has_each r client act has).groups ∙ none (pos act.group) (in_each part client act inside).groups))
-
-pub lacks_points : (r : Rule) (part : Region) → ((n : ℤ) → covers part.points n ≡ true → takes r.points n ≡ false)
-    → (client : ℕ) (act : Act) → is_in part client act ≡ true → has_act r client act ≡ false
-lacks_points r part none client act inside = false_from_ne_true (has_act r client act) (λ has.
-    true≢false (sym (has_each r client act has).points ∙ none (pos act.point) (in_each part client act inside).points))
-
-pub lacks_values : (r : Rule) (part : Region) → ((v : Option ℤ) → has_value part.values v ≡ true → takes_value r.values v ≡ false)
-    → (client : ℕ) (act : Act) → is_in part client act ≡ true → has_act r client act ≡ false
-lacks_values r part none client act inside = false_from_ne_true (has_act r client act) (λ has.
-    true≢false (sym (has_each r client act has).values ∙ none act.value (in_each part client act inside).values))
-
--- a part all of whose numbers the rule takes
-pub has_all : (r : Rule) (part : Region) (code : ℕ) → takes r.codes (pos code) ≡ true → ((n : ℤ) → covers part.clients n ≡ true → takes r.clients n ≡ true)
-    → ((n : ℤ) → covers part.groups n ≡ true → takes r.groups n ≡ true) → ((n : ℤ) → covers part.points n ≡ true → takes r.points n ≡ true)
-    → ((v : Option ℤ) → has_value part.values v ≡ true → takes_value r.values v ≡ true)
-    → (client : ℕ) (act : Act) → act.code ≡ code → is_in part client act ≡ true → has_act r client act ≡ true
-has_all r part code codes clients groups points values client act same inside =
-    let each = in_each part client act inside in
-    has_from r client act (record {
-      clients = clients (pos client) each.clients;
-      codes = subst (λ k. takes r.codes (pos k) ≡ true) (sym same) codes;
-      groups = groups (pos act.group) each.groups;
-      points = points (pos act.point) each.points;
-      values = values act.value each.values;
-    })
-
--- what one of the rules has some of them has
-pub one_has : {X : Type 0} (f : X → Rule) (p : Rule → Bool) (xs : List X) (i : ℕ) (x : X) → i < length xs → p (f (get_or xs i x)) ≡ true
-    → list_any p (map f xs) ≡ true
-one_has f p [] i x lt h = absurd (omega (arith, lt))
-one_has f p (y ∷ ys) zero x lt h = or_left (p (f y)) _ h
-one_has f p (y ∷ ys) (suc i) x lt h = or_right (p (f y)) _ (one_has f p ys i x (omega (arith, lt)) h)
-
--- one region that is settled
-pub settled_one : (rule : Rule) (others : List Rule) (code : ℕ) (part : Region)
-    → ((client : ℕ) (act : Act) → act.code ≡ code → is_in part client act ≡ true → has_act rule client act ≡ true → list_any (λ r. has_act r client act) others ≡ true)
-    → AreSettled rule others code (part ∷ [])
-settled_one rule others code part h client act same inside has =
-    ⊎_elim (λ here. h client act same here has) (λ none. absurd (true≢false (sym none))) (or_cases (is_in part client act) false inside)
-
-pub none_settled : (rule : Rule) (others : List Rule) (code : ℕ) → AreSettled rule others code []
-none_settled rule others code client act same inside has = absurd (true≢false (sym inside))
-
-pub some_weaker : {A : Type 0} (P Q : A → Type 0) (o : Option A) → ((x : A) → P x → Q x) → IfSome o P → IfSome o Q
-some_weaker P Q None step h = tt
-some_weaker P Q (Some x) step h = step x h
+    (λ later. next client act same (after ∙ or_right (list_any (λ q. is_in q client act) left) _ later) has)
+    (left_or_in client act g part begins (⊎_elim (λ own. own) (λ none. absurd (true≢false (sym none))) (or_cases (is_in g client act) false here))))
+    (or_cases (list_any (λ q. is_in q client act) left) _ (sym before ∙ inside))

@@ -1,16 +1,11 @@
-use Rattle.std.proofs.Common.{◌∙◌, ap, refl, sym}
-use Rattle.std.specs.Prelude.{Bool, false, true, ◌&&◌, ◌≡◌}
+use Rattle.std.proofs.Common.{◌∙◌, ap, arith, sym}
+use Rattle.std.specs.Prelude.{Bool, false, ◌&&◌, ◌≡◌}
 use Rattle.cf_covered.specs.Common.{lists_overlap}
 use Rattle.cf_covered.proofs.common.each_overlaps.Goals as goal
 
 last_false : (a b c d : Bool) → false ≡ (a && (b && (c && (d && false))))
-last_false false b c d = refl
-last_false true false c d = refl
-last_false true true false d = refl
-last_false true true true false = refl
-last_false true true true true = refl
+last_false a b c d = grind arith
 
--- src/common.rt:24:9
 pub returns-then-not-lists_overlap : goal.returns-then-not-lists_overlap
 returns-then-not-lists_overlap c =
     let a = c.args.rule.now in
