@@ -56,22 +56,16 @@ module _ (ours other : Policy) where
   one_partner within asset p q a b =
       let i = a.here.0 in
       let j = b.here.0 in
-      let names : (k : ℕ) (x : Asset) → get_or other.assets k x ≡ x → k < length other.assets → get_or other.assets k p ≡ x =
-      λ k x e lt. other_default other.assets k p x lt ∙ e in
+      let first : get_or other.assets i p ≡ p = a.here.2 in
+      let second : get_or other.assets j p ≡ q = get_or_from_slice_get other.assets j (get_or other.assets j q) p (slice_get-get_or other.assets j q b.here.1) ∙ b.here.2 in
+      let named : p.name ≡ q.name = sym a.same.name ∙ b.same.name in
       ⊎_elim
-      (λ early. absurd (apart i j p q a b early a.here.1 b.here.1 (names i p a.here.2 a.here.1) (names j q b.here.2 b.here.1)))
+      (λ early. absurd (within.names i j p early b.here.1 (ap (λ z. z.name) first ∙ (named ∙ ap (λ z. z.name) (sym second)))))
       (λ late. ⊎_elim
-      (λ beyond. absurd (apart j i q p b a beyond b.here.1 a.here.1 (names j q b.here.2 b.here.1) (names i p a.here.2 a.here.1)))
-      (λ level. let e : i ≡ j = omega (arith, late, level) in sym (names i p a.here.2 a.here.1) ∙ (ap (λ k. get_or other.assets k p) e ∙ names j q b.here.2 b.here.1))
+      (λ beyond. absurd (within.names j i p beyond a.here.1 (ap (λ z. z.name) second ∙ (sym named ∙ ap (λ z. z.name) (sym first)))))
+      (λ level. let e : i ≡ j = omega (arith, late, level) in sym first ∙ (ap (λ k. get_or other.assets k p) e ∙ second))
       (cases_lt j i))
       (cases_lt i j)
-    where
-      other_default : (xs : List Asset) (k : ℕ) (d e : Asset) → k < length xs → get_or xs k d ≡ get_or xs k e
-      other_default xs k d e lt = get_or_from_slice_get xs k (get_or xs k e) d (slice_get-get_or xs k e lt)
-
-      apart : (i j : ℕ) (x y : Asset) → IsPartner other asset x → IsPartner other asset y → i < j → i < length other.assets → j < length other.assets → get_or other.assets i p ≡ x → get_or other.assets j p ≡ y → ⊥
-      apart i j x y u v lt in_i in_j e f =
-          within.names i j p lt in_j (ap (λ z. z.name) e ∙ (sym u.same.name ∙ (v.same.name ∙ ap (λ z. z.name) (sym f))))
 
   nothing_at : IsWithin other → (asset : Asset) → Passes other asset → HasNothing other asset
   nothing_at within asset p = record {
