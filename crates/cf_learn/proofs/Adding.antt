@@ -1,7 +1,7 @@
 -- Acts that are added to what was seen.
 use Rattle.std.proofs.Common.{◌≡◌, ◌≢◌, ℕ, ◌+◌, ◌≤◌, ◌⊎◌, ◌↔◌, inl, inr, List, [], ◌∷◌, ◌++◌, length, map, take, slice_get, Some, Result, Ok, Err, refl, sym, ap, subst, ◌∙◌, append_assoc}
 use mathlib.Core.Logic.{⊎_elim}
-use Rattle.std.specs.Prelude.{Contains, OnOk}
+use Rattle.std.specs.Prelude.{Contains}
 use Rattle.std.proofs.lemmas.List.{append-nil, map-append, take_all, take_more}
 use Rattle.std.proofs.lemmas.List.Elements.{Contains-append_left, Contains-append_right, Contains-append_cases}
 use Rattle.std.proofs.lemmas.Option.{get_or_from_slice_get, slice_get_within}
@@ -77,11 +77,6 @@ have_one p asset client old new ms m is a =
 pub have_none : (p : Protocol) (asset : Asset) (client : ℕ) (old new : List Seen) (ms : List Message) → ms ≡ [] → new ≡ old → Adds p client (HaveAct asset ms) old new
 have_none p asset client old new ms is same =
     subst (λ l. Adds p client (HaveAct asset l) old new) (sym is) (adds_none p client (HaveAct asset []) old new same (λ act h. nothing h.0 h.1))
-
--- what follows where a call has an answer
-pub on_ok : {T E : Type 0} {P Q : Type 0} (r : Result T E) → (P → Q) → OnOk r P → OnOk r Q
-on_ok (Ok t) step h = step h
-on_ok (Err e) step h = h
 
 -- what was seen is a client and an act
 pub seen_is : (s : Seen) (client : ℕ) (act : Act) → s.kind.client ≡ client → act_of s ≡ act → s ≡ seen_of client act

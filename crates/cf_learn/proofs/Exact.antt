@@ -1,17 +1,17 @@
 -- The rules have exactly the acts for which something speaks that was seen.
-use Rattle.std.proofs.Common.{◌≡◌, ℕ, ◌+◌, ◌<◌, ◌≤◌, ◌⊎◌, ◌↔◌, inl, inr, zero, suc, ℤ, pos, int_le, Bool, true, false, ◌&&◌, ◌||◌, ◌==◌, List, [], ◌∷◌, ◌++◌, length, Option, Some, None, refl, sym, ap, subst, ◌∙◌, arith}
+use Rattle.std.proofs.Common.{◌≡◌, ℕ, ◌+◌, ◌≤◌, ◌⊎◌, ◌↔◌, inl, inr, zero, suc, ℤ, pos, Bool, true, false, ◌&&◌, ◌||◌, ◌==◌, List, [], ◌∷◌, ◌++◌, length, Option, Some, None, refl, sym, ap, subst, ◌∙◌, arith}
 use mathlib.Core.Logic.{⊎_elim}
 use Rattle.std.specs.Prelude.{Contains}
 use Rattle.std.specs.List.{list_any}
 use Rattle.std.specs.Option.{is_some}
 use Rattle.std.specs.Ordering.{int_eq}
-use Rattle.std.specs.Cmp.{both_ways, first_so, second_so}
 use Rattle.std.proofs.lemmas.Int.{ints}
-use Rattle.std.proofs.lemmas.Bool.{false≢true, cases_Bool, cases_lt, or_cases, eqb-true, eq-eqb}
-use Rattle.std.proofs.lemmas.Bool.Decides.{Decides-int_eq}
+use Rattle.std.proofs.lemmas.Bool.{false≢true, and_parts, cases_Bool, eq-eqb}
+use Rattle.std.proofs.lemmas.Bool.Decides.{Decides-int_eq, nat_tests}
 use Rattle.std.proofs.lemmas.List.Folds.{Any-from_list_any, list_any-from_Any, list_any-append}
 use Rattle.std.proofs.lemmas.List.Sorted.{list_any-IsPermutation}
-use Rattle.std.proofs.lemmas.Option.{slice_get_within, get_or_from_slice_get}
+use Rattle.std.proofs.lemmas.List.{length-append}
+use Rattle.std.proofs.lemmas.Map.Keys.{any_passes_from_place}
 use Rattle.cf_view.specs.declared.Act.{Act}
 use Rattle.cf_policy.specs.declared.Span.{Span}
 use Rattle.cf_policy.specs.declared.Rule.{Rule}
@@ -38,79 +38,23 @@ value_same (Some m) (Some n) h = ap Some ((Decides-int_eq m n).0 h)
 
 pub kind_same : (a b : Kind) → is_same_kind a b ≡ true → a ≡ b
 kind_same a b h =
-    let rest = second_so (a.client == b.client) ((a.code == b.code) && ((a.group == b.group) && is_same_value a.value b.value)) h in
-    let more = second_so (a.code == b.code) ((a.group == b.group) && is_same_value a.value b.value) rest in
-    λ i. record {
-      client = eqb-true a.client b.client (first_so (a.client == b.client) ((a.code == b.code) && ((a.group == b.group) && is_same_value a.value b.value)) h) i;
-      code = eqb-true a.code b.code (first_so (a.code == b.code) ((a.group == b.group) && is_same_value a.value b.value) rest) i;
-      group = eqb-true a.group b.group (first_so (a.group == b.group) (is_same_value a.value b.value) more) i;
-      value = value_same a.value b.value (second_so (a.group == b.group) (is_same_value a.value b.value) more) i;
-    }
+    let client : a.client ≡ b.client = grind (arith, nat_tests) in
+    let code : a.code ≡ b.code = grind (arith, nat_tests) in
+    let group : a.group ≡ b.group = grind (arith, nat_tests) in
+    let value : a.value ≡ b.value = value_same a.value b.value (grind arith) in
+    λ i. record { client = client i; code = code i; group = group i; value = value i }
 
 -- spans and numbers
-covers_from : (low high n : ℕ) → low ≤ n → n ≤ high → covers (record { low = pos low; high = pos high }) (pos n) ≡ true
-covers_from low high n h k = grind (arith, ints)
-
-covers_low : (low high n : ℕ) → covers (record { low = pos low; high = pos high }) (pos n) ≡ true → low ≤ n
-covers_low low high n h = let l = first_so (int_le (pos low) (pos n)) (int_le (pos n) (pos high)) h in omega (arith, ints, l)
-
-covers_high : (low high n : ℕ) → covers (record { low = pos low; high = pos high }) (pos n) ≡ true → n ≤ high
-covers_high low high n h = let l = second_so (int_le (pos low) (pos n)) (int_le (pos n) (pos high)) h in omega (arith, ints, l)
-
 covers_one : (m n : ℕ) → covers (record { low = pos m; high = pos m }) (pos n) ≡ (m == n)
-covers_one m n = both_ways (covers (record { low = pos m; high = pos m }) (pos n)) (m == n)
-    (λ h. let l = covers_low m m n h in let k = covers_high m m n h in eq-eqb m n (omega (arith, l, k)))
-    (λ h. let e = eqb-true m n h in covers_from m m n (omega (arith, e)) (omega (arith, e)))
-
-or_left : (a b : Bool) → a ≡ true → (a || b) ≡ true
-or_left a b h = ap (λ c. c || b) h
-
-or_right : (a b : Bool) → b ≡ true → (a || b) ≡ true
-or_right true b h = refl
-or_right false b h = h
+covers_one m n = grind (arith, ints, nat_tests)
 
 -- one more point at the end of a span
 covers_more : (low high next n : ℕ) → low ≤ high → (next ≡ high) ⊎ (next ≡ high + 1)
     → covers (record { low = pos low; high = pos next }) (pos n) ≡ (covers (record { low = pos low; high = pos high }) (pos n) || (next == n))
-covers_more low high next n le is =
-    let old = covers (record { low = pos low; high = pos high }) (pos n) in
-    let near : (high ≤ next) × (next ≤ high + 1) = ⊎_elim (λ e. (omega (arith, e), omega (arith, e))) (λ e. (omega (arith, e), omega (arith, e))) is in
-    both_ways (covers (record { low = pos low; high = pos next }) (pos n)) (old || (next == n))
-    (λ h. let l = covers_low low next n h in let k = covers_high low next n h in
-    ⊎_elim
-    (λ yes. or_right old (next == n) yes)
-    (λ lacks. ⊎_elim
-    (λ below. or_left old (next == n) (covers_from low high n l below))
-    (λ above. or_right old (next == n) (eq-eqb next n (omega (arith, near.0, near.1, above, k))))
-    (up_to n high))
-    (cases_Bool (next == n)))
-    (λ h. ⊎_elim
-    (λ yes. let l = covers_low low high n yes in let k = covers_high low high n yes in covers_from low next n l (omega (arith, k, near.0)))
-    (λ yes. let e = eqb-true next n yes in covers_from low next n (omega (arith, e, near.0, le)) (omega (arith, e)))
-    (or_cases old (next == n) h))
-  where
-    up_to : (n high : ℕ) → (n ≤ high) ⊎ (high < n)
-    up_to n high = ⊎_elim (λ lt. inr lt) (λ le. inl le) (cases_lt high n)
-
-both_or : (k a b : Bool) → (k && (a || b)) ≡ ((k && a) || (k && b))
-both_or true a b = refl
-both_or false a b = refl
-
-reorder : (a b c p v : Bool) → (((a && (b && c)) && p) && v) ≡ ((a && (b && (c && v))) && p)
-reorder false b c p v = refl
-reorder true false c p v = refl
-reorder true true false p v = refl
-reorder true true true true true = refl
-reorder true true true true false = refl
-reorder true true true false true = refl
-reorder true true true false false = refl
-
-or_false : (a : Bool) → (a || false) ≡ a
-or_false true = refl
-or_false false = refl
+covers_more low high next n le is = grind (arith, ints, nat_tests)
 
 takes_one : (m n : ℕ) → takes (whole_span (pos m) ∷ []) (pos n) ≡ (m == n)
-takes_one m n = or_false (covers (whole_span (pos m)) (pos n)) ∙ covers_one m n
+takes_one m n = let one = covers_one m n in grind arith
 
 module _ (client : ℕ) (act : Act) where
   abbrev kind_takes : Kind → Bool
@@ -130,53 +74,37 @@ module _ (client : ℕ) (act : Act) where
 
   run_grows : (run : Run) (s : Seen) → run.low ≤ run.high → is_next run s ≡ true → ((longer_run run s).low ≤ (longer_run run s).high) × (run_has (longer_run run s) ≡ (run_has run || seen_has s))
   run_grows run s le h =
-      let same : run.kind ≡ s.kind = kind_same run.kind s.kind (first_so (is_same_kind run.kind s.kind) ((s.point == run.high) || (s.point == run.high + 1)) h) in
-      let is : (s.point ≡ run.high) ⊎ (s.point ≡ run.high + 1) = ⊎_elim (λ e. inl (eqb-true s.point run.high e)) (λ e. inr (eqb-true s.point (run.high + 1) e))
-      (or_cases (s.point == run.high) (s.point == run.high + 1) (second_so (is_same_kind run.kind s.kind) ((s.point == run.high) || (s.point == run.high + 1)) h)) in (
-        ⊎_elim (λ e. omega (arith, le, e)) (λ e. omega (arith, le, e)) is,
-        ap (λ b. kind_takes run.kind && b) (covers_more run.low run.high s.point act.point le is)
-            ∙ (both_or (kind_takes run.kind) (covers (span_of run) (pos act.point)) (s.point == act.point)
-            ∙ ap (λ k. run_has run || (kind_takes k && (s.point == act.point))) same),
-      )
+      let same = kind_same run.kind s.kind (and_parts (is_same_kind run.kind s.kind) _ h).0 in
+      let is : (s.point ≡ run.high) ⊎ (s.point ≡ run.high + 1) = grind (arith, nat_tests) in
+      let more = covers_more run.low run.high s.point act.point le is in
+      (grind arith, rw (← same) (grind (arith, more)))
 
   part_begins : (run : Run) → (1 ≤ length (part_of run).points) × (part_has (part_of run) ≡ run_has run)
-  part_begins run = (omega arith, ap (λ b. kind_takes run.kind && b) (or_false (covers (span_of run) (pos act.point))))
+  part_begins run = (omega arith, grind arith)
 
   takes_more : (points : List Span) (s : Span) (n : ℤ) → 1 ≤ length points → takes (points ++ s ∷ []) n ≡ (takes points n || covers s n)
   takes_more [] s n some = absurd (omega (arith, some))
-  takes_more (p ∷ points) s n some = list_any-append (λ t. covers t n) (p ∷ points) (s ∷ []) ∙ ap (λ b. takes (p ∷ points) n || b) (or_false (covers s n))
-
-  longer : (points : List Span) (s : Span) → 1 ≤ length (points ++ s ∷ [])
-  longer [] s = omega arith
-  longer (p ∷ points) s = omega arith
+  takes_more (p ∷ points) s n some = let both = list_any-append (λ t. covers t n) (p ∷ points) (s ∷ []) in grind arith
 
   part_grows : (part : Part) (run : Run) → 1 ≤ length part.points → goes_in part run ≡ true → (1 ≤ length (longer_part part run).points) × (part_has (longer_part part run) ≡ (part_has part || run_has run))
   part_grows part run some h =
-      let same : part.kind ≡ run.kind = kind_same part.kind run.kind (and_first (is_same_kind part.kind run.kind) _ h) in (
-        longer part.points (span_of run),
-        ap (λ b. kind_takes part.kind && b) (takes_more part.points (span_of run) (pos act.point) some)
-            ∙ (both_or (kind_takes part.kind) (takes part.points (pos act.point)) (covers (span_of run) (pos act.point))
-            ∙ ap (λ k. part_has part || (kind_takes k && covers (span_of run) (pos act.point))) same),
-      )
-    where
-      and_first : (a b : Bool) → (a && b) ≡ true → a ≡ true
-      and_first a b h = first_so a b h
+      let same = kind_same part.kind run.kind (and_parts (is_same_kind part.kind run.kind) _ h).0 in
+      let more = takes_more part.points (span_of run) (pos act.point) some in
+      (omega (arith, length-append part.points (span_of run ∷ [])), rw (← same) (grind (arith, more)))
 
   value_is : (v w : Option ℤ) → takes_value (value_spans v) w ≡ value_takes v w
   value_is None None = refl
   value_is None (Some n) = refl
   value_is (Some m) None = refl
-  value_is (Some m) (Some n) =
-      let one = covers (whole_span m) n in
-      or_false one ∙ both_ways one (int_eq m n)
-      (λ h. let l = first_so (int_le m n) (int_le n m) h in let k = second_so (int_le m n) (int_le n m) h in (Decides-int_eq m n).1 (omega (arith, ints, l, k)))
-      (λ h. let e : m ≡ n = (Decides-int_eq m n).0 h in grind (arith, ints))
+  value_is (Some m) (Some n) = let tells = Decides-int_eq m n in grind (arith, ints, nat_tests)
 
   rule_has : (number : ℕ) (part : Part) → has_act (rule_of number part) client act ≡ part_has part
   rule_has number part =
-      let k = part.kind in
-      (λ i. ((takes_one k.client client i && (takes_one k.code act.code i && takes_one k.group act.group i)) && takes part.points (pos act.point)) && value_is k.value act.value i)
-      ∙ reorder (k.client == client) (k.code == act.code) (k.group == act.group) (takes part.points (pos act.point)) (value_takes k.value act.value)
+      let client_is = takes_one part.kind.client client in
+      let code_is = takes_one part.kind.code act.code in
+      let group_is = takes_one part.kind.group act.group in
+      let value = value_is part.kind.value act.value in
+      grind arith
 
   abbrev has : Rule → Bool
   has r = has_act r client act
@@ -226,7 +154,7 @@ module _ (client : ℕ) (act : Act) where
       (cases_Bool (has (rule_of (number + 1) part)))
 
   any_from : (rules : List Rule) → IsAllowedByRule rules client act → list_any has rules ≡ true
-  any_from rules by = list_any-from_Any has rules (by.number, by.rule, slice_get_within rules by.number by.rule by.here, get_or_from_slice_get rules by.number by.rule by.rule by.here, by.has)
+  any_from rules by = any_passes_from_place has rules by.number by.rule by.here by.has
 
   value_from : (v w : Option ℤ) → value_takes v w ≡ true → (v ≡ None) ⊎ (v ≡ w)
   value_from None w h = inl refl
@@ -241,18 +169,13 @@ module _ (client : ℕ) (act : Act) where
       itself (Some n) = (Decides-int_eq n n).1 refl
 
   speaks_from : (s : Seen) → seen_has s ≡ true → SpeaksFor s client act
-  speaks_from s h =
-      let k = s.kind in
-      let kind = first_so (kind_takes k) (s.point == act.point) h in
-      let rest = second_so (k.client == client) ((k.code == act.code) && ((k.group == act.group) && value_takes k.value act.value)) kind in
-      let more = second_so (k.code == act.code) ((k.group == act.group) && value_takes k.value act.value) rest in
-      record {
-        client_is = eqb-true k.client client (first_so (k.client == client) ((k.code == act.code) && ((k.group == act.group) && value_takes k.value act.value)) kind);
-        code = eqb-true k.code act.code (first_so (k.code == act.code) ((k.group == act.group) && value_takes k.value act.value) rest);
-        group = eqb-true k.group act.group (first_so (k.group == act.group) (value_takes k.value act.value) more);
-        point = eqb-true s.point act.point (second_so (kind_takes k) (s.point == act.point) h);
-        value = value_from k.value act.value (second_so (k.group == act.group) (value_takes k.value act.value) more);
-      }
+  speaks_from s h = record {
+    client_is = grind (arith, nat_tests);
+    code = grind (arith, nat_tests);
+    group = grind (arith, nat_tests);
+    point = grind (arith, nat_tests);
+    value = value_from s.kind.value act.value (grind arith);
+  }
 
   speaks_to : (s : Seen) → SpeaksFor s client act → seen_has s ≡ true
   speaks_to s h i =

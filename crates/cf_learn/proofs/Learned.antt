@@ -109,39 +109,32 @@ module _ (flows : List FlowValue) (items assets learned : List Asset) (i : ℕ) 
 pub all_learned : (flows : List FlowValue) (items assets learned : List Asset) (i : ℕ) → items ≡ assets → length items ≤ i → AreLearned flows 0 (take i assets) learned → AreLearned flows 0 assets learned
 all_learned flows items assets learned i same past are = subst (λ l. AreLearned flows 0 l learned) (take_all i assets (subst (λ l. length l ≤ i) same past)) are
 
--- what is kept of each asset keeps the whole within the limits
-same_count : (flows : List FlowValue) (place : ℕ) (assets learned : List Asset) → AreLearned flows place assets learned → length learned ≡ length assets
-same_count flows place [] [] are = refl
-same_count flows place [] (x ∷ learned) are = absurd are
-same_count flows place (a ∷ assets) [] are = absurd are
-same_count flows place (a ∷ assets) (x ∷ learned) are = ap suc (same_count flows (place + 1) assets learned are.1)
-
-each_within : (flows : List FlowValue) (place : ℕ) (assets learned : List Asset) → AreLearned flows place assets learned → AllByRecursion IsAssetWithin learned
-each_within flows place [] [] are = tt
-each_within flows place [] (x ∷ learned) are = absurd are
-each_within flows place (a ∷ assets) [] are = absurd are
-each_within flows place (a ∷ assets) (x ∷ learned) are = (are.0.within, each_within flows (place + 1) assets learned are.1)
-
-kept_at : (flows : List FlowValue) (place : ℕ) (assets learned : List Asset) (i : ℕ) (d : Asset) → AreLearned flows place assets learned → i < length assets
-    → ((get_or learned i d).name ≡ (get_or assets i d).name) × ((get_or learned i d).endpoint ≡ (get_or assets i d).endpoint)
-kept_at flows place [] [] i d are lt = absurd (omega (arith, lt))
-kept_at flows place [] (x ∷ learned) i d are lt = absurd are
-kept_at flows place (a ∷ assets) [] i d are lt = absurd are
-kept_at flows place (a ∷ assets) (x ∷ learned) zero d are lt = (ap (λ b. b.name) are.0.same, ap (λ b. b.endpoint) are.0.same)
-kept_at flows place (a ∷ assets) (x ∷ learned) (suc i) d are lt = kept_at flows (place + 1) assets learned i d are.1 (omega (arith, lt))
+-- as many assets, each within the limits, with the names and the endpoints of those at their places
+kept : (flows : List FlowValue) (place : ℕ) (assets learned : List Asset) → AreLearned flows place assets learned
+    → (length learned ≡ length assets) × AllByRecursion IsAssetWithin learned × ((i : ℕ) (d : Asset) → i < length assets
+    → ((get_or learned i d).name ≡ (get_or assets i d).name) × ((get_or learned i d).endpoint ≡ (get_or assets i d).endpoint))
+kept flows place [] [] are = (refl, tt, λ i d lt. absurd (omega (arith, lt)))
+kept flows place [] (x ∷ learned) are = absurd are
+kept flows place (a ∷ assets) [] are = absurd are
+kept flows place (a ∷ assets) (x ∷ learned) are = let more = kept flows (place + 1) assets learned are.1 in (ap suc more.0, (are.0.within, more.1), at more.2)
+  where
+    at : ((i : ℕ) (d : Asset) → i < length assets → ((get_or learned i d).name ≡ (get_or assets i d).name) × ((get_or learned i d).endpoint ≡ (get_or assets i d).endpoint))
+        → (i : ℕ) (d : Asset) → i < suc (length assets)
+        → ((get_or (x ∷ learned) i d).name ≡ (get_or (a ∷ assets) i d).name) × ((get_or (x ∷ learned) i d).endpoint ≡ (get_or (a ∷ assets) i d).endpoint)
+    at later zero d lt = (ap (λ b. b.name) are.0.same, ap (λ b. b.endpoint) are.0.same)
+    at later (suc i) d lt = later i d (omega (arith, lt))
 
 pub learned_within : (flows : List FlowValue) (assets learned : List Asset) → AreAssetsWithin assets → AreLearned flows 0 assets learned → AreAssetsWithin learned
 learned_within flows assets learned within are =
-    let size = same_count flows 0 assets learned are in
+    let all = kept flows 0 assets learned are in
+    let size = all.0 in
     record {
       count = let count = within.count in omega (arith, size, count);
-      each = All-from_recursion IsAssetWithin learned (each_within flows 0 assets learned are);
+      each = All-from_recursion IsAssetWithin learned all.1;
       names = λ i j d lt inside e.
           let in_j : j < length assets = omega (arith, inside, size) in
-          let in_i : i < length assets = omega (arith, lt, in_j) in
-          within.names i j d lt in_j (sym (kept_at flows 0 assets learned i d are in_i).0 ∙ (e ∙ (kept_at flows 0 assets learned j d are in_j).0));
+          within.names i j d lt in_j (sym (all.2 i d (omega (arith, lt, in_j))).0 ∙ (e ∙ (all.2 j d in_j).0));
       endpoints = λ i j d lt inside e.
           let in_j : j < length assets = omega (arith, inside, size) in
-          let in_i : i < length assets = omega (arith, lt, in_j) in
-          within.endpoints i j d lt in_j (sym (kept_at flows 0 assets learned i d are in_i).1 ∙ (e ∙ (kept_at flows 0 assets learned j d are in_j).1));
+          within.endpoints i j d lt in_j (sym (all.2 i d (omega (arith, lt, in_j))).1 ∙ (e ∙ (all.2 j d in_j).1));
     }

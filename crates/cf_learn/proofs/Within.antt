@@ -1,26 +1,23 @@
 -- Learned rules are within the limits of a policy.
-use Rattle.std.proofs.Common.{◌≡◌, ◌≢◌, ℕ, ◌+◌, ◌^◌, ◌%◌, ◌<◌, ◌≤◌, zero, suc, ℤ, pos, ◌≤ℤ◌, true, false, nat_le, nat_lt, ◌&&◌, ◌||◌, ◌==◌, List, [], ◌∷◌, ◌++◌, length, get_or, decimal, Option, Some, None, refl, sym, ap, subst, ◌∙◌, arith, ltb-true}
-use mathlib.Core.Logic.{⊎_elim}
+use Rattle.std.proofs.Common.{◌≡◌, ◌≢◌, ℕ, ◌+◌, ◌^◌, ◌%◌, ◌<◌, ◌≤◌, zero, suc, ℤ, pos, ◌≤ℤ◌, true, false, nat_le, ◌&&◌, List, [], ◌∷◌, ◌++◌, length, get_or, decimal, Option, Some, None, refl, sym, ap, subst, ◌∙◌, arith}
 use Rattle.std.specs.Prelude.{All, AllPairs, IfSome}
 use Rattle.std.specs.List.{AllByRecursion, list_all}
-use Rattle.std.specs.Cmp.{second_so}
 use Rattle.std.proofs.lemmas.Int.{ints}
-use Rattle.std.proofs.lemmas.Bool.{eqb-true, and_from, or_cases}
+use Rattle.std.proofs.lemmas.Bool.{and_from}
 use Rattle.std.proofs.lemmas.Bool.Decides.{nat_tests}
 use Rattle.std.proofs.lemmas.Fmt.{decimal_by_steps, decimal_injective, length-decimal-le}
 use Rattle.std.proofs.lemmas.Grind.{common_steps}
 use Rattle.std.proofs.lemmas.List.{length-append}
-use Rattle.std.proofs.lemmas.List.Elements.{All-from_recursion, recursion_from_All}
+use Rattle.std.proofs.lemmas.List.Elements.{All-cons, All-from_recursion, All-nil, All-push, recursion_from_All}
 use Rattle.std.proofs.lemmas.List.Folds.{list_all-append}
 use Rattle.std.proofs.lemmas.List.Sorted.{All-permutation}
-use Rattle.cf_policy.specs.declared.Span.{Span}
 use Rattle.cf_policy.specs.declared.Rule.{Rule}
 use Rattle.cf_policy.specs.Names.{is_name, is_name_byte, is_reserved}
 use Rattle.cf_policy.specs.Within.{IsSpanWithin, AreSpansWithin, IsRuleWithin, AreRulesWithin, highest_address, highest_code, highest_group, highest_point, lowest_value, highest_value, most_spans, most_rules, rated_count}
 use Rattle.cf_learn.specs.declared.seen.Kind.{Kind}
 use Rattle.cf_learn.specs.declared.seen.Seen.{Seen}
 use Rattle.cf_learn.specs.declared.runs.Run.{Run}
-use Rattle.cf_learn.specs.Seen.{IsSeenWithin, is_same_kind}
+use Rattle.cf_learn.specs.Seen.{IsSeenWithin}
 use Rattle.cf_learn.specs.Rules.{runs_of, run_of, is_next, longer_run, span_of, Part, goes_in, longer_part, part_of, parts_of, whole_span, value_spans, rule_name, rule_of, numbered_rules, AreLearnedFrom}
 use Rattle.cf_learn.proofs.Gathered.{right_all_gathered}
 
@@ -38,7 +35,7 @@ record IsRunWithin (run : Run) : Type 0 where
 record IsPartWithin (part : Part) : Type 0 where
   kind : IsKindWithin part.kind
   count : length part.points ≤ most_spans
-  points : AllByRecursion (IsSpanWithin (pos 0) highest_point) part.points
+  points : All (IsSpanWithin (pos 0) highest_point) part.points
 
 run_starts : (s : Seen) → IsSeenWithin s → IsRunWithin (run_of s)
 run_starts s h = record { kind = record { address = h.address; code = h.code; group = h.group; value = h.value }; ordered = omega arith; below = h.point }
@@ -46,10 +43,7 @@ run_starts s h = record { kind = record { address = h.address; code = h.code; gr
 run_goes_on : (run : Run) (s : Seen) → IsRunWithin run → IsSeenWithin s → is_next run s ≡ true → IsRunWithin (longer_run run s)
 run_goes_on run s h w e = record {
   kind = h.kind;
-  ordered = let le = h.ordered in ⊎_elim
-      (λ one. let same = eqb-true s.point run.high one in omega (arith, same, le))
-      (λ one. let same = eqb-true s.point (run.high + 1) one in omega (arith, same, le))
-      (or_cases (s.point == run.high) (s.point == run.high + 1) (second_so (is_same_kind run.kind s.kind) ((s.point == run.high) || (s.point == run.high + 1)) e));
+  ordered = let le = h.ordered in grind (arith, nat_tests, e);
   below = w.point;
 }
 
@@ -57,17 +51,13 @@ span_within : (run : Run) → IsRunWithin run → IsSpanWithin (pos 0) highest_p
 span_within run h = record { above = let z = h.ordered in omega (arith, ints); ordered = let le = h.ordered in omega (arith, ints, le); below = h.below }
 
 part_starts : (run : Run) → IsRunWithin run → IsPartWithin (part_of run)
-part_starts run h = record { kind = h.kind; count = omega arith; points = (span_within run h, tt) }
-
-all_push : (P : Span → Type 0) (l : List Span) (s : Span) → AllByRecursion P l → P s → AllByRecursion P (l ++ s ∷ [])
-all_push P [] s all one = (one, tt)
-all_push P (x ∷ l) s all one = (all.0, all_push P l s all.1 one)
+part_starts run h = record { kind = h.kind; count = omega arith; points = All-cons (IsSpanWithin (pos 0) highest_point) (span_of run) [] (span_within run h) (All-nil _) }
 
 part_goes_on : (part : Part) (run : Run) → IsPartWithin part → IsRunWithin run → goes_in part run ≡ true → IsPartWithin (longer_part part run)
 part_goes_on part run h w e = record {
   kind = h.kind;
-  count = let lt = ltb-true (length part.points) 64 (second_so (is_same_kind part.kind run.kind) (nat_lt (length part.points) 64) e) in omega (arith, lt, length-append part.points (span_of run ∷ []));
-  points = all_push (IsSpanWithin (pos 0) highest_point) part.points (span_of run) h.points (span_within run w);
+  count = let lt : length part.points < 64 = grind (arith, nat_tests, e) in omega (arith, lt, length-append part.points (span_of run ∷ []));
+  points = All-push (IsSpanWithin (pos 0) highest_point) part.points (span_of run) h.points (span_within run w);
 }
 
 -- names
@@ -97,18 +87,12 @@ name_own n = refl
 one_span : (low high n : ℤ) → low ≤ℤ n → n ≤ℤ high → AreSpansWithin low high (whole_span n ∷ [])
 one_span low high n above below = record {
   count = omega arith;
-  each = All-from_recursion (IsSpanWithin low high) (whole_span n ∷ []) (record { above = above; ordered = omega (arith, ints); below = below }, tt);
+  each = All-cons (IsSpanWithin low high) (whole_span n) [] (record { above = above; ordered = omega (arith, ints); below = below }) (All-nil _);
 }
 
-no_span : (low high : ℤ) → AreSpansWithin low high []
-no_span low high = record { count = omega arith; each = All-from_recursion (IsSpanWithin low high) [] tt }
-
 values_within : (v : Option ℤ) → IfSome v (λ n. (lowest_value ≤ℤ n) × (n ≤ℤ highest_value)) → AreSpansWithin lowest_value highest_value (value_spans v)
-values_within None h = no_span lowest_value highest_value
+values_within None h = record { count = omega arith; each = All-nil _ }
 values_within (Some n) h = one_span lowest_value highest_value n h.0 h.1
-
-from_zero : (n : ℕ) → pos 0 ≤ℤ pos n
-from_zero n = omega (arith, ints)
 
 rule_within : (n : ℕ) (part : Part) → n < 10000 → IsPartWithin part → IsRuleWithin (rule_of n part)
 rule_within n part small h =
@@ -116,12 +100,12 @@ rule_within n part small h =
     record {
       name = name_within n small;
       own = name_own n;
-      clients = one_span (pos 0) highest_address (pos k.client) (from_zero k.client) h.kind.address;
-      codes = one_span (pos 0) highest_code (pos k.code) (from_zero k.code) h.kind.code;
+      clients = one_span (pos 0) highest_address (pos k.client) (omega (arith, ints)) h.kind.address;
+      codes = one_span (pos 0) highest_code (pos k.code) (omega (arith, ints)) h.kind.code;
       single_codes = All-from_recursion (λ s. s.low ≡ s.high) (whole_span (pos k.code) ∷ []) (refl, tt);
       some_code = omega arith;
-      groups = one_span (pos 0) highest_group (pos k.group) (from_zero k.group) h.kind.group;
-      points = record { count = h.count; each = All-from_recursion (IsSpanWithin (pos 0) highest_point) part.points h.points };
+      groups = one_span (pos 0) highest_group (pos k.group) (omega (arith, ints)) h.kind.group;
+      points = record { count = h.count; each = h.points };
       values = values_within k.value h.kind.value;
       rate = tt;
     }
@@ -153,17 +137,10 @@ names_differ parts small i j d lt inside e =
     let size = numbered_length 0 parts in
     let j_in : j < length parts = omega (arith, inside, size) in
     let i_in : i < length parts = omega (arith, lt, j_in) in
-    let same : rule_name (0 + i + 1) ≡ rule_name (0 + j + 1) = sym (name_at 0 parts i d i_in) ∙ (e ∙ name_at 0 parts j d j_in) in
-    let digits : decimal (0 + i + 1) ≡ decimal (0 + j + 1) = cons_tail same in
+    let same : 114 ∷ decimal (0 + i + 1) ≡ 114 ∷ decimal (0 + j + 1) = sym (name_at 0 parts i d i_in) ∙ (e ∙ name_at 0 parts j d j_in) in
+    let digits : decimal (0 + i + 1) ≡ decimal (0 + j + 1) = cc same in
     let number = decimal_injective (0 + i + 1) (0 + j + 1) (omega (arith, i_in, small)) (omega (arith, j_in, small)) digits in
     omega (arith, lt, number)
-  where
-    tail : List ℕ → List ℕ
-    tail [] = []
-    tail (x ∷ xs) = xs
-
-    cons_tail : {a b : List ℕ} → 114 ∷ a ≡ 114 ∷ b → a ≡ b
-    cons_tail e = ap tail e
 
 pub rules_within : (seen : List Seen) (rules : List Rule) → AreLearnedFrom seen rules → length rules ≤ most_rules → All IsSeenWithin seen → AreRulesWithin rules
 rules_within seen rules are few all =

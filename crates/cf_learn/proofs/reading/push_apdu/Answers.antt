@@ -2,12 +2,13 @@ use Rattle.std.proofs.Common.{ap, refl}
 use Rattle.cf_apci.specs.Apdu.{apdu_value}
 use Rattle.cf_policy.specs.declared.Protocol.TheVariants.{Iec104}
 use Rattle.cf_learn.specs.Shown.{Asdu, apdu_unit, message_in}
-use Rattle.cf_learn.proofs.Adding.{have_none, have_one, on_ok}
+use Rattle.std.proofs.lemmas.Result.{on_ok_weaker}
+use Rattle.cf_learn.proofs.Adding.{have_none, have_one}
 use Rattle.cf_learn.proofs.reading.push_apdu.Goals as goal
 
 pub returns-in-Info : goal.returns-in-Info
 returns-in-Info c =
-    on_ok c.push_asdu.result
+    on_ok_weaker c.push_asdu.result
     (λ a. have_one Iec104 c.args.asset.now c.args.client c.args.seen.now.items c.push_asdu.new.seen.items (message_in (apdu_unit (apdu_value c.args.apdu.now))) (Asdu c.in-Info.asdu.bytes)
     (ap (λ x. message_in (apdu_unit (apdu_value x))) c.in-Info.is) a)
     c.push_asdu.ensures

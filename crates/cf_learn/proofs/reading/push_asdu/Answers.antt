@@ -5,14 +5,15 @@ use Rattle.cf_asdu.specs.Asdu.{asdu_value}
 use Rattle.cf_policy.specs.declared.Protocol.TheVariants.{Iec104}
 use Rattle.cf_learn.specs.Reading.{Adds}
 use Rattle.cf_learn.specs.Shown.{Asdu, HasAct}
-use Rattle.cf_learn.proofs.Adding.{asdu_added, no_asdu, on_ok, other_asdu}
+use Rattle.std.proofs.lemmas.Result.{on_ok_weaker}
+use Rattle.cf_learn.proofs.Adding.{asdu_added, no_asdu, other_asdu}
 use Rattle.cf_learn.proofs.reading.push_asdu.Goals as goal
 
 pub returns-else-asdu-asset : goal.returns-else-asdu-asset
 returns-else-asdu-asset c =
     let station : c.in-Ok.asdu.station ≡ c.args.asset.now.station = cc in
     subst (λ (xs : List ℕ). OnOk c.push_acts.result (Adds Iec104 c.args.client (HasAct c.args.asset.now (Asdu xs)) c.args.seen.now.items c.push_acts.new.seen.items)) c.all.ensures.bytes
-    (on_ok c.push_acts.result
+    (on_ok_weaker c.push_acts.result
     (λ is. asdu_added c.args.asset.now c.args.client c.args.seen.now.items c.push_acts.new.seen.items c.all.result.bytes (asdu_value c.in-Ok.asdu)
     c.in-Ok.ensures.true_answer station c.in-Ok.ensures.only is)
     (c.push_acts.ensures (acts (asdu_value c.in-Ok.asdu)) (sym c.act_count.ensures.count) (λ i act inside gives. search rules)))
