@@ -109,18 +109,22 @@ module _ (flows : List FlowValue) (items assets learned : List Asset) (i : ℕ) 
 pub all_learned : (flows : List FlowValue) (items assets learned : List Asset) (i : ℕ) → items ≡ assets → length items ≤ i → AreLearned flows 0 (take i assets) learned → AreLearned flows 0 assets learned
 all_learned flows items assets learned i same past are = subst (λ l. AreLearned flows 0 l learned) (take_all i assets (subst (λ l. length l ≤ i) same past)) are
 
+-- the same name and the same endpoint
+abbrev IsNamedAs : Asset → Asset → Type 0
+IsNamedAs a b = (a.name ≡ b.name) × (a.endpoint ≡ b.endpoint)
+
 -- as many assets, each within the limits, with the names and the endpoints of those at their places
 kept : (flows : List FlowValue) (place : ℕ) (assets learned : List Asset) → AreLearned flows place assets learned
-    → (length learned ≡ length assets) × AllByRecursion IsAssetWithin learned × ((i : ℕ) (d : Asset) → i < length assets
-    → ((get_or learned i d).name ≡ (get_or assets i d).name) × ((get_or learned i d).endpoint ≡ (get_or assets i d).endpoint))
+    → (length learned ≡ length assets) × AllByRecursion IsAssetWithin learned
+    × ((i : ℕ) (d : Asset) → i < length assets → IsNamedAs (get_or learned i d) (get_or assets i d))
 kept flows place [] [] are = (refl, tt, λ i d lt. absurd (omega (arith, lt)))
 kept flows place [] (x ∷ learned) are = absurd are
 kept flows place (a ∷ assets) [] are = absurd are
-kept flows place (a ∷ assets) (x ∷ learned) are = let more = kept flows (place + 1) assets learned are.1 in (ap suc more.0, (are.0.within, more.1), at more.2)
+kept flows place (a ∷ assets) (x ∷ learned) are =
+    let more = kept flows (place + 1) assets learned are.1 in (ap suc more.0, (are.0.within, more.1), at more.2)
   where
-    at : ((i : ℕ) (d : Asset) → i < length assets → ((get_or learned i d).name ≡ (get_or assets i d).name) × ((get_or learned i d).endpoint ≡ (get_or assets i d).endpoint))
-        → (i : ℕ) (d : Asset) → i < suc (length assets)
-        → ((get_or (x ∷ learned) i d).name ≡ (get_or (a ∷ assets) i d).name) × ((get_or (x ∷ learned) i d).endpoint ≡ (get_or (a ∷ assets) i d).endpoint)
+    at : ((i : ℕ) (d : Asset) → i < length assets → IsNamedAs (get_or learned i d) (get_or assets i d))
+        → (i : ℕ) (d : Asset) → i < suc (length assets) → IsNamedAs (get_or (x ∷ learned) i d) (get_or (a ∷ assets) i d)
     at later zero d lt = (ap (λ b. b.name) are.0.same, ap (λ b. b.endpoint) are.0.same)
     at later (suc i) d lt = later i d (omega (arith, lt))
 

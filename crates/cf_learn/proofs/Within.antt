@@ -51,7 +51,11 @@ span_within : (run : Run) → IsRunWithin run → IsSpanWithin (pos 0) highest_p
 span_within run h = record { above = let z = h.ordered in omega (arith, ints); ordered = let le = h.ordered in omega (arith, ints, le); below = h.below }
 
 part_starts : (run : Run) → IsRunWithin run → IsPartWithin (part_of run)
-part_starts run h = record { kind = h.kind; count = omega arith; points = All-cons (IsSpanWithin (pos 0) highest_point) (span_of run) [] (span_within run h) (All-nil _) }
+part_starts run h = record {
+  kind = h.kind;
+  count = omega arith;
+  points = All-cons (IsSpanWithin (pos 0) highest_point) (span_of run) [] (span_within run h) (All-nil _);
+}
 
 part_goes_on : (part : Part) (run : Run) → IsPartWithin part → IsRunWithin run → goes_in part run ≡ true → IsPartWithin (longer_part part run)
 part_goes_on part run h w e = record {
