@@ -1,7 +1,7 @@
 -- What an item is that is refused, what decides, and what replies to it: one protocol after the other.
-use Rattle.std.proofs.Common.{◌≡◌, ℕ, Bool, true, false, not, ◌&&◌, ◌||◌, nat_eq, nat_lt, List, [], ◌∷◌, ◌++◌, length, cond, if◌then◌else◌, slice_index, Option, Some, None, Result, Ok, Err, refl, sym, ap, ◌∙◌, subst, inl, inr, arith}
+use Rattle.std.proofs.Common.{◌≡◌, ℕ, Bool, true, false, not, ◌||◌, nat_eq, nat_lt, List, [], ◌∷◌, ◌++◌, length, if◌then◌else◌, slice_index, Option, Some, None, Result, Ok, Err, refl, sym, ap, ◌∙◌, subst, inl, inr, arith}
 use Rattle.std.specs.List.{flat_map}
-use Rattle.std.proofs.lemmas.Bool.{cases_Bool}
+use Rattle.std.proofs.lemmas.Bool.{cases_Bool, cond_both}
 use Rattle.std.proofs.lemmas.Bool.Decides.{nat_tests}
 use Rattle.std.proofs.lemmas.List.{append-nil}
 use Rattle.cf_apci.specs.Apdu.{Ack, ApduValue, Control, Info}
@@ -24,10 +24,10 @@ use Rattle.cf_lane.specs.Acts.{fate_of_acts}
 use Rattle.cf_lane.specs.Dnp3.{answer_now, fate_of_fragment, fate_of_frame, fate_of_read, fate_of_segment, fate_of_whole, fragment_frames, fragment_in, fragment_reply, frame_output, is_data, stray_of, whole_now}
 use Rattle.cf_lane.specs.Fate.{HasItemFate, HasOwnDecider, HasUnitFate}
 use Rattle.cf_lane.specs.Iec104.{asdu_in, fate_by_form, fate_of_apdu, fate_of_asdu, fate_of_info, mirror_output, or_cut, stamped}
-use Rattle.cf_lane.specs.Item.{Broke, Ended, Item, Took}
+use Rattle.cf_lane.specs.Item.{Item, Took}
 use Rattle.cf_lane.specs.Judged.{Judged, has_ended}
 use Rattle.cf_lane.specs.Modbus.{HasCommandFate, adu_reply, of_its_acts, of_no_form, of_other_station}
-use Rattle.cf_lane.specs.Numbers.{ack_cut, events_of, has_mirror, info_cut}
+use Rattle.cf_lane.specs.Numbers.{ack_cut, events_of, info_cut}
 use Rattle.cf_lane.specs.Output.{item_output}
 use Rattle.cf_lane.specs.Rates.{Says}
 use Rattle.cf_lane.specs.Unit.{Adu, Apdu, Frame, UnitValue, apdu_spelling}
@@ -57,46 +57,32 @@ module _ (asset : Asset) (says : Says) (inside : (act : Act) → IsInside asset.
   own_command a f (of_no_form station refusal reads is) = subst Own (sym is) tt
   own_command a f (of_its_acts station r reads is) = subst Own (sym is) (own_acts asset says inside (requests.acts r))
 
-  own_unless : (b : Bool) (f : Fate) → Own f → Own (if b then fate.Carried else f)
-  own_unless true f h = tt
-  own_unless false f h = h
+  own_or : (b : Bool) (f g : Fate) → Own f → Own g → Own (if b then f else g)
+  own_or b f g h k = cond_both b f g Own (λ yes. h) (λ no. k)
 
   own_read : (code : ℕ) (read : Result FragmentValue FragmentRefusal) → Own (fate_of_read asset says code read)
-  own_read code (Ok f) = own_unless (nat_eq f.code 0) (fate_of_acts asset says (fragments.acts f)) (own_acts asset says inside (fragments.acts f))
+  own_read code (Ok f) = own_or (nat_eq f.code 0) fate.Carried (fate_of_acts asset says (fragments.acts f)) tt (own_acts asset says inside (fragments.acts f))
   own_read code (Err refusal) = tt
 
   own_fragment : (s : Side) (octets : List ℕ) → Own (fate_of_fragment asset says s octets)
   own_fragment side.Client octets = own_read (slice_index octets 1) (read_octets octets)
   own_fragment side.Controller octets = tt
 
-  own_long : (b : Bool) (f : Fate) → Own f → Own (if b then fate.Stray why.Short else f)
-  own_long true f h = tt
-  own_long false f h = h
-
   own_whole : (s : Side) (whole : List (List ℕ)) → Own (fate_of_whole asset says s whole)
   own_whole s [] = tt
-  own_whole s (octets ∷ none) = own_long (nat_lt (length octets) 2) (fate_of_fragment asset says s octets) (own_fragment s octets)
+  own_whole s (octets ∷ none) = own_or (nat_lt (length octets) 2) (fate.Stray why.Short) (fate_of_fragment asset says s octets) tt (own_fragment s octets)
 
   own_segment : (s : Side) (answer : SegmentAnswer) (whole : List (List ℕ)) → Own (fate_of_segment asset says s answer whole)
-  own_segment s answers.More whole = tt
-  own_segment s (answers.Dropped because) whole = tt
   own_segment s answers.Whole whole = own_whole s whole
-
-  own_data : (b : Bool) (f : Fate) → Own f → Own (if b then f else fate.Carried)
-  own_data true f h = h
-  own_data false f h = tt
+  own_segment s _ whole = tt
 
   own_frame : (s : Side) (earlier : List Judged) (x : FrameValue) (o : Option Why) → Own (fate_of_frame asset says s earlier x o)
   own_frame s earlier x (Some because) = tt
-  own_frame s earlier x None = own_data (is_data x) _ (own_segment s (answer_now asset s earlier x) (whole_now asset s earlier x))
+  own_frame s earlier x None = own_or (is_data x) _ fate.Carried (own_segment s (answer_now asset s earlier x) (whole_now asset s earlier x)) tt
 
   own_form : (octets : List ℕ) (o : Option AsduRefusal) → Own (fate_by_form asset says octets o)
   own_form octets (Some refusal) = tt
   own_form octets None = own_acts asset says inside (commands.acts (asdu_in octets))
-
-  own_or : (b : Bool) (f g : Fate) → Own f → Own g → Own (if b then f else g)
-  own_or true f g h k = h
-  own_or false f g h k = k
 
   own_asdu : (octets : List ℕ) → Own (fate_of_asdu asset says octets)
   own_asdu octets =
@@ -124,8 +110,7 @@ module _ (asset : Asset) (says : Says) (inside : (act : Act) → IsInside asset.
 
   pub own_item : (earlier : List Judged) (item : Item) (f : Fate) → HasItemFate asset says earlier item f → Own f
   own_item earlier (Took s u) f h = own_unit earlier s u f h
-  own_item earlier (Ended s rest) f h = subst Own (sym h) tt
-  own_item earlier (Broke s because) f h = subst Own (sym h) tt
+  own_item earlier _ f h = subst Own (sym h) tt
 
 -- ---- what replies
 
@@ -167,9 +152,7 @@ module _ (asset : Asset) (says : Says) (refusal : Refusal) where
   -- a fragment was completed
   completed_one : (answer : SegmentAnswer) (o : Option (List ℕ)) → Refuses (fate_of_segment asset says side.Client answer (completed answer o)) → (octets : List ℕ) × (completed answer o ≡ octets ∷ [])
   completed_one answers.Whole (Some octets) e = (octets, refl)
-  completed_one answers.Whole None e = cc
-  completed_one answers.More o e = cc
-  completed_one (answers.Dropped because) o e = cc
+  completed_one _ _ e = cc
 
   -- nothing of the controller's is refused
   short_carried : (b : Bool) → Refuses (if b then fate.Stray why.Short else fate.Carried) → ⊥
@@ -181,9 +164,8 @@ module _ (asset : Asset) (says : Says) (refusal : Refusal) where
   whole_carried (octets ∷ none) e = short_carried (nat_lt (length octets) 2) e
 
   segment_carried : (answer : SegmentAnswer) (whole : List (List ℕ)) → Refuses (fate_of_segment asset says side.Controller answer whole) → ⊥
-  segment_carried answers.More whole e = cc
-  segment_carried (answers.Dropped because) whole e = cc
   segment_carried answers.Whole whole e = whole_carried whole e
+  segment_carried _ whole e = cc
 
   frame_carried : (earlier : List Judged) (x : FrameValue) (o : Option Why) → Refuses (fate_of_frame asset says side.Controller earlier x o) → ⊥
   frame_carried earlier x (Some because) e = cc
@@ -237,8 +219,6 @@ module _ (asset : Asset) (says : Says) (refusal : Refusal) where
     item_reply_is (Took side.Client (Adu a)) e h = adu_reply_is a
     item_reply_is (Took side.Client (Frame x)) e h = frame_reply_is x e (stray_of asset side.Client x) h
     item_reply_is (Took side.Client (Apdu a)) e h = apdu_reply_is a h
-    item_reply_is (Took side.Controller (Adu a)) e h = cc
     item_reply_is (Took side.Controller (Frame x)) e h = absurd (frame_carried earlier x (stray_of asset side.Controller x) h)
     item_reply_is (Took side.Controller (Apdu a)) e h = absurd (apdu_carried earlier a h)
-    item_reply_is (Ended s rest) e h = cc
-    item_reply_is (Broke s because) e h = cc
+    item_reply_is _ e h = cc

@@ -1,28 +1,21 @@
 -- What is told of a refused command stands at its place.
 use Rattle.std.proofs.Common.{◌≡◌, ℕ, List, [], ◌∷◌, ◌++◌, refl, sym, ap, ◌∙◌, subst, append_assoc}
 use Rattle.std.proofs.lemmas.List.{append-nil}
+use Rattle.cf_lane.proofs.Earlier.{in_turn-append}
 use Rattle.cf_lane.specs.Fate.{HasFate, HasItemFate, HasOwnDecider, HaveFates}
-use Rattle.cf_lane.specs.Follows.{AreJudged}
-use Rattle.cf_lane.specs.Item.{Broke, Ended, Item, Took}
-use Rattle.cf_lane.specs.Judged.{Judged, in_turn, place_of}
+use Rattle.cf_lane.specs.Item.{Item, Took}
+use Rattle.cf_lane.specs.Judged.{Judged, place_of}
 use Rattle.cf_lane.specs.Log.{command_octets, is_some_bytes, item_lines, line_about, lines, refusal_line, unit_lines}
-use Rattle.cf_lane.specs.Output.{output, outputs}
+use Rattle.cf_lane.specs.Output.{output}
 use Rattle.cf_lane.specs.Rates.{Says, says_at}
 use Rattle.cf_lane.specs.declared.fate.Fate.TheVariants as fate
 use Rattle.cf_lane.specs.declared.fate.Refusal.{Refusal}
 use Rattle.cf_policy.specs.declared.Asset.{Asset}
 use Rattle.cf_view.specs.declared.Endpoint.{Endpoint}
 use Rattle.cf_view.specs.declared.Side.TheVariants as side
-use Rattle.cf_refusals.specs.Told.{IsTold, RefusedAreTold}
+use Rattle.cf_refusals.specs.Told.{RefusedAreTold}
 use Rattle.cf_refusals.proofs.Deciding.{says_inside}
 use Rattle.cf_refusals.proofs.Replies.{item_reply_is, own_item}
-
-turn_append : {X : Type 0} (put : List Judged → Judged → List X) (before xs ys : List Judged) → in_turn put before (xs ++ ys) ≡ in_turn put before xs ++ in_turn put (before ++ xs) ys
-turn_append put before [] ys = ap (λ b. in_turn put b ys) (sym (append-nil before))
-turn_append put before (x ∷ xs) ys =
-    ap (λ zs. put before x ++ zs) (turn_append put (before ++ x ∷ []) xs ys)
-    ∙ sym (append_assoc (put before x) (in_turn put (before ++ x ∷ []) xs) (in_turn put ((before ++ x ∷ []) ++ xs) ys))
-    ∙ ap (λ b. (put before x ++ in_turn put (before ++ x ∷ []) xs) ++ in_turn put b ys) (append_assoc before (x ∷ []) xs)
 
 fate_at : (asset : Asset) (client : ℕ) (before earlier : List Judged) (j : Judged) (later : List Judged) → HaveFates asset client before (earlier ++ j ∷ later) →
     HasFate asset client (before ++ earlier) (place_of j) j.fate
@@ -36,8 +29,7 @@ module _ (asset : Asset) (client : Endpoint) (earlier : List Judged) (j : Judged
       (octets : List ℕ) × (item_lines asset client earlier j item ≡ line_about asset client j.moment (refusal_line asset refusal (is_some_bytes (output asset side.Client earlier j)) octets) ∷ [])
   one_line (Took s unit) h =
       (command_octets asset earlier s unit, ap (unit_lines asset client j.moment (is_some_bytes (output asset side.Client earlier j)) s (command_octets asset earlier s unit)) is)
-  one_line (Ended s rest) h = cc
-  one_line (Broke s because) h = cc
+  one_line _ h = cc
 
 pub are_told : RefusedAreTold
 are_told asset client history earlier later j refusal are is =
@@ -49,8 +41,8 @@ are_told asset client history earlier later j refusal are is =
       decider = subst (HasOwnDecider asset.rules) is (own_item asset says (says_inside asset client.address earlier j.moment) earlier j.item j.fate has);
       replied = output asset side.Client earlier j;
       is_reply = item_reply_is asset says refusal earlier j is j.item refl refused;
-      in_stream = turn_append (output asset side.Client) [] earlier (j ∷ later);
+      in_stream = in_turn-append (output asset side.Client) [] earlier (j ∷ later);
       octets = line.0;
-      in_log = turn_append (λ before k. item_lines asset client before k k.item) [] earlier (j ∷ later)
+      in_log = in_turn-append (λ before k. item_lines asset client before k k.item) [] earlier (j ∷ later)
           ∙ ap (λ ls. lines asset client [] earlier ++ (ls ++ lines asset client (earlier ++ j ∷ []) later)) line.1;
     }
