@@ -18,7 +18,7 @@ use Rattle.cf_lane.specs.Acts.{act_of_code, by_refusal, fate_of_acts}
 use Rattle.cf_lane.specs.Dnp3.{answer_now, fate_of_frame, fate_of_fragment, fate_of_read, fate_of_segment, is_data, is_none, segments_of, stray_of, whole_now}
 use Rattle.cf_lane.specs.Fate.{HasFate, HasItemFate, HaveFates, IsOfCommand}
 use Rattle.cf_lane.specs.Iec104.{asdu_in, asdu_refused, fate_by_form, fate_of_apdu, fate_of_asdu, or_cut}
-use Rattle.cf_lane.specs.Item.{Broke, Ended, Item, Took}
+use Rattle.cf_lane.specs.Item.{Item, Took}
 use Rattle.cf_lane.specs.Judged.{Judged, is_admitted, place_of}
 use Rattle.cf_lane.specs.Modbus.{HasCommandFate, of_its_acts, of_no_form, of_other_station}
 use Rattle.cf_lane.specs.Numbers.{ack_cut, info_cut}
@@ -33,7 +33,7 @@ use Rattle.cf_policy.specs.declared.Decider.{Decider}
 use Rattle.cf_view.specs.declared.Reason.{Reason}
 use Rattle.cf_view.specs.declared.Side.{Side}
 use Rattle.std.proofs.Common.{Bool, Err, List, None, Ok, Option, Some, [], ap, append_assoc, arith, false, inl, inr, length, refl, subst, sym, true, ℕ, ◌++◌, ◌∙◌, ◌∷◌, ◌≡◌, ◌≤◌}
-use Rattle.std.proofs.lemmas.Bool.{eq-eqb, eqb-true, ltb-false, ltb-true}
+use Rattle.std.proofs.lemmas.Bool.{cond_both, eq-eqb, eqb-true, ltb-false, ltb-true}
 use Rattle.std.proofs.lemmas.List.{append-nil}
 use Rattle.std.specs.Prelude.{if◌then◌else◌, nat_eq, nat_lt, slice_index}
 use Rattle.std.specs.declared.result.Result.{Result}
@@ -48,21 +48,14 @@ use Rattle.cf_policy.specs.declared.Decider.TheVariants as decider
 use Rattle.cf_view.specs.declared.Reason.TheVariants as reason
 use Rattle.cf_view.specs.declared.Side.TheVariants as side
 
-by_if : (b : Bool) (f g : Fate) (P : Fate → Type 0) → (b ≡ true → P f) → (b ≡ false → P g) → P (if b then f else g)
-by_if true f g P x y = x refl
-by_if false f g P x y = y refl
-
 module _ (asset : Asset) (says : Says) where
   abbrev Decides : List Command → Fate → Type 0
   Decides commands f = IsDecided asset says commands f
 
   of_command : (c : Command) (f : Fate) → IsOfCommand f → (is_admitted f ≡ true → Allows asset says c) → (Allows asset says c → is_admitted f ≡ true) → Decides (c ∷ []) f
-  of_command c fate.Carried is to from = absurd is
   of_command c (fate.Admitted used) is to from = inl (refl, to refl)
   of_command c (fate.Refused x) is to from = inr (refl, λ a. cc (from a))
-  of_command c (fate.Stray because) is to from = absurd is
-  of_command c fate.Lengthens is to from = absurd is
-  of_command c (fate.Cuts because) is to from = absurd is
+  of_command c _ is to from = absurd is
 
   by_acts : (used : List Bool) (x : Option Refusal) → IsOfCommand (by_refusal used x)
   by_acts used None = tt
@@ -98,11 +91,11 @@ module _ (asset : Asset) (says : Says) where
 
     by_asdu : Decides one (fate_of_asdu asset says asdu)
     by_asdu =
-        by_if (nat_lt (length asdu) 9) (asdu_refused decider.Form (refusal_reason refusal.Short) asdu 0)
+        cond_both (nat_lt (length asdu) 9) (asdu_refused decider.Form (refusal_reason refusal.Short) asdu 0)
         (if nat_eq (station_of asdu) asset.station then fate_by_form asset says asdu (first_refusal (asdu_in asdu)) else asdu_refused decider.Station reason.Station asdu (station_of asdu))
         (Decides one)
         (λ e. refused (OfIec104 asdu) (why_refused decider.Form (refusal_reason refusal.Short) 0) (λ a. (let long = a.whole in let short = ltb-true (length asdu) 9 e in absurd (omega (arith, long, short)))))
-        (λ long. by_if (nat_eq (station_of asdu) asset.station) (fate_by_form asset says asdu (first_refusal (asdu_in asdu))) (asdu_refused decider.Station reason.Station asdu (station_of asdu))
+        (λ long. cond_both (nat_eq (station_of asdu) asset.station) (fate_by_form asset says asdu (first_refusal (asdu_in asdu))) (asdu_refused decider.Station reason.Station asdu (station_of asdu))
         (Decides one)
         (λ e. by_form (first_refusal (asdu_in asdu)) refl (ltb-false (length asdu) 9 long) (eqb-true (station_of asdu) asset.station e))
         (λ e. refused (OfIec104 asdu) (why_refused decider.Station reason.Station (station_of asdu)) (λ a. (let is = eq-eqb (station_of asdu) asset.station a.station in cc (e, is)))))
@@ -145,20 +138,16 @@ module _ (asset : Asset) (says : Says) where
   by_short octets false = by_read octets (slice_index octets 1) (read_octets octets) refl
 
   by_segment : (answer : SegmentAnswer) (last : Option (List ℕ)) → Decides (whole_commands (completed answer last)) (fate_of_segment asset says side.Client answer (completed answer last))
-  by_segment answers.More last = (refl, refl)
-  by_segment (answers.Dropped because) last = (refl, refl)
-  by_segment answers.Whole None = (refl, refl)
   by_segment answers.Whole (Some octets) = by_short octets (nat_lt (length octets) 2)
+  by_segment _ _ = (refl, refl)
 
   short_or_carried : (b : Bool) → Decides [] (if b then fate.Stray why.Short else fate.Carried)
   short_or_carried true = (refl, refl)
   short_or_carried false = (refl, refl)
 
   by_controllers_segment : (answer : SegmentAnswer) (last : Option (List ℕ)) → Decides [] (fate_of_segment asset says side.Controller answer (completed answer last))
-  by_controllers_segment answers.More last = (refl, refl)
-  by_controllers_segment (answers.Dropped because) last = (refl, refl)
-  by_controllers_segment answers.Whole None = (refl, refl)
   by_controllers_segment answers.Whole (Some octets) = short_or_carried (nat_lt (length octets) 2)
+  by_controllers_segment _ _ = (refl, refl)
 
   module _ (earlier : List Judged) (x : FrameValue) where
     abbrev run : Side → Option (List ℕ)
@@ -178,11 +167,9 @@ module _ (asset : Asset) (says : Says) where
   by_item earlier (Took side.Client (Adu a)) f has = by_adu a f has
   by_item earlier (Took side.Client (Frame x)) f has = subst (Decides (commands_by asset earlier (Took side.Client (Frame x)))) (sym has) (by_frame earlier x (is_data x) (stray_of asset side.Client x) refl)
   by_item earlier (Took side.Client (Apdu a)) f has = subst (Decides (commands_by asset earlier (Took side.Client (Apdu a)))) (sym has) (by_apdu earlier a)
-  by_item earlier (Took side.Controller (Adu a)) f has = subst (Decides []) (sym has) (refl, refl)
   by_item earlier (Took side.Controller (Frame x)) f has = subst (Decides []) (sym has) (by_controllers_frame earlier x (stray_of asset side.Controller x) (is_data x) refl)
   by_item earlier (Took side.Controller (Apdu a)) f has = subst (Decides []) (sym has) (by_controllers_apdu earlier a)
-  by_item earlier (Ended s n) f has = subst (Decides []) (sym has) (refl, refl)
-  by_item earlier (Broke s because) f has = subst (Decides []) (sym has) (refl, refl)
+  by_item earlier _ f has = subst (Decides []) (sym has) (refl, refl)
 
 module _ (asset : Asset) (client : ℕ) where
   -- the fate of the item after earlier ones

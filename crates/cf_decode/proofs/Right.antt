@@ -22,7 +22,7 @@ use Rattle.cf_lane.specs.Fate.{HasItemFate, HaveFates}
 use Rattle.cf_lane.specs.Follows.{AreJudged}
 use Rattle.cf_lane.specs.History.{Element, is_side}
 use Rattle.cf_lane.specs.Iec104.{info_number, renumbered}
-use Rattle.cf_lane.specs.Item.{Broke, Ended, Item, Took}
+use Rattle.cf_lane.specs.Item.{Item, Took}
 use Rattle.cf_lane.specs.Judged.{Judged, goes_on, in_turn, place_of}
 use Rattle.cf_lane.specs.Numbers.{events_of}
 use Rattle.cf_lane.specs.Unit.{Adu, Apdu, Frame, SpellsUnit, UnitValue, unit_spelling}
@@ -35,7 +35,8 @@ use Rattle.cf_view.proofs.OctetLists.{IsOctets-append, IsOctets-drop, IsOctets-t
 use Rattle.cf_view.specs.Octets.{IsOctets}
 use Rattle.std.proofs.Common.{Bool, List, None, Option, Some, [], ap, arith, drop, false, length, map, refl, reverse, subst, suc, sym, true, zero, ℕ, ◌%◌, ◌*◌, ◌++◌, ◌+◌, ◌<◌, ◌∙◌, ◌∷◌, ◌≡◌, ◌≤◌}
 use Rattle.std.proofs.lemmas.Bool.Decides.{nat_tests}
-use Rattle.std.proofs.lemmas.Bool.{eqb-true, leb-true, ltb-false}
+use Rattle.std.proofs.lemmas.Bool.{and_parts, cond_both, eqb-true, leb-true, ltb-false}
+use Rattle.std.proofs.lemmas.Option.{same_Some}
 use Rattle.std.proofs.lemmas.List.{length-take, map-append, reverse-append}
 use Rattle.std.specs.List.{AllByRecursion}
 use Rattle.std.specs.Prelude.{if◌then◌else◌, nat_eq, nat_le, nat_lt, not, ◌&&◌, ◌^◌}
@@ -54,37 +55,27 @@ all-append P (x ∷ xs) ys a b = (a.0, all-append P xs ys a.1 b)
 -- a unit that some octets are is spelled
 spelled_again : (p : Protocol) (u : UnitValue) (xs : List ℕ) → SpellsUnit p u xs → SpellsUnit p u (unit_spelling u)
 spelled_again protocol.Modbus (Adu a) xs s = subst (SpellsAdu a) s.spelled s
-spelled_again protocol.Modbus (Frame x) xs s = absurd s
-spelled_again protocol.Modbus (Apdu x) xs s = absurd s
-spelled_again protocol.Dnp3 (Adu a) xs s = absurd s
 spelled_again protocol.Dnp3 (Frame x) xs s =
     subst (SpellsFrame x) (s.spelled ∙ ap (λ user. link.spelling x.control x.dest x.source user) (sym (user_is x (xs, s)))) s
-spelled_again protocol.Dnp3 (Apdu x) xs s = absurd s
-spelled_again protocol.Iec104 (Adu a) xs s = absurd s
-spelled_again protocol.Iec104 (Frame x) xs s = absurd s
 spelled_again protocol.Iec104 (Apdu a) xs s = record { fits = s.fits; spelled = refl }
+spelled_again _ _ xs s = absurd s
 
 module _ (p : Protocol) where
   spelled_frame : (x : FrameValue) → SpellsUnit p (Frame x) (unit_spelling (Frame x)) → (p ≡ protocol.Dnp3) × SpellsFrame x (unit_spelling (Frame x))
   spelled_frame x s = by_protocol p refl s where
     by_protocol : (q : Protocol) → q ≡ p → SpellsUnit q (Frame x) (unit_spelling (Frame x)) → (p ≡ protocol.Dnp3) × SpellsFrame x (unit_spelling (Frame x))
-    by_protocol protocol.Modbus is s = absurd s
     by_protocol protocol.Dnp3 is s = (sym is, s)
-    by_protocol protocol.Iec104 is s = absurd s
+    by_protocol _ is s = absurd s
 
 -- the segments are octets
 user_octets : (x : FrameValue) → SpellsFrame x (unit_spelling (Frame x)) → IsOctets (user_of x.blocks)
 user_octets x s = subst IsOctets (sym (user_is x (unit_spelling (Frame x), s))) s.user_octets
 
-if_octets : (b : Bool) (xs ys : List (List ℕ)) → AllByRecursion IsOctets xs → AllByRecursion IsOctets ys → AllByRecursion IsOctets (if b then xs else ys)
-if_octets true xs ys a c = a
-if_octets false xs ys a c = c
-
 since_octets : (segments : List (List ℕ)) → AllByRecursion IsOctets segments → AllByRecursion IsOctets (since_first segments)
 since_octets [] a = tt
 since_octets ([] ∷ earlier) a = since_octets earlier a.1
 since_octets ((o ∷ os) ∷ earlier) a =
-    if_octets (is_first (o ∷ os)) ((o ∷ os) ∷ []) ((o ∷ os) ∷ since_first earlier) (a.0, tt) (a.0, since_octets earlier a.1)
+    cond_both (is_first (o ∷ os)) ((o ∷ os) ∷ []) ((o ∷ os) ∷ since_first earlier) (AllByRecursion IsOctets) (λ first. (a.0, tt)) (λ later. (a.0, since_octets earlier a.1))
 
 put_octets : (run : List (List ℕ)) → AllByRecursion IsOctets run → IsOctets (octets_of run)
 put_octets [] a = IsOctets-zeros 0
@@ -94,16 +85,13 @@ if_some : (b : Bool) (o : Option (List ℕ)) (x : List ℕ) → (if b then o els
 if_some true o x e = (refl, e)
 if_some false o x e = cc
 
-some_is : (x y : List ℕ) → Some x ≡ Some y → x ≡ y
-some_is x y e = cc
-
 -- a fragment that is put together of octets has at most 2,048
 fragment_fits : (segments : List (List ℕ)) (octets : List ℕ) → AllByRecursion IsOctets segments → last_fragment segments ≡ Some octets → (length octets ≤ 2048) × IsOctets octets
 fragment_fits segments octets all e =
     let run = since_first segments in
     let linked = if_some (is_linked run) (fitting (octets_of run)) octets e in
     let fits = if_some (nat_le (length (octets_of run)) 2048) (Some (octets_of run)) octets linked.1 in
-    let same = some_is (octets_of run) octets fits.1 in (
+    let same = same_Some (octets_of run) octets fits.1 in (
       omega (arith, leb-true (length (octets_of run)) 2048 fits.0, ap length same),
       subst IsOctets same (put_octets run (since_octets segments all)),
     )
@@ -128,15 +116,9 @@ module _ (asset : Asset) where
   right_if false i r = tt
 
   -- IEC 60870-5-104
-  right_ack : (p : Protocol) → p ≡ asset.protocol → (a : ApduValue) → SpellsUnit p (Apdu a) (unit_spelling (Apdu a)) → (n : ℕ) → n < 32768 → IsRight (Whole (Apdu (Ack n)))
-  right_ack protocol.Modbus is a s n h = absurd s
-  right_ack protocol.Dnp3 is a s n h = absurd s
-  right_ack protocol.Iec104 is a s n h = (refl, subst (λ p. SpellsUnit p (Apdu (Ack n)) (unit_spelling (Apdu (Ack n)))) is (record { fits = h; spelled = refl }))
-
   by_number : (p : Protocol) → p ≡ asset.protocol → (a : ApduValue) → SpellsUnit p (Apdu a) (unit_spelling (Apdu a)) → (b : ApduValue) → (apci.Fits a → apci.Fits b) → IsRight (Whole (Apdu b))
-  by_number protocol.Modbus is a s b to = absurd s
-  by_number protocol.Dnp3 is a s b to = absurd s
   by_number protocol.Iec104 is a s b to = (refl, subst (λ p. SpellsUnit p (Apdu b) (unit_spelling (Apdu b))) is (record { fits = to s.fits; spelled = refl }))
+  by_number _ is a s b to = absurd s
 
   fits_renumbered : (earlier : List Judged) (a : ApduValue) → apci.Fits a → apci.Fits (renumbered side.Controller earlier a)
   fits_renumbered earlier (Info send receive asdu) f = (omega arith, omega arith, f.2, f.3)
@@ -144,7 +126,7 @@ module _ (asset : Asset) where
   fits_renumbered earlier (Control octet) f = f
 
   right_owed : (p : Protocol) → p ≡ asset.protocol → (a : ApduValue) → SpellsUnit p (Apdu a) (unit_spelling (Apdu a)) → (b : Bool) (n : ℕ) → AreRight (acks (if b then Some (n % 32768) else None))
-  right_owed p is a s true n = (right_ack p is a s (n % 32768) (omega arith), tt)
+  right_owed p is a s true n = (by_number p is a s (Ack (n % 32768)) (λ fits. omega arith), tt)
   right_owed p is a s false n = tt
 
   right_apdu : (earlier : List Judged) (f : Fate) (a : ApduValue) → SpellsUnit asset.protocol (Apdu a) (unit_spelling (Apdu a)) → AreRight (passed_by_apdu earlier f a)
@@ -152,9 +134,7 @@ module _ (asset : Asset) where
   right_apdu earlier (fate.Admitted used) a s = (by_number asset.protocol refl a s (renumbered side.Controller earlier a) (fits_renumbered earlier a), tt)
   right_apdu earlier (fate.Refused refusal) a s =
       right_owed asset.protocol refl a s (nat_lt (last_told (events_of earlier)) (client_translated (events_of earlier) (info_number a))) (client_translated (events_of earlier) (info_number a))
-  right_apdu earlier (fate.Stray because) a s = tt
-  right_apdu earlier fate.Lengthens a s = tt
-  right_apdu earlier (fate.Cuts because) a s = tt
+  right_apdu earlier _ a s = tt
 
   -- DNP3
   module _ (says : Says) (earlier : List Judged) (x : FrameValue) (s : SpellsFrame x (unit_spelling (Frame x))) (dnp3 : asset.protocol ≡ protocol.Dnp3) where
@@ -169,24 +149,18 @@ module _ (asset : Asset) where
 
     by_segment : (answer : SegmentAnswer) (last : Option (List ℕ)) → ((octets : List ℕ) → last ≡ Some octets → (length octets ≤ 2048) × IsOctets octets) → IsMaster asset →
         Goes (fate_of_segment asset says side.Client answer (completed answer last)) (completed answer last)
-    by_segment answers.More last fits m = tt
-    by_segment (answers.Dropped because) last fits m = tt
-    by_segment answers.Whole None fits m = tt
     by_segment answers.Whole (Some octets) fits m =
         let f = fits octets refl in by_length octets (nat_lt (length octets) 2) refl f.0 f.1 m
+    by_segment _ _ fits m = tt
 
     addressed : (a b : Bool) (o : Option Why) → (if not a then Some why.Address else o) ≡ None → a ≡ true
     addressed true b o e = refl
     addressed false b o e = cc
 
-    both : (a b : Bool) → (a && b) ≡ true → (a ≡ true) × (b ≡ true)
-    both true b e = (refl, e)
-    both false b e = cc
-
     is_master : stray_of asset side.Client x ≡ None → IsMaster asset
     is_master none =
         let here = addressed (has_addresses asset side.Client x) true (if not (has_right_direction side.Client x) then Some why.Direction else (if is_data x then None else (if is_status x then None else Some why.Code))) none in
-        let are = both (nat_eq x.dest asset.station) (nat_eq x.source asset.master) here in
+        let are = and_parts (nat_eq x.dest asset.station) (nat_eq x.source asset.master) here in
         let d = s.dest in
         let o = s.source in
         record {
@@ -221,17 +195,12 @@ module _ (asset : Asset) where
   right_item says earlier j (Took side.Client (Frame x)) all s has =
       let spelled = spelled_frame asset.protocol x (spelled_again asset.protocol (Frame x) s.0 s.1) in right_frame says earlier x spelled.1 spelled.0 all j.fate has
   right_item says earlier j (Took side.Client (Apdu a)) all s has = right_apdu earlier j.fate a (spelled_again asset.protocol (Apdu a) s.0 s.1)
-  right_item says earlier j (Took side.Controller u) all s has = tt
-  right_item says earlier j (Ended t n) all s has = tt
-  right_item says earlier j (Broke t because) all s has = tt
+  right_item says earlier j _ all s has = tt
 
   segment_octets : (i : Item) → IsItemOf asset.protocol i → AllByRecursion IsOctets (segment_in asset side.Client i)
   segment_octets (Took t (Frame x)) s =
-      if_octets (is_side side.Client t && (is_none (stray_of asset t x) && is_data x)) (user_of x.blocks ∷ []) [] (user_octets x (spelled_frame asset.protocol x (spelled_again asset.protocol (Frame x) s.0 s.1)).1, tt) tt
-  segment_octets (Took t (Adu a)) s = tt
-  segment_octets (Took t (Apdu a)) s = tt
-  segment_octets (Ended t n) s = tt
-  segment_octets (Broke t because) s = tt
+      cond_both (is_side side.Client t && (is_none (stray_of asset t x) && is_data x)) (user_of x.blocks ∷ []) [] (AllByRecursion IsOctets) (λ taken. (user_octets x (spelled_frame asset.protocol x (spelled_again asset.protocol (Frame x) s.0 s.1)).1, tt)) (λ left. tt)
+  segment_octets _ s = tt
 
   abbrev put : List Judged → Judged → List Passed
   put before j = passed_by asset before j j.item

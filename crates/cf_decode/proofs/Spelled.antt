@@ -14,7 +14,7 @@ use Rattle.cf_dnptrans.specs.declared.assembly.SegmentAnswer.{SegmentAnswer}
 use Rattle.cf_lane.proofs.Earlier.{segments_into-more}
 use Rattle.cf_lane.specs.Dnp3.{answer_now, data_octets, fragment_frames, fragment_in, frames_at, is_data, segments_into, segments_of as lane_segments}
 use Rattle.cf_lane.specs.Iec104.{ack_octets, apdu_output, info_number, renumbered}
-use Rattle.cf_lane.specs.Item.{Broke, Ended, Item, Took}
+use Rattle.cf_lane.specs.Item.{Item, Took}
 use Rattle.cf_lane.specs.Judged.{Judged, goes_on, in_turn}
 use Rattle.cf_lane.specs.Numbers.{events_of}
 use Rattle.cf_lane.specs.Output.{item_output, output}
@@ -79,9 +79,7 @@ module _ (asset : Asset) where
     by_apdu earlier fate.Carried a = one (Apdu (renumbered side.Controller earlier a))
     by_apdu earlier (fate.Admitted used) a = one (Apdu (renumbered side.Controller earlier a))
     by_apdu earlier (fate.Refused refusal) a = ack (owed_ack (events_of earlier) (info_number a))
-    by_apdu earlier (fate.Stray because) a = nothing
-    by_apdu earlier fate.Lengthens a = nothing
-    by_apdu earlier (fate.Cuts because) a = nothing
+    by_apdu earlier _ a = nothing
 
     fragment : (octets : List ℕ) → Puts start (flat_map (frames_at asset side.Controller start) (octets ∷ [])) (octets ∷ []) (Fragment octets ∷ [])
     fragment octets = record {
@@ -92,10 +90,8 @@ module _ (asset : Asset) where
 
     fragments : (answer : SegmentAnswer) (last : Option (List ℕ)) →
         Puts start (flat_map (frames_at asset side.Controller start) (completed answer last)) (completed answer last) (map Fragment (completed answer last))
-    fragments answers.More last = nothing
-    fragments (answers.Dropped because) last = nothing
-    fragments answers.Whole None = nothing
     fragments answers.Whole (Some octets) = fragment octets
+    fragments _ _ = nothing
 
     abbrev fragments_if : (goes data_is : Bool) → List (List ℕ) → List (List ℕ)
     fragments_if goes data_is whole = if data_is then (if goes then whole else []) else []
@@ -127,15 +123,12 @@ module _ (asset : Asset) where
         subst (λ octets. Puts (next_start earlier) octets (fragment_in asset side.Controller earlier j here) (passed_by asset earlier j here))
         (ap (frame_put side.Client x (if goes_on j.fate then frame_spelling x else [])) (sym is))
         (by_frame (next_start earlier) (goes_on j.fate) (is_data x) x (answer_now asset side.Client earlier x) (last_fragment (user_of x.blocks ∷ lane_segments asset side.Client earlier)))
-    by_item (Took side.Controller (Adu a)) is = nothing (next_start earlier)
-    by_item (Took side.Controller (Apdu a)) is = nothing (next_start earlier)
     by_item (Took side.Controller (Frame x)) is =
         let here = Took side.Controller (Frame x) in
         subst (λ octets. Puts (next_start earlier) octets (fragment_in asset side.Controller earlier j here) [])
         (ap (frame_put side.Controller x []) (sym is))
         (by_controllers (next_start earlier) (is_data x))
-    by_item (Ended s n) is = nothing (next_start earlier)
-    by_item (Broke s because) is = nothing (next_start earlier)
+    by_item _ is = nothing (next_start earlier)
 
   abbrev put : List Judged → Judged → List Passed
   put before j = passed_by asset before j j.item
