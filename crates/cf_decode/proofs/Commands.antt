@@ -141,12 +141,9 @@ module _ (asset : Asset) (says : Says) where
   by_segment answers.Whole (Some octets) = by_short octets (nat_lt (length octets) 2)
   by_segment _ _ = (refl, refl)
 
-  short_or_carried : (b : Bool) → Decides [] (if b then fate.Stray why.Short else fate.Carried)
-  short_or_carried true = (refl, refl)
-  short_or_carried false = (refl, refl)
-
   by_controllers_segment : (answer : SegmentAnswer) (last : Option (List ℕ)) → Decides [] (fate_of_segment asset says side.Controller answer (completed answer last))
-  by_controllers_segment answers.Whole (Some octets) = short_or_carried (nat_lt (length octets) 2)
+  by_controllers_segment answers.Whole (Some octets) =
+      cond_both (nat_lt (length octets) 2) (fate.Stray why.Short) fate.Carried (Decides []) (λ short. (refl, refl)) (λ long. (refl, refl))
   by_controllers_segment _ _ = (refl, refl)
 
   module _ (earlier : List Judged) (x : FrameValue) where

@@ -56,9 +56,6 @@ module _ (law : PutsTogether) (o : List ℕ) (start : ℕ) (earlier : List (List
   abbrev all : List (List ℕ)
   all = reverse (segments_of o start)
 
-  together : (segs more : List (List ℕ)) → all ≡ segs ++ more → PutTogether earlier start (o ∷ []) segs
-  together segs more e = law earlier start (o ∷ []) segs more none (sent, tt) (append-nil all ∙ e)
-
   record Whole_made (segs : List (List ℕ)) : Type 0 where
     makes : fragments_of earlier segs ≡ o ∷ []
     leaves : unfinished (reverse segs ++ earlier) ≡ None
@@ -69,28 +66,23 @@ module _ (law : PutsTogether) (o : List ℕ) (start : ℕ) (earlier : List (List
     short : count < count_of (length o)
     leaves : unfinished (reverse segs ++ earlier) ≡ held count (o ∷ [])
 
-  by_whole : (segs whole later some : List (List ℕ)) (count at : ℕ) → o ∷ [] ≡ whole ++ later → segs ≡ all_segments start whole ++ some → AreOfNext at later count some →
-      fragments_of earlier segs ≡ whole → unfinished (reverse segs ++ earlier) ≡ held count later →
-      ((length segs < count_of (length o)) × Part_made segs) ⊎ ((count_of (length o) ≤ length segs) × Whole_made segs)
-  by_whole segs whole later some count at first are next makes leaves =
-      elim (one_split o whole later first) [
-        | inl w ↦
-            let next : AreOfNext at (o ∷ []) count some = subst (λ ls. AreOfNext at ls count some) w.1 next in
-            let is : segs ≡ some = are ∙ ap (λ ws. all_segments start ws ++ some) w.0 in
-            let size = ap length (is ∙ next.1) ∙ long_segments o at count in
-            inl (omega (arith, size, next.0), record { makes = makes ∙ w.0; count = count; short = next.0; leaves = leaves ∙ ap (held count) w.1 })
-        | inr w ↦
-            let next : AreOfNext at [] count some = subst (λ ls. AreOfNext at ls count some) w.1 next in
-            let is : segs ≡ (all ++ []) ++ some = are ∙ ap (λ ws. all_segments start ws ++ some) w.0 in
-            let size = ap length is ∙ length-append (all ++ []) some in
-            let own = ap length (append-nil all) ∙ long_segments o start (count_of (length o)) in
-            inr (omega (arith, size, own), record { makes = makes ∙ w.0; leaves = leaves ∙ ap (λ n. held n later) next.0 })
-      ]
-
   one_made : (segs more : List (List ℕ)) → all ≡ segs ++ more → ((length segs < count_of (length o)) × Part_made segs) ⊎ ((count_of (length o) ≤ length segs) × Whole_made segs)
   one_made segs more e =
-      let p = together segs more e in
-      by_whole segs p.whole p.later p.some p.count (start + length (all_segments start p.whole)) p.first p.are p.next p.makes p.leaves
+      let p : PutTogether earlier start (o ∷ []) segs = law earlier start (o ∷ []) segs more none (sent, tt) (append-nil all ∙ e) in
+      let at = start + length (all_segments start p.whole) in
+      elim (one_split o p.whole p.later p.first) [
+        | inl w ↦
+            let next : AreOfNext at (o ∷ []) p.count p.some = subst (λ ls. AreOfNext at ls p.count p.some) w.1 p.next in
+            let is : segs ≡ p.some = p.are ∙ ap (λ ws. all_segments start ws ++ p.some) w.0 in
+            let size = ap length (is ∙ next.1) ∙ long_segments o at p.count in
+            inl (omega (arith, size, next.0), record { makes = p.makes ∙ w.0; count = p.count; short = next.0; leaves = p.leaves ∙ ap (held p.count) w.1 })
+        | inr w ↦
+            let next : AreOfNext at [] p.count p.some = subst (λ ls. AreOfNext at ls p.count p.some) w.1 p.next in
+            let is : segs ≡ (all ++ []) ++ p.some = p.are ∙ ap (λ ws. all_segments start ws ++ p.some) w.0 in
+            let size = ap length is ∙ length-append (all ++ []) p.some in
+            let own = ap length (append-nil all) ∙ long_segments o start (count_of (length o)) in
+            inr (omega (arith, size, own), record { makes = p.makes ∙ w.0; leaves = p.leaves ∙ ap (λ n. held n p.later) next.0 })
+      ]
 
   whole_made : Whole_made all
   whole_made =
@@ -140,9 +132,6 @@ pub record Making (asset : Asset) (earlier : List (List ℕ)) (start : ℕ) (ite
   pub begins : AreBegun asset (start_behind start (received earlier units)) following some more
   pub leaves : IsBegun following (unfinished (reverse (segments_in units) ++ earlier))
 
-none_begun : (following : List Passed) (x : Option (List ℕ)) → x ≡ None → IsBegun following x
-none_begun following x e = rw e tt
-
 -- fewer segments than the first fragment's
 part_of : (o : List ℕ) (items : List Passed) (n : ℕ) → n < count_of (length o) → IsBegun (Fragment o ∷ items) (held n (o ∷ []))
 part_of o items zero h = tt
@@ -158,7 +147,7 @@ module _ (asset : Asset) (law : PutsTogether) where
     some = [];
     are = refl;
     begins = (left, behind, h, e, is);
-    leaves = none_begun (i ∷ items) (unfinished earlier) none;
+    leaves = rw none tt;
   }
 
   whole_more : (u : UnitValue) (earlier : List (List ℕ)) (start : ℕ) (items : List Passed) (units more : List UnitValue) → has_segment u ≡ false →
@@ -226,7 +215,7 @@ module _ (asset : Asset) (law : PutsTogether) where
   making : (earlier : List (List ℕ)) (start : ℕ) (items : List Passed) (units more : List UnitValue) → unfinished earlier ≡ None → AreRight asset items →
       units_from asset start items ≡ units ++ more → Making asset earlier start items units more
   making earlier start [] [] more none all e =
-      record { following = []; first = refl; some = []; are = refl; begins = (refl, sym e); leaves = none_begun [] (unfinished earlier) none }
+      record { following = []; first = refl; some = []; are = refl; begins = (refl, sym e); leaves = rw none tt }
   making earlier start [] (u ∷ units) more none all e = cc
   making earlier start (Whole u ∷ items) [] more none all e =
       making_none earlier start (Whole u) items more none (u ∷ []) (units_from asset start items) (omega arith) refl (sym e)
