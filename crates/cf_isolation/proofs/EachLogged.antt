@@ -9,11 +9,11 @@ use Rattle.cf_readback.specs.ReadBack.{record_by}
 use Rattle.cf_session.specs.Event.{AreEvents as AreSessionEvents}
 use Rattle.cf_session.specs.Laws.{EventsAreFixed, WorkIsOfTheTaken}
 use Rattle.cf_session.specs.Sent.{logged_first, logged_second}
-use Rattle.cf_session.specs.Session.{Flow, SessionEvent, client_of}
+use Rattle.cf_session.specs.Session.{client_of}
 use Rattle.cf_view.specs.declared.Endpoint.{Endpoint}
 use Rattle.cf_run.specs.Isolation.{ticks_of}
 use Rattle.cf_run.specs.Selected.{Rises}
-use Rattle.cf_run.specs.Sessions.{AreAlike, HasEvents, HasRightEvents as IsRightSession, SessionsAreRight, sessions_of}
+use Rattle.cf_run.specs.Sessions.{AreAlike, HasRightEvents as IsRightSession, SessionsAreRight, sessions_of}
 use Rattle.cf_run.specs.Table.{Session, is_between}
 use Rattle.cf_run.specs.Trace.{RunEvent, kept, logged, logged_at, logged_in_first, logged_in_second, logged_received, logged_ticks, table_after, tick_of}
 use Rattle.cf_isolation.specs.Lines.{moment_in, names_both}
@@ -24,6 +24,7 @@ use Rattle.cf_isolation.proofs.Halves.{begins_logged, none_logged, same_logged}
 use Rattle.cf_isolation.proofs.Lists.{all_filtered}
 use Rattle.cf_isolation.proofs.Lives.{in_life}
 use Rattle.cf_isolation.proofs.Logging.{AreKnown, IsKnown, all_known, events_read, first_naming, known_before, second_naming}
+use Rattle.cf_isolation.proofs.Packets.{right_events}
 use Rattle.cf_isolation.proofs.Tables.{Has, IsAmong, sessions_have}
 use Rattle.cf_isolation.proofs.Words.{IsEndpoint}
 
@@ -59,13 +60,9 @@ each_logged law works assets limit given out log summary run within read s life 
 -- ---- two runs
 
 -- right events of one flow that are given the same are the same
-right_by : (limit : ℕ) (f : Flow) (es : List SessionEvent) → HasEvents limit f es → AreSessionEvents f limit es
-right_by limit f [] h = absurd h
-right_by limit f (e ∷ es) h = h.0
-
 alike_events : EventsAreFixed → (limit : ℕ) (one other : Session) → IsRightSession limit one → IsRightSession limit other → AreAlike one other → one.events ≡ other.events
 alike_events fixed limit one other h g alike =
-    fixed other.flow limit one.events other.events (subst (λ f. AreSessionEvents f limit one.events) alike.flow (right_by limit one.flow one.events h)) (right_by limit other.flow other.events g) alike.same
+    fixed other.flow limit one.events other.events (subst (λ f. AreSessionEvents f limit one.events) alike.flow (right_events limit one.flow one.events h)) (right_events limit other.flow other.events g) alike.same
 
 pub alike_in_records : EventsAreFixed → SessionsAreRight → EachHasRecords → AlikeInRecords
 alike_in_records fixed law holds assets limit given other_given out other_out log other_log summary other_summary run other_run time other_time records others has others_have one other life other_life alike =

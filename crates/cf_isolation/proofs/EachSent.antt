@@ -1,22 +1,21 @@
 -- What a run sent between a session's endpoints in its life is what the session's own events sent; and so are the records of its capture.
-use Rattle.std.proofs.Common.{◌≡◌, ℕ, ◌+◌, ◌&&◌, Bool, true, false, List, [], ◌∷◌, ◌++◌, cond, map, refl, ap, ◌∙◌, subst, append-nil, arith}
+use Rattle.std.proofs.Common.{◌≡◌, ℕ, ◌+◌, ◌&&◌, Bool, true, false, List, ◌∷◌, ◌++◌, cond, map, refl, ap, ◌∙◌, subst, append-nil, arith}
 use Rattle.std.specs.Prelude.{filter}
 use Rattle.std.specs.List.{AllByRecursion, flat_map}
-use Rattle.cf_packet.specs.Packet.{read_record}
 use Rattle.cf_policy.specs.declared.Asset.{Asset}
 use Rattle.cf_readback.proofs.Legs.{each_back}
-use Rattle.cf_readback.specs.ReadBack.{IsReadAgain, RunsAreReadBack, output_form, record_by}
+use Rattle.cf_readback.specs.ReadBack.{RunsAreReadBack, record_by}
 use Rattle.cf_session.specs.Sent.{Sent, sent_first, sent_second}
 use Rattle.cf_session.specs.Session.{client_of}
 use Rattle.cf_view.specs.declared.Endpoint.{Endpoint}
-use Rattle.cf_run.specs.Capture.{Record}
 use Rattle.cf_run.specs.Records.{HaveOneList}
 use Rattle.cf_run.specs.Selected.{Rises}
 use Rattle.cf_run.specs.Sessions.{Each, SessionsAreRight, sessions_of}
 use Rattle.cf_run.specs.Table.{Session, has_asset_at, is_between}
 use Rattle.cf_run.specs.Trace.{AreRunEvents, RunEvent, sent, sent_in_first, sent_in_second, sent_received, tick_of}
 use Rattle.cf_isolation.specs.Lives.{EachHasALife, EachHasRecords, EachSent, HasLife, born_at, is_in_life, own_sent}
-use Rattle.cf_isolation.specs.Records.{goes_between, is_packet_between}
+use Rattle.cf_isolation.specs.Records.{goes_between}
+use Rattle.cf_isolation.proofs.Filing.{of_file}
 use Rattle.cf_isolation.proofs.Halves.{begins_sent, none_sent, same_sent}
 use Rattle.cf_isolation.proofs.Lists.{all_filtered, all_map}
 use Rattle.cf_isolation.proofs.Lives.{in_life}
@@ -70,24 +69,7 @@ each_sent law assets limit given out log summary run s life =
 
 -- ---- the records
 
-module _ (client asset : Endpoint) (alive : ℕ → Bool) where
-  pub records_same : (all : List Sent) → AllByRecursion IsReadAgain all →
-      filter (λ (r : Record). is_packet_between client asset (read_record r.link r.body) && alive r.stamp) (map record_by all)
-      ≡ map record_by (filter (λ (s : Sent). goes_between client asset s.packet && alive s.moment) all)
-  records_same [] h = refl
-  records_same (s ∷ all) h =
-      let more = records_same all h.1 in
-      let R = filter (λ (r : Record). is_packet_between client asset (read_record r.link r.body) && alive r.stamp) (map record_by all) in
-      let S = filter (λ (x : Sent). goes_between client asset x.packet && alive x.moment) all in
-      ap (λ answer. cond (is_packet_between client asset answer && alive s.moment) (record_by s ∷ R) R) h.0
-      ∙ (elim (goes_between client asset s.packet && alive s.moment) as (λ b. cond b (record_by s ∷ R) R ≡ map record_by (cond b (s ∷ S) S)) [ true ↦ ap (λ l. record_by s ∷ l) more | false ↦ more ])
-
 pub each_has_records : EachSent → RunsAreReadBack → HaveOneList → EachHasRecords
 each_has_records law back one_list assets limit given out log summary run time records has s life =
-    let reads = back assets limit given out log summary run time.moments time.octets time.size in
-    let same = one_list output_form 24 _ records (map record_by (sent run.events)) has.0 reads.last has.1 reads.are in
-    let client = client_of s.flow in
-    let asset = s.flow.asset.endpoint in
-    let alive : ℕ → Bool = λ m. is_in_life (born_at s.events) life.later m in
-    ap (filter (λ (r : Record). is_packet_between client asset (read_record r.link r.body) && alive r.stamp)) same.0
-    ∙ records_same client asset alive (sent run.events) reads.packets ∙ ap (map record_by) (law assets limit given out log summary run s life)
+    of_file back one_list assets limit given out log summary run time records has (client_of s.flow) s.flow.asset.endpoint (λ m. is_in_life (born_at s.events) life.later m)
+    ∙ ap (map record_by) (law assets limit given out log summary run s life)

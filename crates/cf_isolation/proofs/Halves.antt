@@ -1,6 +1,7 @@
 -- What the two halves of a session's event send and log, where one of them is not there.
 use Rattle.std.proofs.Common.{◌≡◌, ℕ, ◌&&◌, Bool, true, false, not, List, [], ◌∷◌, ◌++◌, length, drop, cond, Option, Some, None, refl, sym, ap, ◌∙◌}
 use Rattle.std.specs.Prelude.{nat_le, nat_lt}
+use Rattle.std.proofs.Math.Seq.{drop-length}
 use Rattle.std.proofs.lemmas.List.{append-nil}
 use Rattle.cf_audit.specs.Line.{Close, Cut}
 use Rattle.cf_audit.specs.declared.CutReason.{CutReason}
@@ -90,13 +91,9 @@ module _ (f : Flow) where
       ap (λ b. cond (b && not (was_closed f (d ∷ es))) lines []) (closed_still (d ∷ es) tick t h) ∙ ap (λ b. cond b lines []) (closed_before d es _ _ refl refl)
   no_closing d es tick t h (Some because) = ap (λ b. cond b [] (line f (moment t.client) (Cut because) ∷ [])) (tick_half (d ∷ es) tick t h)
 
-  drop_all : (xs : List (List ℕ)) → drop (length xs) xs ≡ []
-  drop_all [] = refl
-  drop_all (x ∷ xs) = drop_all xs
-
   pub none_logged : (d : SessionEvent) (es : List SessionEvent) (tick : ℕ) (t : SessionEvent) → IsTick f (d ∷ es) tick t → logged_second f (d ∷ es) t ≡ []
   none_logged d es tick t h =
-      let new : new_lines (d ∷ es) t ≡ [] = ap (λ (w : Work). drop (length d.work.log) w.log) h.work ∙ drop_all d.work.log in
+      let new : new_lines (d ∷ es) t ≡ [] = ap (λ (w : Work). drop (length d.work.log) w.log) h.work ∙ drop-length d.work.log in
       ap (λ l. ([] ++ l) ++ last_line f (d ∷ es) t t.cut) new ∙ no_closing d es tick t h t.cut
 
   -- ---- the first half of the event in which the session begins

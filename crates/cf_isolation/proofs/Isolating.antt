@@ -65,9 +65,8 @@ last_by (e ∷ es) (d ∷ ds) h = cc
 
 matched_length : (assets : List Asset) (client asset : Endpoint) (here there xs ys : List RunEvent) → AreMatched assets client asset here there xs ys → length xs ≡ length ys
 matched_length assets client asset here there [] [] h = refl
-matched_length assets client asset here there [] (y ∷ ys) h = absurd h
-matched_length assets client asset here there (x ∷ xs) [] h = absurd h
 matched_length assets client asset here there (x ∷ xs) (y ∷ ys) h = ap suc (matched_length assets client asset here there xs ys h.1)
+matched_length assets client asset here there _ _ h = absurd h
 
 pub one_time : (assets : List Asset) (flow : Flow) (events others : List RunEvent) (one : HasSession flow events) (other : HasSession flow others) →
     moments_of (inputs_of events) ≡ moments_of (inputs_of others) → length one.earlier ≡ length other.earlier → AreMatchedAlike assets flow one other → HaveOneTime flow one other

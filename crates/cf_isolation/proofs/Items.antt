@@ -53,10 +53,7 @@ module _ (now : ℕ) where
     unit_about : (replied : Bool) (s : Side) (octets : List ℕ) (f : Fate) → AreAbout (unit_lines asset client now replied s octets f)
     unit_about replied s octets (fate.Refused refusal) = ((refusal_line asset refusal replied octets, refl), tt)
     unit_about replied s octets (fate.Stray because) = ((Stray s because, refl), tt)
-    unit_about replied s octets fate.Carried = tt
-    unit_about replied s octets (fate.Admitted used) = tt
-    unit_about replied s octets fate.Lengthens = tt
-    unit_about replied s octets (fate.Cuts because) = tt
+    unit_about replied s octets _ = tt
 
     end_about : (s : Side) (unfinished : Bool) (rest : ℕ) → AreAbout (end_lines asset client now s unfinished rest)
     end_about s false zero = tt

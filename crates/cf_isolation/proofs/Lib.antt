@@ -10,10 +10,10 @@ mod Lives
 mod Logging
 mod Naming
 mod Order
-mod Packets
+pub mod Packets
 mod Sending
 mod Stretch
 pub mod Tables
 mod Theirs
-mod Turns
+pub mod Turns
 mod Words

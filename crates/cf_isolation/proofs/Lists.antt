@@ -15,10 +15,6 @@ pub all_front : {X : Type 0} (P : X → Type 0) (xs ys : List X) → AllByRecurs
 all_front P [] ys h = tt
 all_front P (x ∷ xs) ys h = (h.0, all_front P xs ys h.1)
 
-pub all_pair : {X : Type 0} (P Q : X → Type 0) (xs : List X) → AllByRecursion P xs → AllByRecursion Q xs → AllByRecursion (λ x. P x × Q x) xs
-all_pair P Q [] h g = tt
-all_pair P Q (x ∷ xs) h g = ((h.0, g.0), all_pair P Q xs h.1 g.1)
-
 pub filter_all : {X : Type 0} (q : X → Bool) (b : Bool) (xs : List X) → AllByRecursion (λ x. q x ≡ b) xs → filter q xs ≡ cond b xs []
 filter_all q true [] h = refl
 filter_all q false [] h = refl

@@ -1,10 +1,9 @@
 -- The sessions of a client and an asset of a run, and what they put out, each in its life.
-use Rattle.std.proofs.Common.{◌≡◌, ℕ, ◌+◌, ◌&&◌, Bool, true, false, List, [], ◌∷◌, ◌++◌, cond, Some, None, Result, Ok, Err, refl, sym, ap, ◌∙◌, subst, append_assoc, arith}
+use Rattle.std.proofs.Common.{◌≡◌, ℕ, ◌+◌, ◌&&◌, Bool, true, false, List, [], ◌∷◌, ◌++◌, cond, Some, None, refl, sym, ap, ◌∙◌, subst, append_assoc, arith}
 use Rattle.std.specs.Prelude.{filter, slice_get}
 use Rattle.std.specs.List.{AllByRecursion, flat_map}
 use Rattle.std.proofs.lemmas.List.Elements.{filter-append}
 use Rattle.cf_packet.specs.Packet.{PacketValue}
-use Rattle.cf_packet.specs.declared.packet.PacketRefusal.{PacketRefusal}
 use Rattle.cf_policy.specs.declared.Asset.{Asset}
 use Rattle.cf_session.specs.Event.{IsBeginning, IsPacket, IsTick}
 use Rattle.cf_session.specs.Session.{Flow, SessionEvent, is_expired}
@@ -14,47 +13,13 @@ use Rattle.cf_run.specs.Isolation.{begins_theirs, goes_to_theirs, ticks_of}
 use Rattle.cf_run.specs.Selected.{Rises, last_moment}
 use Rattle.cf_run.specs.Sessions.{Each, HasEvents, HasRightEvents as IsRightSession, SessionsAreRight, gone_after, leaves, left_by_packet, left_in, sessions_of}
 use Rattle.cf_run.specs.Summary.{found}
-use Rattle.cf_run.specs.Table.{Begins, Full, Goes, Match, Outside, Session, is_between, match_of}
-use Rattle.cf_run.specs.Trace.{AreRunEvents, Begun, Dropped, RunEvent, GoesOnAt, Received, Receives, ReceivesRecord, Went, behind, kept, table_after, tick_of, with_events}
+use Rattle.cf_run.specs.Table.{Session, is_between}
+use Rattle.cf_run.specs.Trace.{AreRunEvents, Begun, RunEvent, Received, Went, behind, kept, table_after, tick_of, with_events}
 use Rattle.cf_isolation.specs.Lives.{born_at, is_in_life}
 use Rattle.cf_isolation.proofs.Lists.{filter_both}
 use Rattle.cf_isolation.proofs.Order.{InOrder, life}
 use Rattle.cf_isolation.proofs.Sending.{rights_after}
 use Rattle.cf_isolation.proofs.Turns.{AtMostOne, first_turn, none_there, second_turn}
-
--- ---- what the packet does
-
-module _ (assets : List Asset) (limit tick : ℕ) (table : List Session) where
-  begun_by : (p : PacketValue) (m : Match) (f : Flow) (e : SessionEvent) → Receives limit tick table p m (Begun f e) → IsBeginning f tick e
-  begun_by p (Begins g) f e h = subst (λ x. IsBeginning x tick e) (sym h.0) h.1
-  begun_by p Full f e h = absurd h
-  begun_by p (Goes i s) f e h = absurd h
-  begun_by p Outside f e h = absurd h
-
-  never_begun : (f : Flow) (e : SessionEvent) → Begun f e ≡ Dropped → ⊥
-  never_begun f e h = cc
-
-  begins_of : (p : Result PacketValue PacketRefusal) (f : Flow) (e : SessionEvent) → ReceivesRecord assets limit tick table p (Begun f e) → IsBeginning f tick e
-  begins_of (Err refusal) f e h = absurd (never_begun f e h)
-  begins_of (Ok p) f e h = begun_by p (match_of assets table p) f e h
-
-  abbrev GoesOn : ℕ → SessionEvent → Type 0
-  GoesOn i e = (from : Side) × (p : PacketValue) × GoesOnAt limit from p e (slice_get table i)
-
-  went_by : (p : PacketValue) (m : Match) (i : ℕ) (e : SessionEvent) → Receives limit tick table p m (Went i e) → GoesOn i e
-  went_by p (Begins g) i e h = absurd h
-  went_by p Full i e h = absurd h
-  went_by p (Goes j s) i e h = (s, p, subst (λ k. GoesOnAt limit s p e (slice_get table k)) (sym h.0) h.1)
-  went_by p Outside i e h = absurd h
-
-  never_went : (i : ℕ) (e : SessionEvent) → Went i e ≡ Dropped → ⊥
-  never_went i e h = cc
-
-  goes_of : (p : Result PacketValue PacketRefusal) (i : ℕ) (e : SessionEvent) → ReceivesRecord assets limit tick table p (Went i e) → GoesOn i e
-  goes_of (Err refusal) i e h = absurd (never_went i e h)
-  goes_of (Ok p) i e h = went_by p (match_of assets table p) i e h
-
--- ---- all events
 
 module _ {X : Type 0} (at : X → ℕ) (first : Flow → SessionEvent → List X) (second : Flow → List SessionEvent → SessionEvent → List X) (own : Flow → List SessionEvent → List X)
     (own_none : (f : Flow) → own f [] ≡ []) (own_more : (f : Flow) (e : SessionEvent) (es : List SessionEvent) → own f (e ∷ es) ≡ own f es ++ (first f e ++ second f es e))
@@ -101,8 +66,7 @@ module _ {X : Type 0} (at : X → ℕ) (first : Flow → SessionEvent → List X
           [ true ↦ (g.0, each_some ss g.1) | false ↦ each_some ss g.1 ]
 
   five : (g x y z t : List Session) → (g ++ (x ++ (y ++ z))) ++ t ≡ (g ++ (x ++ y)) ++ (z ++ t)
-  five g x y z t =
-      ap (λ l. (g ++ l) ++ t) (sym (append_assoc x y z)) ∙ ap (λ l. l ++ t) (sym (append_assoc g (x ++ y) z)) ∙ append_assoc (g ++ (x ++ y)) z t
+  five g x y z t = simp append_assoc
 
   step : (e : RunEvent) (es : List RunEvent) → Right (e ∷ es) → Rises (e ∷ es) → Held es → Held (e ∷ es)
   step e es h r held =
@@ -116,8 +80,7 @@ module _ {X : Type 0} (at : X → ℕ) (first : Flow → SessionEvent → List X
       let one = first_turn at first second own own_none own_more same_first no_second no_first limit client asset tick table e.ticks event.ticks c until (omega (arith, r.0)) held.few
       (right_one es (right_before e es h)) (first_is e es h r) (first_at e es h r) in
       let two = second_turn at first second own own_none own_more same_first no_second no_first limit client asset tick there one.here (put there) (put_begun there) (put_went there) d (second_at e es h r)
-      e.received (λ f b is. begins_of assets limit tick there e.input.packet f b (subst (ReceivesRecord assets limit tick there e.input.packet) is event.received))
-      (λ i b is. goes_of assets limit tick there e.input.packet i b (subst (ReceivesRecord assets limit tick there e.input.packet) is event.received)) (second_is e es h r) in
+      assets e.input.packet e.received event.received (second_is e es h r) in
       let G = mine (gone_after es) in
       let T = mine (table_after (e ∷ es)) in
       let past = one.moves G in

@@ -1,6 +1,6 @@
 -- The lines of a run's log that name a session, in its time, are what its events logged.
-use Rattle.std.proofs.Common.{◌≡◌, ℕ, ◌+◌, ◌≤◌, ◌&&◌, Bool, true, false, List, [], ◌∷◌, ◌++◌, cond, if◌then◌else◌, Option, Some, None, Result, Ok, Err, refl, sym, ap, ◌∙◌, subst, arith}
-use Rattle.std.specs.Prelude.{IfOk, filter, slice_get}
+use Rattle.std.proofs.Common.{◌≡◌, ℕ, ◌+◌, ◌≤◌, ◌&&◌, Bool, true, false, List, [], ◌∷◌, ◌++◌, cond, if◌then◌else◌, Some, Result, Ok, refl, sym, ap, ◌∙◌, subst, arith}
+use Rattle.std.specs.Prelude.{IfOk, filter}
 use Rattle.std.specs.List.{AllByRecursion}
 use Rattle.std.proofs.lemmas.List.{append-nil}
 use Rattle.std.proofs.lemmas.List.Elements.{filter-append}
@@ -10,26 +10,24 @@ use Rattle.cf_packet.specs.Written.{HasRanges}
 use Rattle.cf_packet.specs.declared.packet.PacketRefusal.{PacketRefusal}
 use Rattle.cf_policy.specs.Within.{AreAssetsWithin}
 use Rattle.cf_policy.specs.declared.Asset.{Asset}
-use Rattle.cf_session.specs.Event.{IsBeginning}
 use Rattle.cf_session.specs.Laws.{WorkIsOfTheTaken}
 use Rattle.cf_session.specs.Sent.{logged_first, logged_second}
 use Rattle.cf_session.specs.Session.{Flow, SessionEvent, client_of}
 use Rattle.cf_view.specs.declared.Endpoint.{Endpoint}
-use Rattle.cf_view.specs.declared.Side.{Side}
 use Rattle.cf_run.specs.Isolation.{RunsIsolateSessions, begins_theirs, goes_to_theirs, is_flow_of, is_theirs, logged_by, logged_over, moments_of, ticks_of}
 use Rattle.cf_run.specs.Run.{inputs_of}
 use Rattle.cf_run.specs.Selected.{Rises, last_moment}
 use Rattle.cf_run.specs.Sessions.{Each, SessionsAreRight}
 use Rattle.cf_run.specs.Summary.{found}
-use Rattle.cf_run.specs.Table.{Begins, Full, Goes, Match, Outside, Session, is_between, match_of, same_endpoint}
-use Rattle.cf_run.specs.Trace.{AreRunEvents, AreTicks, Begun, Dropped, RunEvent, GoesOnAt, GoesOnWith, Input, NoRoom, NoSession, Received, Receives, ReceivesRecord, Went, kept, logged, logged_at, logged_in_first, logged_in_second, logged_received, logged_ticks, table_after, tick_of}
+use Rattle.cf_run.specs.Table.{Session, is_between, same_endpoint}
+use Rattle.cf_run.specs.Trace.{AreRunEvents, AreTicks, Begun, RunEvent, Input, Received, ReceivesRecord, kept, logged, logged_at, logged_in_first, logged_in_second, logged_received, logged_ticks, table_after, tick_of}
 use Rattle.cf_isolation.specs.Lines.{lines_naming, moment_in, names_both}
 use Rattle.cf_isolation.specs.Logged.{IsReadInput, LogsAreIsolated, LogsHoldSessions, LogsHoldToTheNext}
 use Rattle.cf_isolation.specs.Records.{is_during}
 use Rattle.cf_isolation.proofs.Isolating.{one_time}
 use Rattle.cf_isolation.proofs.Lists.{all_both, all_map, filter_all}
 use Rattle.cf_isolation.proofs.Naming.{AreIts, IsTold, begins_its, first_its, lines_told, packet_its}
-use Rattle.cf_isolation.proofs.Packets.{HasHalf, IsHalved}
+use Rattle.cf_isolation.proofs.Packets.{IsHalved, receives_halved}
 use Rattle.cf_isolation.proofs.Sending.{halves, next_is}
 use Rattle.cf_isolation.proofs.Stretch.{IsNow, during_early, during_late, during_yes, last_grows, picked, picks_all, picks_append, picks_none, rises_behind, to_next, whole}
 use Rattle.cf_isolation.proofs.Tables.{BegunHave, Has, IsAmong, begun_in, each_get, found_has_all, kept_has, same_self, table_has}
@@ -103,45 +101,20 @@ module _ (works : WorkIsOfTheTaken) (assets : List Asset) (within : AreAssetsWit
     pub moments : AllByRecursion (λ line. moment_in line ≡ tick + 1) (logged_received table r)
     pub names : naming (logged_received table r) ≡ lines_theirs table r
 
-  module _ (tick : ℕ) (m : IsMoment (tick + 1)) where
-    goes_with : (s : Side) (p : PacketValue) (e : SessionEvent) (x : Session) (es : List SessionEvent) → x.events ≡ es → IsKnown assets x.flow → HasHalf limit tick x.flow es →
-        GoesOnWith limit s p e x.flow es → AreOf (tick + 1) (is_flow_of client asset.endpoint x.flow) (logged_at (Some x) e)
-    goes_with s p e x [] is k h g = absurd h
-    goes_with s p e x (half ∷ es) is k h g =
-        let lines = packet_its x.flow works limit es half s p e h.1 g in
-        subst (λ ys. AreOf (tick + 1) (is_flow_of client asset.endpoint x.flow) (logged_at (Some (record { flow = x.flow; events = ys })) e)) (sym is)
-        (of_flow x.flow k (tick + 1) (moment e.client) (ap (λ n. n + 1) (g.client_on.0 ∙ h.0)) m (logged_second x.flow es e) lines)
-
-    went_by : (s : Side) (p : PacketValue) (e : SessionEvent) (table : List Session) (i : ℕ) (o : Option Session) → slice_get table i ≡ o → Each (Has (IsKnown assets)) table →
-        Each (IsHalved limit tick) table → GoesOnAt limit s p e o → AreOf (tick + 1) (is_theirs client asset.endpoint o) (logged_at o e)
-    went_by s p e table i None is k h g = absurd g
-    went_by s p e table i (Some x) is k h g = goes_with s p e x x.events refl (each_get (Has (IsKnown assets)) table i x k is) (each_get (IsHalved limit tick) table i x h is) g
-
-    went_naming : (table : List Session) (i : ℕ) (e : SessionEvent) → AreOf (tick + 1) (is_theirs client asset.endpoint (slice_get table i)) (logged_at (slice_get table i) e) → SecondNaming tick table (Went i e)
-    went_naming table i e h = record { moments = h.moments; names = h.names ∙ sym (append-nil _) }
-
-    received_by : (table : List Session) (p : PacketValue) (n : Match) (r : Received) → Each (Has (IsKnown assets)) table → Each (IsHalved limit tick) table →
-        ((f : Flow) (e : SessionEvent) → r ≡ Begun f e → IsKnown assets f) → Receives limit tick table p n r → SecondNaming tick table r
-    received_by table p n Dropped k h new g = record { moments = tt; names = refl }
-    received_by table p n NoRoom k h new g = record { moments = tt; names = refl }
-    received_by table p n NoSession k h new g = record { moments = tt; names = refl }
-    received_by table p (Begins flow) (Begun f e) k h new g =
-        let begins = subst (λ x. IsBeginning x tick e) (sym g.0) g.1 in
-        let of = of_flow f (new f e refl) (tick + 1) (moment e.client) (ap (λ x. x.tick + 1) begins.client) m (logged_second f [] e) (begins_its f tick e begins) in
-        record { moments = of.moments; names = of.names }
-    received_by table p Full (Begun f e) k h new g = absurd g
-    received_by table p (Goes i s) (Begun f e) k h new g = absurd g
-    received_by table p Outside (Begun f e) k h new g = absurd g
-    received_by table p (Begins flow) (Went i e) k h new g = absurd g
-    received_by table p Full (Went i e) k h new g = absurd g
-    received_by table p (Goes i s) (Went j e) k h new g =
-        went_naming table j e (went_by s p e table j (slice_get table j) refl k h (subst (λ x. GoesOnAt limit s p e (slice_get table x)) (sym g.0) g.1))
-    received_by table p Outside (Went i e) k h new g = absurd g
-
-    received_naming : (table : List Session) (p : Result PacketValue PacketRefusal) (r : Received) → Each (Has (IsKnown assets)) table → Each (IsHalved limit tick) table →
-        ((f : Flow) (e : SessionEvent) → r ≡ Begun f e → IsKnown assets f) → ReceivesRecord assets limit tick table p r → SecondNaming tick table r
-    received_naming table (Err refusal) r k h new g = subst (SecondNaming tick table) (sym g) (record { moments = tt; names = refl })
-    received_naming table (Ok p) r k h new g = received_by table p (match_of assets table p) r k h new g
+  received_naming : (tick : ℕ) → IsMoment (tick + 1) → (table : List Session) (p : Result PacketValue PacketRefusal) (r : Received) → Each (Has (IsKnown assets)) table → Each (IsHalved limit tick) table →
+      ((f : Flow) (e : SessionEvent) → r ≡ Begun f e → IsKnown assets f) → ReceivesRecord assets limit tick table p r → SecondNaming tick table r
+  received_naming tick m table p r k h new g =
+      receives_halved assets limit tick table h (λ r. ((f : Flow) (e : SessionEvent) → r ≡ Begun f e → IsKnown assets f) → SecondNaming tick table r)
+      ((λ new. record { moments = tt; names = refl }), (λ new. record { moments = tt; names = refl }), (λ new. record { moments = tt; names = refl }))
+      (λ f e b new.
+      let of = of_flow f (new f e refl) (tick + 1) (moment e.client) (ap (λ x. x.tick + 1) b.client) m (logged_second f [] e) (begins_its f tick e b) in
+      record { moments = of.moments; names = of.names })
+      (λ i e s p x half es at is now before on new.
+      let lines = packet_its x.flow works limit es half s p e before on in
+      let of = subst (λ o. AreOf (tick + 1) (is_theirs client asset.endpoint o) (logged_at o e)) (sym at)
+      (subst (λ ys. AreOf (tick + 1) (is_flow_of client asset.endpoint x.flow) (logged_at (Some (record { flow = x.flow; events = ys })) e)) (sym is)
+      (of_flow x.flow (each_get (Has (IsKnown assets)) table i x k at) (tick + 1) (moment e.client) (ap (λ n. n + 1) (on.client_on.0 ∙ now)) m (logged_second x.flow es e) lines)) in
+      record { moments = of.moments; names = of.names ∙ sym (append-nil _) }) p r g new
 
   -- ---- a whole event
 

@@ -2,6 +2,7 @@
 use Rattle.std.proofs.Common.{◌≡◌, ◌≢◌, ℕ, ◌<◌, ◌==◌, ◌&&◌, inl, inr, Bool, true, false, not, List, [], ◌∷◌, ◌++◌, length, drop, if◌then◌else◌, Option, Some, None, refl, sym, ap, ◌∙◌, subst, arith}
 use Rattle.std.specs.Prelude.{bytes_eq, nat_lt, slice_get, slice_index_or}
 use Rattle.std.specs.List.{AllByRecursion, AllPairs, list_all}
+use Rattle.std.proofs.Math.Seq.{drop-append_seam}
 use Rattle.std.proofs.lemmas.Bool.{and_parts, cases_Bool, true≢false}
 use Rattle.std.proofs.lemmas.Bool.Decides.{nat_tests}
 use Rattle.std.proofs.lemmas.List.Elements.{All-get_or}
@@ -69,10 +70,6 @@ module _ (f : Flow) where
       by true = tt
       by false = (refl, tt)
 
-  drop_front : (xs ys : List (List ℕ)) → drop (length xs) (xs ++ ys) ≡ ys
-  drop_front [] ys = refl
-  drop_front (x ∷ xs) ys = drop_front xs ys
-
   -- those of the items that it completed
   new_its : (es : List SessionEvent) (e : SessionEvent) → Works f.asset (client_of f) (history es) (work_of es) → Works f.asset (client_of f) (history (e ∷ es)) e.work →
       AllByRecursion (λ x. x.moment ≡ moment e.client) e.fed → AreIts (moment e.client) (new_lines es e)
@@ -81,7 +78,7 @@ module _ (f : Flow) where
       let before : (work_of es).log ≡ lines f.asset (client_of f) [] was.judged = ap (λ (w : Work). w.log) was.is_work in
       let after : e.work.log ≡ lines f.asset (client_of f) [] was.judged ++ n.0 = ap (λ (w : Work). w.log) is.is_work ∙ n.1 in
       let same : new_lines es e ≡ n.0 =
-      ap (λ l. drop (length l) e.work.log) before ∙ ap (drop (length (lines f.asset (client_of f) [] was.judged))) after ∙ drop_front (lines f.asset (client_of f) [] was.judged) n.0 in
+      ap (λ l. drop (length l) e.work.log) before ∙ ap (drop (length (lines f.asset (client_of f) [] was.judged))) after ∙ drop-append_seam (lines f.asset (client_of f) [] was.judged) n.0 in
       subst (AreIts (moment e.client)) (sym same) n.2
 
   second_its : (es : List SessionEvent) (e : SessionEvent) → AreIts (moment e.client) (new_lines es e) → AreIts (moment e.client) (logged_second f es e)
@@ -126,8 +123,6 @@ module _ (assets : List Asset) (within : AreAssetsWithin assets) where
   name_tells a b x y = by (bytes_eq a.name b.name) (same_endpoint a.endpoint b.endpoint) refl refl
     where
       by : (p q : Bool) → bytes_eq a.name b.name ≡ p → same_endpoint a.endpoint b.endpoint ≡ q → p ≡ q
-      by true true e g = refl
-      by false false e g = refl
       by true false e g =
           let names : a.name ≡ b.name = (bytes_eq-Decides a.name b.name).0 e in
           let same = one_asset (λ c d. c.name ≢ d.name) within.names a b x y (λ n. n names) (λ n. n (sym names)) in
@@ -136,6 +131,7 @@ module _ (assets : List Asset) (within : AreAssetsWithin assets) where
           let ends : a.endpoint ≡ b.endpoint = same_is a.endpoint b.endpoint g in
           let same = one_asset (λ c d. c.endpoint ≢ d.endpoint) within.endpoints a b x y (λ n. n ends) (λ n. n (sym ends)) in
           absurd (true≢false (sym ((bytes_eq-Decides a.name b.name).1 (ap (λ (c : Asset). c.name) same)) ∙ e))
+      by _ _ e g = refl
 
   module _ (client : Endpoint) (asset : Asset) (known : IsEndpoint client) (among : IsAmong assets asset) where
     -- what a line of a flow tells

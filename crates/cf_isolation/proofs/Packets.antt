@@ -1,8 +1,9 @@
 -- Which packets of one event go between a client and an asset: those of their session.
-use Rattle.std.proofs.Common.{◌≡◌, ℕ, ◌&&◌, ◌||◌, Bool, true, false, List, [], ◌∷◌, ◌++◌, cond, if◌then◌else◌, Option, Some, None, Result, Ok, Err, refl, sym, ap, ◌∙◌, subst}
+use Rattle.std.proofs.Common.{◌≡◌, ℕ, Bool, true, false, List, [], ◌∷◌, ◌++◌, cond, if◌then◌else◌, Option, Some, None, Result, refl, sym, ap, ◌∙◌, subst}
 use Rattle.std.specs.Prelude.{filter, slice_get}
 use Rattle.std.specs.List.{AllByRecursion, flat_map}
-use Rattle.std.proofs.lemmas.Bool.{true≢false}
+use Rattle.std.proofs.Math.Bool.{and_comm, or-false}
+use Rattle.std.proofs.lemmas.Bool.{false_from_ne_true, true≢false}
 use Rattle.std.proofs.lemmas.List.{append-nil}
 use Rattle.std.proofs.lemmas.List.Elements.{filter-append}
 use Rattle.cf_leg.specs.Event.{LegEvent, greeted_by, said_by}
@@ -11,19 +12,19 @@ use Rattle.cf_packet.specs.declared.packet.PacketRefusal.{PacketRefusal}
 use Rattle.cf_policy.specs.declared.Asset.{Asset}
 use Rattle.cf_readback.proofs.Legs.{LegsRight, legs_right}
 use Rattle.cf_readback.proofs.Writing.{Sends}
-use Rattle.cf_session.specs.Event.{AreEvents as AreSessionEvents, AreRight}
+use Rattle.cf_session.specs.Event.{AreEvents as AreSessionEvents, AreRight, IsBeginning, IsPacket}
 use Rattle.cf_session.specs.Sent.{Sent, at, early, is_first_half, late, sent_first, sent_second}
 use Rattle.cf_session.specs.Session.{Flow, SessionEvent, client_ends, client_of, controller_ends}
 use Rattle.cf_view.specs.declared.Endpoint.{Endpoint}
 use Rattle.cf_view.specs.declared.Side.{Side}
 use Rattle.cf_run.specs.Isolation.{begins_theirs, goes_to_theirs, is_flow_of, is_theirs, ticks_of}
 use Rattle.cf_run.specs.Sessions.{Each, HasEvents, HasRightEvents as IsRightSession}
-use Rattle.cf_run.specs.Table.{Begins, Full, Goes, Match, Outside, Session, has_asset_at, is_between, match_of, same_endpoint}
-use Rattle.cf_run.specs.Trace.{AreTicks, Begun, Dropped, GoesOnAt, GoesOnWith, NoRoom, NoSession, Received, Receives, ReceivesRecord, Went, kept, sent_received, stays, ticked, with_events}
+use Rattle.cf_run.specs.Table.{Session, has_asset_at, is_between, same_endpoint}
+use Rattle.cf_run.specs.Trace.{AreTicks, Begun, Dropped, GoesOnAt, GoesOnWith, NoRoom, NoSession, Received, ReceivesRecord, Went, kept, sent_received, stays, ticked, with_events}
 use Rattle.cf_isolation.specs.Records.{goes_between}
 use Rattle.cf_isolation.proofs.Ends.{GoesFrom, leg_goes}
 use Rattle.cf_isolation.proofs.Lists.{all_both, all_map, filter_all}
-use Rattle.cf_isolation.proofs.Tables.{HasOwn, IsOwn, each_filter, each_get, same_is}
+use Rattle.cf_isolation.proofs.Tables.{HasOwn, IsOwn, each_filter, each_get, receives, same_is}
 
 -- ---- sessions that had their first half
 
@@ -35,7 +36,7 @@ HasHalf limit tick f (t ∷ es) = (t.client.tick ≡ tick) × AreSessionEvents f
 abbrev pub IsHalved : (limit tick : ℕ) → Session → Type 0
 IsHalved limit tick s = HasHalf limit tick s.flow s.events
 
-right_events : (limit : ℕ) (f : Flow) (es : List SessionEvent) → HasEvents limit f es → AreSessionEvents f limit es
+pub right_events : (limit : ℕ) (f : Flow) (es : List SessionEvent) → HasEvents limit f es → AreSessionEvents f limit es
 right_events limit f [] h = absurd h
 right_events limit f (e ∷ es) h = h.0
 
@@ -48,28 +49,39 @@ pub all_halved : (limit tick : ℕ) (ss : List Session) (ts : List SessionEvent)
 all_halved limit tick ss ts h are =
     each_filter (IsHalved limit tick) stays (with_events (kept tick ss) ts) (halved limit tick (kept tick ss) ts (each_filter (IsRightSession limit) _ ss h) are)
 
+-- the packet of a record begins a session, or one of these goes on, or nothing happens
+module _ (assets : List Asset) (limit tick : ℕ) (table : List Session) (halved : Each (IsHalved limit tick) table) (P : Received → Type 0) (nothing : P Dropped × P NoRoom × P NoSession)
+    (begun : (f : Flow) (e : SessionEvent) → IsBeginning f tick e → P (Begun f e))
+    (went : (i : ℕ) (e : SessionEvent) (s : Side) (p : PacketValue) (x : Session) (half : SessionEvent) (es : List SessionEvent) → slice_get table i ≡ Some x → x.events ≡ half ∷ es →
+    half.client.tick ≡ tick → AreSessionEvents x.flow limit es → IsPacket x.flow limit es half s p e → P (Went i e)) where
+  went_with : (i : ℕ) (e : SessionEvent) (s : Side) (p : PacketValue) (x : Session) (es : List SessionEvent) → slice_get table i ≡ Some x → x.events ≡ es → HasHalf limit tick x.flow es →
+      GoesOnWith limit s p e x.flow es → P (Went i e)
+  went_with i e s p x [] at is h g = absurd h
+  went_with i e s p x (half ∷ es) at is h g = went i e s p x half es at is h.0 h.1 g
+
+  went_at : (i : ℕ) (e : SessionEvent) (s : Side) (p : PacketValue) (o : Option Session) → slice_get table i ≡ o → GoesOnAt limit s p e o → P (Went i e)
+  went_at i e s p None at g = absurd g
+  went_at i e s p (Some x) at g = went_with i e s p x x.events at refl (each_get (IsHalved limit tick) table i x halved at) g
+
+  pub receives_halved : (p : Result PacketValue PacketRefusal) (r : Received) → ReceivesRecord assets limit tick table p r → P r
+  receives_halved = receives assets limit tick table P nothing begun (λ i e s p on. went_at i e s p (slice_get table i) refl on)
+
 -- ---- one packet
+
+pub early_all : (P : PacketValue → Type 0) (b : Bool) (e : LegEvent) → Sends P e → AllByRecursion P (early b e)
+early_all P true e h = all_both P e.fired _ h.fired h.said
+early_all P false e h = all_both P e.fired [] h.fired tt
+
+pub late_all : (P : PacketValue → Type 0) (b : Bool) (e : LegEvent) → Sends P e → AllByRecursion P (late b e)
+late_all P true e h = all_both P _ [] h.greeted tt
+late_all P false e h = all_both P _ _ h.greeted h.said
 
 module _ (assets : List Asset) (client asset : Endpoint) (none : has_asset_at assets client ≡ false) (some : has_asset_at assets asset ≡ true) where
   never_same : (x y : Endpoint) → has_asset_at assets x ≡ false → has_asset_at assets y ≡ true → x ≡ y → ⊥
   never_same x y a b e = absurd (true≢false (sym b ∙ (sym (ap (has_asset_at assets) e) ∙ a)))
 
-  apart_by : (x y : Endpoint) (b : Bool) → same_endpoint x y ≡ b → (x ≡ y → ⊥) → same_endpoint x y ≡ false
-  apart_by x y true e n = absurd (n (same_is x y e))
-  apart_by x y false e n = e
-
   apart : (x y : Endpoint) → (x ≡ y → ⊥) → same_endpoint x y ≡ false
-  apart x y n = apart_by x y _ refl n
-
-  or_false : (b : Bool) → (b || false) ≡ b
-  or_false true = refl
-  or_false false = refl
-
-  and_swap : (a b : Bool) → (a && b) ≡ (b && a)
-  and_swap true true = refl
-  and_swap true false = refl
-  and_swap false true = refl
-  and_swap false false = refl
+  apart x y n = false_from_ne_true (same_endpoint x y) (λ same. n (same_is x y same))
 
   module _ (f : Flow) (own : IsOwn assets f) where
     abbrev IsTold : PacketValue → Type 0
@@ -78,20 +90,12 @@ module _ (assets : List Asset) (client asset : Endpoint) (none : has_asset_at as
     to_controller : (p : PacketValue) → GoesFrom (client_of f) f.asset.endpoint p → IsTold p
     to_controller p g =
         let other = apart (client_of f) asset (never_same (client_of f) asset own.0 some) in
-        rw (g.0, g.1, other) (or_false _)
+        rw (g.0, g.1, other) (or-false _)
 
     to_client : (p : PacketValue) → GoesFrom f.asset.endpoint (client_of f) p → IsTold p
     to_client p g =
         let other = apart f.asset.endpoint client (λ e. never_same client f.asset.endpoint none own.1 (sym e)) in
-        rw (g.0, g.1, other) (and_swap (same_endpoint f.asset.endpoint asset) (same_endpoint (client_of f) client))
-
-    early_told : (b : Bool) (e : LegEvent) → Sends IsTold e → AllByRecursion IsTold (early b e)
-    early_told true e h = all_both IsTold e.fired _ h.fired h.said
-    early_told false e h = all_both IsTold e.fired [] h.fired tt
-
-    late_told : (b : Bool) (e : LegEvent) → Sends IsTold e → AllByRecursion IsTold (late b e)
-    late_told true e h = all_both IsTold _ [] h.greeted tt
-    late_told false e h = all_both IsTold _ _ h.greeted h.said
+        rw (g.0, g.1, other) (and_comm (same_endpoint f.asset.endpoint asset) (same_endpoint (client_of f) client))
 
     told_by : (source dest : Endpoint) → ((p : PacketValue) → GoesFrom source dest p → IsTold p) → (e : LegEvent) → Sends (GoesFrom source dest) e → Sends IsTold e
     told_by source dest k e h = record {
@@ -115,10 +119,10 @@ module _ (assets : List Asset) (client asset : Endpoint) (none : has_asset_at as
       client_told = told_by _ _ to_client e.client (leg_goes (client_ends f) _ e.client legs.client right.client)
 
       first_told : AreTold (sent_first e)
-      first_told = at_told _ _ (all_both IsTold (early (is_first_half e) e.controller) _ (early_told _ e.controller controller_told) (early_told _ e.client client_told))
+      first_told = at_told _ _ (all_both IsTold (early (is_first_half e) e.controller) _ (early_all IsTold _ e.controller controller_told) (early_all IsTold _ e.client client_told))
 
       second_told : AreTold (sent_second e)
-      second_told = at_told _ _ (all_both IsTold (late (is_first_half e) e.controller) _ (late_told _ e.controller controller_told) (late_told _ e.client client_told))
+      second_told = at_told _ _ (all_both IsTold (late (is_first_half e) e.controller) _ (late_all IsTold _ e.controller controller_told) (late_all IsTold _ e.client client_told))
 
   -- ---- the first half
 
@@ -143,36 +147,12 @@ module _ (assets : List Asset) (client asset : Endpoint) (none : has_asset_at as
   abbrev pub received_theirs : List Session → Received → List Sent
   received_theirs table r = (if goes_to_theirs client asset table r then sent_received r else []) ++ (if begins_theirs client asset r then sent_received r else [])
 
-  module _ (limit tick : ℕ) where
-    goes_with : (s : Side) (p : PacketValue) (e : SessionEvent) (f : Flow) (es : List SessionEvent) → IsOwn assets f → HasHalf limit tick f es → GoesOnWith limit s p e f es →
-        between (sent_second e) ≡ cond (is_flow_of client asset f) (sent_second e) []
-    goes_with s p e f [] own h g = absurd h
-    goes_with s p e f (half ∷ es) own h g = filter_all _ _ (sent_second e) (second_told f own es e (legs_right f limit es h.1) g.right)
-
-    went_by : (s : Side) (p : PacketValue) (e : SessionEvent) (table : List Session) (i : ℕ) (o : Option Session) → slice_get table i ≡ o → Each (HasOwn assets) table → Each (IsHalved limit tick) table →
-        GoesOnAt limit s p e o → between (sent_second e) ≡ cond (is_theirs client asset o) (sent_second e) []
-    went_by s p e table i None is own h g = absurd g
-    went_by s p e table i (Some x) is own h g = goes_with s p e x.flow x.events (each_get (HasOwn assets) table i x own is) (each_get (IsHalved limit tick) table i x h is) g
-
-    begun_between : (f : Flow) (e : SessionEvent) → IsOwn assets f → AreRight f [] e → between (sent_second e) ≡ cond (is_flow_of client asset f) (sent_second e) []
-    begun_between f e own right = filter_all _ _ (sent_second e) (second_told f own [] e (record { controller = tt; client = tt }) right)
-
-    received_by : (table : List Session) (p : PacketValue) (m : Match) (r : Received) → Each (HasOwn assets) table → Each (IsHalved limit tick) table →
-        ((f : Flow) (e : SessionEvent) → r ≡ Begun f e → IsOwn assets f) → Receives limit tick table p m r → between (sent_received r) ≡ received_theirs table r
-    received_by table p m Dropped own h new g = refl
-    received_by table p m NoRoom own h new g = refl
-    received_by table p m NoSession own h new g = refl
-    received_by table p (Begins flow) (Begun f e) own h new g = begun_between f e (new f e refl) (subst (λ x. AreRight x [] e) (sym g.0) g.1.right)
-    received_by table p Full (Begun f e) own h new g = absurd g
-    received_by table p (Goes i s) (Begun f e) own h new g = absurd g
-    received_by table p Outside (Begun f e) own h new g = absurd g
-    received_by table p (Begins flow) (Went i e) own h new g = absurd g
-    received_by table p Full (Went i e) own h new g = absurd g
-    received_by table p (Goes i s) (Went j e) own h new g =
-        went_by s p e table j (slice_get table j) refl own h (subst (λ k. GoesOnAt limit s p e (slice_get table k)) (sym g.0) g.1) ∙ sym (append-nil _)
-    received_by table p Outside (Went i e) own h new g = absurd g
-
-    pub received_between : (table : List Session) (p : Result PacketValue PacketRefusal) (r : Received) → Each (HasOwn assets) table → Each (IsHalved limit tick) table →
-        ((f : Flow) (e : SessionEvent) → r ≡ Begun f e → IsOwn assets f) → ReceivesRecord assets limit tick table p r → between (sent_received r) ≡ received_theirs table r
-    received_between table (Err refusal) r own h new g = subst (λ x. between (sent_received x) ≡ received_theirs table x) (sym g) refl
-    received_between table (Ok p) r own h new g = received_by table p (match_of assets table p) r own h new g
+  pub received_between : (limit tick : ℕ) (table : List Session) (p : Result PacketValue PacketRefusal) (r : Received) → Each (HasOwn assets) table → Each (IsHalved limit tick) table →
+      ((f : Flow) (e : SessionEvent) → r ≡ Begun f e → IsOwn assets f) → ReceivesRecord assets limit tick table p r → between (sent_received r) ≡ received_theirs table r
+  received_between limit tick table p r own h new g =
+      receives_halved assets limit tick table h (λ r. ((f : Flow) (e : SessionEvent) → r ≡ Begun f e → IsOwn assets f) → between (sent_received r) ≡ received_theirs table r)
+      ((λ new. refl), (λ new. refl), (λ new. refl))
+      (λ f e b new. filter_all _ _ (sent_second e) (second_told f (new f e refl) [] e (record { controller = tt; client = tt }) b.right))
+      (λ i e s p x half es at is now before on new.
+      subst (λ o. between (sent_second e) ≡ cond (is_theirs client asset o) (sent_second e) []) (sym at)
+      (filter_all _ _ (sent_second e) (second_told x.flow (each_get (HasOwn assets) table i x own at) es e (legs_right x.flow limit es before) on.right)) ∙ sym (append-nil _)) p r g new

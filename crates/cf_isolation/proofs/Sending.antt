@@ -1,6 +1,6 @@
 -- What a run sent between a session's endpoints, in its time, is what its events sent.
-use Rattle.std.proofs.Common.{◌≡◌, ℕ, ◌+◌, ◌≤◌, Bool, true, false, List, [], ◌∷◌, ◌++◌, cond, Option, Some, None, Result, Ok, Err, refl, sym, ap, ◌∙◌, subst, arith, append_assoc}
-use Rattle.std.specs.Prelude.{filter, slice_get}
+use Rattle.std.proofs.Common.{◌≡◌, ℕ, ◌+◌, ◌≤◌, Bool, true, false, List, [], ◌∷◌, ◌++◌, cond, Result, refl, sym, ap, ◌∙◌, subst, arith, append_assoc}
+use Rattle.std.specs.Prelude.{filter}
 use Rattle.std.specs.List.{AllByRecursion, flat_map}
 use Rattle.std.proofs.lemmas.List.{append-nil}
 use Rattle.std.proofs.lemmas.List.Elements.{filter-append}
@@ -12,19 +12,18 @@ use Rattle.cf_readback.proofs.Legs.{each_back}
 use Rattle.cf_session.specs.Sent.{Sent, at, sent_first, sent_second}
 use Rattle.cf_session.specs.Session.{Flow, SessionEvent, client_of}
 use Rattle.cf_view.specs.declared.Endpoint.{Endpoint}
-use Rattle.cf_view.specs.declared.Side.{Side}
 use Rattle.cf_run.specs.Isolation.{HasSession, NoneBegins, begins_theirs, goes_to_theirs, is_flow_of, sent_by, sent_over, ticks_of}
 use Rattle.cf_run.specs.Selected.{Rises, last_moment}
 use Rattle.cf_run.specs.Sessions.{Each, HasRightEvents as IsRightSession, SessionsAreRight, gone_after}
 use Rattle.cf_run.specs.Summary.{found}
-use Rattle.cf_run.specs.Table.{Begins, Full, Goes, Match, Outside, Session, has_asset_at, match_of}
-use Rattle.cf_run.specs.Trace.{AreRunEvents, AreTicks, Begun, Dropped, RunEvent, GoesOnAt, GoesOnWith, NoRoom, NoSession, Received, Receives, ReceivesRecord, Went, kept, sent, sent_in_first, sent_in_second, sent_received, table_after, tick_of}
+use Rattle.cf_run.specs.Table.{Session, has_asset_at}
+use Rattle.cf_run.specs.Trace.{AreRunEvents, AreTicks, Begun, RunEvent, Received, ReceivesRecord, kept, sent, sent_in_first, sent_in_second, sent_received, table_after, tick_of}
 use Rattle.cf_isolation.specs.Isolated.{NextEvent, SentIsOfSessions, SentToTheNext}
 use Rattle.cf_isolation.specs.Records.{goes_between, is_during, sent_between}
 use Rattle.cf_isolation.proofs.Lists.{all_both, all_map}
-use Rattle.cf_isolation.proofs.Packets.{HasHalf, IsHalved, all_halved, received_between, received_theirs, ticks_between}
+use Rattle.cf_isolation.proofs.Packets.{IsHalved, all_halved, received_between, received_theirs, receives_halved, ticks_between}
 use Rattle.cf_isolation.proofs.Stretch.{IsNow, are_behind, during_early, during_late, during_yes, last_grows, picked, picks_all, picks_append, picks_none, rises_behind, to_next, whole}
-use Rattle.cf_isolation.proofs.Tables.{HasOwn, IsOwn, all_own, begun_in, each_filter, each_get, found_has_all, kept_has, same_self, table_has}
+use Rattle.cf_isolation.proofs.Tables.{HasOwn, IsOwn, all_own, begun_in, each_filter, found_has_all, kept_has, same_self, table_has}
 
 -- ---- moments
 
@@ -40,36 +39,14 @@ ticks_at tick [] ts are = subst (λ xs. AllAt tick (flat_map sent_first xs)) (sy
 ticks_at tick (s ∷ ss) [] are = absurd are
 ticks_at tick (s ∷ ss) (t ∷ ts) are = all_both _ (sent_first t) _ (all_at tick t.client.tick _ are.0.client_tick) (ticks_at tick ss ts are.1)
 
-module _ (limit tick : ℕ) where
-  second_at : (e : SessionEvent) → e.client.tick ≡ tick → AllAt (tick + 1) (sent_second e)
-  second_at e h = all_at (tick + 1) (moment e.client) _ (ap (λ n. n + 1) h)
+second_at : (tick : ℕ) (e : SessionEvent) → e.client.tick ≡ tick → AllAt (tick + 1) (sent_second e)
+second_at tick e h = all_at (tick + 1) (moment e.client) _ (ap (λ n. n + 1) h)
 
-  goes_at : (s : Side) (p : PacketValue) (e : SessionEvent) (f : Flow) (es : List SessionEvent) → HasHalf limit tick f es → GoesOnWith limit s p e f es → AllAt (tick + 1) (sent_second e)
-  goes_at s p e f [] h g = absurd h
-  goes_at s p e f (half ∷ es) h g = second_at e (g.client_on.0 ∙ h.0)
-
-  went_at : (s : Side) (p : PacketValue) (e : SessionEvent) (table : List Session) (i : ℕ) (o : Option Session) → slice_get table i ≡ o → Each (IsHalved limit tick) table → GoesOnAt limit s p e o →
-      AllAt (tick + 1) (sent_second e)
-  went_at s p e table i None is h g = absurd g
-  went_at s p e table i (Some x) is h g = goes_at s p e x.flow x.events (each_get (IsHalved limit tick) table i x h is) g
-
-  received_by : (table : List Session) (p : PacketValue) (m : Match) (r : Received) → Each (IsHalved limit tick) table → Receives limit tick table p m r → AllAt (tick + 1) (sent_received r)
-  received_by table p m Dropped h g = tt
-  received_by table p m NoRoom h g = tt
-  received_by table p m NoSession h g = tt
-  received_by table p (Begins flow) (Begun f e) h g = second_at e (ap (λ x. x.tick) g.1.client)
-  received_by table p Full (Begun f e) h g = absurd g
-  received_by table p (Goes i s) (Begun f e) h g = absurd g
-  received_by table p Outside (Begun f e) h g = absurd g
-  received_by table p (Begins flow) (Went i e) h g = absurd g
-  received_by table p Full (Went i e) h g = absurd g
-  received_by table p (Goes i s) (Went j e) h g = went_at s p e table j (slice_get table j) refl h (subst (λ k. GoesOnAt limit s p e (slice_get table k)) (sym g.0) g.1)
-  received_by table p Outside (Went i e) h g = absurd g
-
-  received_at : (assets : List Asset) (table : List Session) (p : Result PacketValue PacketRefusal) (r : Received) → Each (IsHalved limit tick) table → ReceivesRecord assets limit tick table p r →
-      AllAt (tick + 1) (sent_received r)
-  received_at assets table (Err refusal) r h g = subst (λ x. AllAt (tick + 1) (sent_received x)) (sym g) tt
-  received_at assets table (Ok p) r h g = received_by table p (match_of assets table p) r h g
+received_at : (assets : List Asset) (limit tick : ℕ) (table : List Session) (p : Result PacketValue PacketRefusal) (r : Received) → Each (IsHalved limit tick) table →
+    ReceivesRecord assets limit tick table p r → AllAt (tick + 1) (sent_received r)
+received_at assets limit tick table p r h g =
+    receives_halved assets limit tick table h (λ r. AllAt (tick + 1) (sent_received r)) (tt, tt, tt) (λ f e b. second_at tick e (ap (λ x. x.tick) b.client))
+    (λ i e s p x half es at is now before on. second_at tick e (on.client_on.0 ∙ now)) p r g
 
 -- ---- an event
 
@@ -89,7 +66,7 @@ module _ (law : SessionsAreRight) (assets : List Asset) (limit : ℕ) where
   pub second_now : (e : RunEvent) (es : List RunEvent) → AreRunEvents assets limit (e ∷ es) → Rises (e ∷ es) → AllAt e.input.moment (sent_in_second e)
   second_now e es h r =
       let back : tick_of e.input + 1 ≡ e.input.moment = omega (arith, r.0) in
-      subst (λ m. AllAt m (sent_in_second e)) back (received_at limit (tick_of e.input) assets (found (table_after es) e) e.input.packet e.received (halves e es h) h.0.received)
+      subst (λ m. AllAt m (sent_in_second e)) back (received_at assets limit (tick_of e.input) (found (table_after es) e) e.input.packet e.received (halves e es h) h.0.received)
 
   timed : (e : RunEvent) (es : List RunEvent) → AreRunEvents assets limit (e ∷ es) → Rises (e ∷ es) → AllByRecursion (IsNow (λ s. s.moment) (last_moment es) e.input.moment) (now es e)
   timed e es h r =

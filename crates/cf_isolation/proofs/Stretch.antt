@@ -3,6 +3,7 @@
 use Rattle.std.proofs.Common.{◌≡◌, ℕ, ◌<◌, ◌≤◌, ◌&&◌, Bool, true, false, List, [], ◌∷◌, ◌++◌, refl, sym, ap, ◌∙◌, subst, arith}
 use Rattle.std.specs.Prelude.{filter}
 use Rattle.std.specs.List.{AllByRecursion}
+use Rattle.std.proofs.lemmas.Bool.{and_right}
 use Rattle.std.proofs.lemmas.Bool.Decides.{nat_tests}
 use Rattle.std.proofs.lemmas.List.{append-nil}
 use Rattle.std.proofs.lemmas.List.Elements.{filter-append}
@@ -46,15 +47,11 @@ module _ {X : Type 0} (at : X → ℕ) (q : X → Bool) where
   pub picks_append : (since until : ℕ) (xs ys : List X) → picked since until (xs ++ ys) ≡ picked since until xs ++ picked since until ys
   picks_append since until xs ys = filter-append (λ x. q x && is_during since until (at x)) xs ys
 
-  swap_false : (b : Bool) → (b && false) ≡ false
-  swap_false true = refl
-  swap_false false = refl
-
   -- outside the time nothing is selected, and in the time what passes
   pub picks_none : (since until : ℕ) (xs : List X) → AllByRecursion (λ x. is_during since until (at x) ≡ false) xs → picked since until xs ≡ []
   picks_none since until xs h =
       filter_all (λ x. q x && is_during since until (at x)) false xs
-      (all_map (λ x. is_during since until (at x) ≡ false) (λ x. (q x && is_during since until (at x)) ≡ false) (λ x e. ap (λ b. q x && b) e ∙ swap_false (q x)) xs h)
+      (all_map (λ x. is_during since until (at x) ≡ false) (λ x. (q x && is_during since until (at x)) ≡ false) (λ x e. and_right (q x) (is_during since until (at x)) e) xs h)
 
   in_time : (since until : ℕ) (ys : List X) → AllByRecursion (λ x. is_during since until (at x) ≡ true) ys → filter (λ x. is_during since until (at x)) ys ≡ ys
   in_time since until ys h = filter_all (λ x. is_during since until (at x)) true ys h

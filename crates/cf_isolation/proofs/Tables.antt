@@ -7,11 +7,13 @@ use Rattle.std.proofs.lemmas.Bool.Decides.{nat_tests}
 use Rattle.cf_packet.specs.Packet.{PacketValue}
 use Rattle.cf_packet.specs.declared.packet.PacketRefusal.{PacketRefusal}
 use Rattle.cf_policy.specs.declared.Asset.{Asset}
+use Rattle.cf_session.specs.Event.{IsBeginning}
 use Rattle.cf_session.specs.Session.{Flow, SessionEvent, client_of, is_expired}
 use Rattle.cf_view.specs.declared.Endpoint.{Endpoint}
+use Rattle.cf_view.specs.declared.Side.{Side}
 use Rattle.cf_run.specs.Sessions.{Each, gone_after, leaves, left_by_packet, left_in, session_at, sessions_of}
-use Rattle.cf_run.specs.Table.{Begins, Full, Goes, Match, Outside, Session, asset_at, begins, begins_or_full, goes, goes_from_client, has_asset_at, is_opening, match_of, may_begin, place_of, same_endpoint, without}
-use Rattle.cf_run.specs.Trace.{AreRunEvents, Begun, Dropped, RunEvent, NoRoom, NoSession, Received, Receives, ReceivesRecord, Went, after_received, kept, stays, table_after, tick_of, ticked, with_event_at, with_events}
+use Rattle.cf_run.specs.Table.{Begins, Full, Goes, Match, Session, asset_at, begins, begins_or_full, goes, goes_from_client, has_asset_at, is_opening, match_of, may_begin, place_of, same_endpoint, without}
+use Rattle.cf_run.specs.Trace.{AreRunEvents, Begun, Dropped, RunEvent, GoesOnAt, NoRoom, NoSession, Received, Receives, ReceivesRecord, Went, after_received, kept, stays, table_after, tick_of, ticked, with_event_at, with_events}
 
 pub same_is : (a b : Endpoint) → same_endpoint a b ≡ true → a ≡ b
 same_is a b e =
@@ -123,8 +125,7 @@ module _ (assets : List Asset) (table : List Session) (p : PacketValue) (f : Flo
 
   not_both : (a b : Bool) → (a && not b) ≡ true → b ≡ false
   not_both true false e = refl
-  not_both true true e = absurd (true≢false (sym e))
-  not_both false b e = absurd (true≢false (sym e))
+  not_both _ _ e = absurd (true≢false (sym e))
 
   may_by : (b : Bool) → may_begin assets p ≡ b → (if b then begins table p (asset_at assets p.dest) else goes table p) ≡ Begins f → IsBegunBy assets p f
   may_by true e h = begun_if (not_both (is_opening p) (has_asset_at assets p.source) e) (asset_at assets p.dest) refl h
@@ -136,9 +137,7 @@ module _ (assets : List Asset) (table : List Session) (p : PacketValue) (f : Flo
 module _ (assets : List Asset) (limit : ℕ) where
   begun_by : (tick : ℕ) (table : List Session) (p : PacketValue) (m : Match) (f : Flow) (e : SessionEvent) → match_of assets table p ≡ m → Receives limit tick table p m (Begun f e) → IsBegunBy assets p f
   begun_by tick table p (Begins g) f e is h = subst (IsBegunBy assets p) (sym h.0) (begins_by assets table p g is)
-  begun_by tick table p Full f e is h = absurd h
-  begun_by tick table p (Goes i s) f e is h = absurd h
-  begun_by tick table p Outside f e is h = absurd h
+  begun_by tick table p _ f e is h = absurd h
 
   never_dropped : (f : Flow) (e : SessionEvent) → Begun f e ≡ Dropped → ⊥
   never_dropped f e h = cc
@@ -155,6 +154,23 @@ module _ (assets : List Asset) (limit : ℕ) where
   begun_in e es h f b is =
       begun_is (tick_of e.input) (ticked e.ticks (tick_of e.input) (table_after es)) e.input.packet f b
       (subst (ReceivesRecord assets limit (tick_of e.input) (ticked e.ticks (tick_of e.input) (table_after es)) e.input.packet) is h.0.received)
+
+-- ---- the packet of a record begins a session, or one goes on, or nothing happens
+
+module _ (assets : List Asset) (limit tick : ℕ) (table : List Session) (P : Received → Type 0) (nothing : P Dropped × P NoRoom × P NoSession)
+    (begun : (f : Flow) (e : SessionEvent) → IsBeginning f tick e → P (Begun f e))
+    (went : (i : ℕ) (e : SessionEvent) (s : Side) (p : PacketValue) → GoesOnAt limit s p e (slice_get table i) → P (Went i e)) where
+  receives_by : (p : PacketValue) (m : Match) (r : Received) → Receives limit tick table p m r → P r
+  receives_by p m Dropped g = nothing.0
+  receives_by p m NoRoom g = nothing.1
+  receives_by p m NoSession g = nothing.2
+  receives_by p (Begins flow) (Begun f e) g = begun f e (subst (λ x. IsBeginning x tick e) (sym g.0) g.1)
+  receives_by p (Goes i s) (Went j e) g = went j e s p (subst (λ k. GoesOnAt limit s p e (slice_get table k)) (sym g.0) g.1)
+  receives_by p _ _ g = absurd g
+
+  pub receives : (p : Result PacketValue PacketRefusal) (r : Received) → ReceivesRecord assets limit tick table p r → P r
+  receives (Err refusal) r g = subst P (sym g) nothing.0
+  receives (Ok p) r g = receives_by p (match_of assets table p) r g
 
 -- ---- what holds of each flow that begins holds of each session of a table
 
@@ -178,12 +194,10 @@ module _ (K : Flow → Type 0) where
   went_has (suc i) e (s ∷ ss) h = (h.0, went_has i e ss h.1)
 
   received_has : (table : List Session) (r : Received) → ((f : Flow) (b : SessionEvent) → r ≡ Begun f b → K f) → Each Has table → Each Has (after_received r table)
-  received_has table Dropped new h = h
-  received_has table NoRoom new h = h
-  received_has table NoSession new h = h
   received_has table (Begun f e) new h =
       each_append Has (without (client_of f) f.asset.endpoint table) _ (each_without Has table (place_of (client_of f) f.asset.endpoint table) h) (new f e refl, tt)
   received_has table (Went i e) new h = each_filter Has stays (with_event_at i e table) (went_has i e table h)
+  received_has table _ new h = h
 
   pub kept_has : (tick : ℕ) (table : List Session) → Each Has table → Each Has (kept tick table)
   kept_has tick table h = each_filter Has _ table h
@@ -204,11 +218,9 @@ module _ (K : Flow → Type 0) where
   at_has table (Some i) h = one_has table (slice_get table i) (λ s e. each_get Has table i s h e)
 
   left_has : (table : List Session) (r : Received) → Each Has table → Each Has (left_by_packet r table)
-  left_has table Dropped h = tt
-  left_has table NoRoom h = tt
-  left_has table NoSession h = tt
   left_has table (Begun f e) h = at_has table (place_of (client_of f) f.asset.endpoint table) h
   left_has table (Went i e) h = each_filter Has leaves (with_event_at i e table) (went_has i e table h)
+  left_has table _ h = tt
 
   -- of those that left it too
   pub gone_have : (es : List RunEvent) → BegunHave K es → Each Has (gone_after es)

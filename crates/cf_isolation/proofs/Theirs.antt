@@ -1,34 +1,19 @@
 -- The sessions of a client and an asset in a table, through the two halves of an event.
-use Rattle.std.proofs.Common.{◌≡◌, ℕ, zero, suc, ◌+◌, ◌&&◌, Bool, true, false, not, List, [], ◌∷◌, ◌++◌, length, cond, Option, Some, None, refl, sym, ap, ◌∙◌, subst, arith}
-use Rattle.std.specs.Prelude.{filter, nat_lt, position, slice_get}
-use Rattle.std.specs.List.{position_or_len, remove}
-use Rattle.std.proofs.lemmas.Bool.{true≢false}
-use Rattle.std.proofs.lemmas.Bool.Decides.{nat_tests}
+use Rattle.std.proofs.Common.{◌≡◌, ℕ, zero, suc, Bool, true, false, List, [], ◌∷◌, ◌++◌, cond, Option, Some, None, refl, sym, ap, ◌∙◌, subst}
+use Rattle.std.specs.Prelude.{filter, position, slice_get}
+use Rattle.std.specs.List.{remove}
 use Rattle.cf_policy.proofs.FirstPlace.{first_at}
 use Rattle.cf_session.specs.Session.{SessionEvent}
 use Rattle.cf_view.specs.declared.Endpoint.{Endpoint}
-use Rattle.cf_run.specs.Isolation.{ticks_of}
 use Rattle.cf_run.specs.Sessions.{session_at}
-use Rattle.cf_run.specs.Table.{Session, is_between, place_of}
-use Rattle.cf_run.specs.Trace.{AreTicks, replaced, with_event_at, with_events}
+use Rattle.cf_run.specs.Table.{Session, is_between}
+use Rattle.cf_run.specs.Trace.{replaced, with_event_at}
 use Rattle.cf_run.proofs.Pairs.{none_there}
 
 -- ---- filters
 
 pub filter_one : {A : Type 0} (p : A → Bool) (b : Bool) (x : A) → p x ≡ b → filter p (x ∷ []) ≡ cond b (x ∷ []) []
 filter_one p b x e = ap (λ c. cond c (x ∷ []) []) e
-
--- what is left passes
-passing : {A : Type 0} (p : A → Bool) (xs : List A) (y : A) (ys : List A) → filter p xs ≡ y ∷ ys → p y ≡ true
-passing p [] y ys h = cc
-passing p (x ∷ xs) y ys h = by (λ e. passing p xs y ys e) (p x) refl h
-  where
-    by : (filter p xs ≡ y ∷ ys → p y ≡ true) → (b : Bool) → p x ≡ b → cond b (x ∷ filter p xs) (filter p xs) ≡ y ∷ ys → p y ≡ true
-    by more true e g = let same : x ≡ y = cc in subst (λ z. p z ≡ true) same e
-    by more false e g = more g
-
-pub one_passes : {A : Type 0} (p : A → Bool) (xs : List A) (y : A) → filter p xs ≡ y ∷ [] → p y ≡ true
-one_passes p xs y h = passing p xs y [] h
 
 -- ---- an element at a place, among those that pass
 
@@ -100,11 +85,8 @@ module _ (client asset : Endpoint) where
   at_one table i x h = ap (λ o. elim o [ None ↦ [] | Some session ↦ session ∷ [] ]) h
 
   -- the one of theirs, where there is one at most
-  gives_theirs : (table : List Session) (y : Session) (place : Option ℕ) → position (is_between client asset) table ≡ place → theirs table ≡ y ∷ [] → GivesWay table place (y ∷ []) []
-  gives_theirs table y None e h = let none = none_there (is_between client asset) table e in absurd (never (sym h ∙ none))
-    where
-      never : y ∷ [] ≡ [] → ⊥
-      never k = cc
+  pub gives_theirs : (table : List Session) (y : Session) (place : Option ℕ) → position (is_between client asset) table ≡ place → theirs table ≡ y ∷ [] → GivesWay table place (y ∷ []) []
+  gives_theirs table y None e h = let none = none_there (is_between client asset) table e in cc (sym h ∙ none)
   gives_theirs table y (Some i) e h =
       let first = first_at (is_between client asset) table i e in
       let a = around_theirs table i first.0 first.1.here in
@@ -115,7 +97,7 @@ module _ (client asset : Endpoint) where
         stays = a.removed ∙ one.1;
       }
 
-  gives_none : (table : List Session) (place : Option ℕ) → position (is_between client asset) table ≡ place → theirs table ≡ [] → GivesWay table place [] []
+  pub gives_none : (table : List Session) (place : Option ℕ) → position (is_between client asset) table ≡ place → theirs table ≡ [] → GivesWay table place [] []
   gives_none table None e h = record { gone = refl; stays = h }
   gives_none table (Some i) e h =
       let first = first_at (is_between client asset) table i e in
@@ -123,7 +105,7 @@ module _ (client asset : Endpoint) where
       absurd (none_left first.0 a.front a.back (sym h ∙ a.is ∙ ap (λ b. a.front ++ cond b (first.0 ∷ a.back) a.back) first.1.passes))
 
   -- that of others
-  gives_other : (c a : Endpoint) (table : List Session) → ((s : Session) → is_between c a s ≡ true → is_between client asset s ≡ false) → (place : Option ℕ) →
+  pub gives_other : (c a : Endpoint) (table : List Session) → ((s : Session) → is_between c a s ≡ true → is_between client asset s ≡ false) → (place : Option ℕ) →
       position (is_between c a) table ≡ place → GivesWay table place [] (theirs table)
   gives_other c a table apart None e = record { gone = refl; stays = refl }
   gives_other c a table apart (Some i) e =
@@ -134,15 +116,6 @@ module _ (client asset : Endpoint) where
         gone = ap theirs (at_one table i first.0 first.1.here) ∙ filter_one (is_between client asset) false first.0 other;
         stays = near.removed ∙ sym (near.is ∙ ap (λ b. near.front ++ cond b (first.0 ∷ near.back) near.back) other);
       }
-
-  pub own_gives : (table : List Session) (y : Session) → theirs table ≡ y ∷ [] → GivesWay table (place_of client asset table) (y ∷ []) []
-  own_gives table y h = gives_theirs table y (place_of client asset table) refl h
-
-  pub none_gives : (table : List Session) → theirs table ≡ [] → GivesWay table (place_of client asset table) [] []
-  none_gives table h = gives_none table (place_of client asset table) refl h
-
-  pub other_gives : (c a : Endpoint) (table : List Session) → ((s : Session) → is_between c a s ≡ true → is_between client asset s ≡ false) → GivesWay table (place_of c a table) [] (theirs table)
-  other_gives c a table apart = gives_other c a table apart (place_of c a table) refl
 
   -- ---- the one that goes on
 

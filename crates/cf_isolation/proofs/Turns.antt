@@ -1,5 +1,5 @@
 -- What the two halves of an event do to the sessions of a client and an asset, and what these put out.
-use Rattle.std.proofs.Common.{◌≡◌, ℕ, ◌+◌, ◌<◌, ◌≤◌, ◌&&◌, Bool, true, false, not, List, [], ◌∷◌, ◌++◌, cond, Option, Some, None, refl, sym, ap, ◌∙◌, subst, append_assoc, arith}
+use Rattle.std.proofs.Common.{◌≡◌, ℕ, ◌+◌, ◌<◌, ◌≤◌, ◌&&◌, Bool, true, false, not, List, [], ◌∷◌, ◌++◌, cond, Option, Some, None, Result, refl, sym, ap, ◌∙◌, subst, append_assoc, arith}
 use Rattle.std.specs.Prelude.{filter, slice_get}
 use Rattle.std.specs.List.{AllByRecursion, remove}
 use Rattle.std.proofs.lemmas.Bool.{and_parts, true≢false}
@@ -7,6 +7,8 @@ use Rattle.std.proofs.lemmas.List.{append-nil}
 use Rattle.std.proofs.lemmas.List.Elements.{filter-append}
 use Rattle.cf_audit.specs.declared.CutReason.{CutReason}
 use Rattle.cf_packet.specs.Packet.{PacketValue}
+use Rattle.cf_packet.specs.declared.packet.PacketRefusal.{PacketRefusal}
+use Rattle.cf_policy.specs.declared.Asset.{Asset}
 use Rattle.cf_session.specs.Event.{IsBeginning, IsPacket, IsTick}
 use Rattle.cf_session.specs.Session.{Flow, SessionEvent, client_of, is_expired}
 use Rattle.cf_view.specs.declared.Endpoint.{Endpoint}
@@ -14,19 +16,19 @@ use Rattle.cf_view.specs.declared.Side.{Side}
 use Rattle.cf_run.specs.Isolation.{begins_theirs, goes_to_theirs, is_flow_of, is_theirs, ticks_of}
 use Rattle.cf_run.specs.Sessions.{HasEvents, leaves, left_by_packet, session_at}
 use Rattle.cf_run.specs.Table.{Session, is_between, place_of, same_endpoint, without}
-use Rattle.cf_run.specs.Trace.{AreTicks, Begun, Dropped, GoesOnAt, GoesOnWith, NoRoom, NoSession, Received, Went, after_received, behind, is_cut, kept, stays, ticked, with_event_at, with_events}
+use Rattle.cf_run.specs.Trace.{AreTicks, Begun, Dropped, GoesOnAt, GoesOnWith, NoRoom, NoSession, Received, ReceivesRecord, Went, after_received, behind, is_cut, kept, stays, ticked, with_event_at, with_events}
 use Rattle.cf_isolation.specs.Lives.{born_at}
 use Rattle.cf_isolation.proofs.Lists.{all_map}
 use Rattle.cf_isolation.proofs.Order.{IsWithin, Moves, born, comes, grows, stays_so}
-use Rattle.cf_isolation.proofs.Tables.{same_is}
+use Rattle.cf_isolation.proofs.Tables.{receives, same_is}
 use Rattle.cf_run.proofs.Pairs.{filter_swap, next_are, ticks_are}
-use Rattle.cf_isolation.proofs.Theirs.{filter_one, none_changes, none_gives, other_changes, other_gives, own_changes, own_gives}
+use Rattle.cf_isolation.proofs.Theirs.{filter_one, gives_none, gives_other, gives_theirs, none_changes, other_changes, own_changes}
 
 pub data AtMostOne (ss : List Session) : Type 0 where
   none_there : ss ≡ [] → AtMostOne ss
   one_there : (s : Session) → ss ≡ s ∷ [] → AtMostOne ss
 
-uncut : (c : Option CutReason) → not (is_cut c) ≡ true → c ≡ None
+pub uncut : (c : Option CutReason) → not (is_cut c) ≡ true → c ≡ None
 uncut None h = refl
 uncut (Some r) h = absurd (true≢false (sym h))
 
@@ -272,11 +274,11 @@ module _ {X : Type 0} (at : X → ℕ) (first : Flow → SessionEvent → List X
       begun_gives : (f : Flow) (e : SessionEvent) → is_flow_of client asset f ≡ true → Here found → (left : List Session) × (mine (left_by_packet (Begun f e) found) ≡ left)
           × (mine (without (client_of f) f.asset.endpoint found) ≡ []) × (mine found ≡ left)
       begun_gives f e is (nobody h) =
-          let gives = none_gives client asset found h in
+          let gives = gives_none client asset found (place_of client asset found) refl h in
           let place = place_same f is in
           ([], ap (λ o. mine (session_at found o)) place ∙ gives.gone, ap (λ o. mine (elim o [ Some i ↦ remove found i | None ↦ found ])) place ∙ gives.stays, h)
       begun_gives f e is (going s t h right tick_is none) =
-          let gives = own_gives client asset found (ticked_one s t) h in
+          let gives = gives_theirs client asset found (ticked_one s t) (place_of client asset found) refl h in
           let place = place_same f is in
           (ticked_one s t ∷ [], ap (λ o. mine (session_at found o)) place ∙ gives.gone, ap (λ o. mine (elim o [ Some i ↦ remove found i | None ↦ found ])) place ∙ gives.stays, h)
 
@@ -287,7 +289,7 @@ module _ {X : Type 0} (at : X → ℕ) (first : Flow → SessionEvent → List X
           let parts = and_parts (same_endpoint (client_of s.flow) (client_of f)) (same_endpoint s.flow.asset.endpoint f.asset.endpoint) h in
           ap (λ x. same_endpoint x client && same_endpoint s.flow.asset.endpoint asset) (same_is (client_of s.flow) (client_of f) parts.0)
           ∙ ap (λ x. same_endpoint (client_of f) client && same_endpoint x asset) (same_is s.flow.asset.endpoint f.asset.endpoint parts.1) ∙ other in
-          let gives = other_gives client asset (client_of f) f.asset.endpoint found apart in
+          let gives = gives_other client asset (client_of f) f.asset.endpoint found apart (place_of (client_of f) f.asset.endpoint found) refl in
           quiet (Begun f e) gives.gone
           (filter-append (is_between client asset) (without (client_of f) f.asset.endpoint found) (new_one f e ∷ []) ∙ ap (λ l. mine (without (client_of f) f.asset.endpoint found) ++ l)
           (filter_one (is_between client asset) false (new_one f e) other) ∙ append-nil _ ∙ gives.stays) empty
@@ -362,11 +364,9 @@ module _ {X : Type 0} (at : X → ℕ) (first : Flow → SessionEvent → List X
       begun_if f e h true is c_is = begun_by f e is h (c_is ∙ put_begun f e) (begun_gives f e is here)
       begun_if f e h false other c_is = begun_other f e other c_is
 
-      pub second_turn : (r : Received) → ((f : Flow) (e : SessionEvent) → r ≡ Begun f e → IsBeginning f tick e) →
-          ((i : ℕ) (e : SessionEvent) → r ≡ Went i e → (from : Side) × (p : PacketValue) × GoesOnAt limit from p e (slice_get found i)) →
+      pub second_turn : (assets : List Asset) (p : Result PacketValue PacketRefusal) (r : Received) → ReceivesRecord assets limit tick found p r →
           c ≡ of_theirs (goes_to_theirs client asset found r) (begins_theirs client asset r) r → Second found r c
-      second_turn Dropped begun went c_is = quiet Dropped refl refl c_is
-      second_turn NoRoom begun went c_is = quiet NoRoom refl refl c_is
-      second_turn NoSession begun went c_is = quiet NoSession refl refl c_is
-      second_turn (Begun f e) begun went c_is = begun_if f e (begun f e refl) (is_flow_of client asset f) refl c_is
-      second_turn (Went i e) begun went c_is = let on = went i e refl in went_at i e (slice_get found i) refl on.0 on.1 on.2 c_is
+      second_turn assets =
+          receives assets limit tick found (λ r. c ≡ of_theirs (goes_to_theirs client asset found r) (begins_theirs client asset r) r → Second found r c)
+          (quiet Dropped refl refl, quiet NoRoom refl refl, quiet NoSession refl refl) (λ f e b c_is. begun_if f e b (is_flow_of client asset f) refl c_is)
+          (λ i e from p on c_is. went_at i e (slice_get found i) refl from p on c_is)

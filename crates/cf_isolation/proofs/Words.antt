@@ -4,9 +4,10 @@ use Rattle.std.specs.Prelude.{bytes_eq, codes, decimal, filter}
 use Rattle.std.specs.List.{AllByRecursion, list_all}
 use Rattle.std.specs.Char.{digit_value}
 use Rattle.std.specs.Str.Parse.{AllDigits, digits_value, digits_value_after}
-use Rattle.std.proofs.lemmas.Bool.{and_parts, ne_eqb, true≢false}
+use Rattle.std.proofs.lemmas.Bool.{and_parts, false_from_ne_true, ne_eqb, true≢false}
 use Rattle.std.proofs.lemmas.Bool.Decides.{nat_tests}
 use Rattle.std.proofs.lemmas.Fmt.{decimal_digit, decimal_injective, decimal_is_IsNumeral}
+use Rattle.std.proofs.lemmas.List.{append-nil}
 use Rattle.std.proofs.lemmas.List.Elements.{filter-append}
 use Rattle.std.proofs.lemmas.Slice.Eq.{bytes_eq-Decides}
 use Rattle.std.proofs.lemmas.Str.Parse.{tells_digits}
@@ -41,17 +42,14 @@ decimal_digits n h = (decimal_is_IsNumeral n h).0.1
 decimal_lacks : (c n : ℕ) → c < 48 → n < 2 ^ 64 → Lacks c (decimal n)
 decimal_lacks c n low h = digits_lack c (decimal n) low (decimal_digits n h)
 
+never : (n : ℕ) → (n == n) ≡ false → ⊥
+never n k = let yes : (n == n) ≡ true = grind (arith, nat_tests) in absurd (true≢false (sym yes ∙ k))
+
 -- the list up to such an octet, and that after it
 split_same : (c : ℕ) (xs us ys vs : List ℕ) → Lacks c xs → Lacks c us → xs ++ c ∷ ys ≡ us ++ c ∷ vs → (xs ≡ us) × (ys ≡ vs)
 split_same c [] [] ys vs h g e = let same : ys ≡ vs = cc in (refl, same)
 split_same c [] (u ∷ us) ys vs h g e = let same : c ≡ u = cc in absurd (never u (subst (λ x. (u == x) ≡ false) same g.0))
-  where
-    never : (n : ℕ) → (n == n) ≡ false → ⊥
-    never n k = let yes : (n == n) ≡ true = grind (arith, nat_tests) in absurd (true≢false (sym yes ∙ k))
 split_same c (x ∷ xs) [] ys vs h g e = let same : x ≡ c = cc in absurd (never c (subst (λ y. (y == c) ≡ false) same h.0))
-  where
-    never : (n : ℕ) → (n == n) ≡ false → ⊥
-    never n k = let yes : (n == n) ≡ true = grind (arith, nat_tests) in absurd (true≢false (sym yes ∙ k))
 split_same c (x ∷ xs) (u ∷ us) ys vs h g e =
     let head : x ≡ u = cc in
     let tail : xs ++ c ∷ ys ≡ us ++ c ∷ vs = cc in
@@ -69,14 +67,8 @@ behind_is [] ys h = refl
 behind_is (x ∷ xs) ys h = ap (λ b. cond b (xs ++ 32 ∷ ys) (behind_word (xs ++ 32 ∷ ys))) h.0 ∙ behind_is xs ys h.1
 
 -- lists that were joined from the left
-onto : (xs : List ℕ) (c : ℕ) (ds ys : List ℕ) → ((xs ++ c ∷ []) ++ ds) ++ ys ≡ xs ++ c ∷ (ds ++ ys)
-onto xs c ds ys = append_assoc (xs ++ c ∷ []) ds ys ∙ append_assoc xs (c ∷ []) (ds ++ ys)
-
 line_joined : (a b c d : List ℕ) → ((((((a ++ 32 ∷ []) ++ b) ++ 32 ∷ []) ++ c) ++ 32 ∷ []) ++ d) ++ 10 ∷ [] ≡ a ++ 32 ∷ (b ++ 32 ∷ (c ++ 32 ∷ (d ++ 10 ∷ [])))
-line_joined a b c d =
-    onto ((((a ++ 32 ∷ []) ++ b) ++ 32 ∷ []) ++ c) 32 d (10 ∷ [])
-    ∙ onto ((a ++ 32 ∷ []) ++ b) 32 c (32 ∷ (d ++ 10 ∷ []))
-    ∙ onto a 32 b (32 ∷ (c ++ 32 ∷ (d ++ 10 ∷ [])))
+line_joined a b c d = simp append_assoc
 
 -- ---- moments
 
@@ -90,31 +82,22 @@ digit_is d h = grind (arith, nat_tests, h)
 one_digit : (n d : ℕ) → d < 10 → digits_value_after 10 n (decimal d) ≡ n * 10 + d
 one_digit n d h = ap (digits_value_after 10 n) (decimal_digit d h) ∙ ap (λ v. n * 10 + v) (digit_is d h)
 
+-- after the digits of a number one more
+one_more : (n k d : ℕ) (xs : List ℕ) → digits_value_after 10 n xs ≡ k → d < 10 → digits_value_after 10 n (xs ++ decimal d) ≡ k * 10 + d
+one_more n k d xs e h = digits_join n xs (decimal d) ∙ ap (λ x. digits_value_after 10 x (decimal d)) e ∙ one_digit k d h
+
 six_value : (n m : ℕ) → m < 1000000 → digits_value_after 10 n (six_digits m) ≡ n * 1000000 + m
 six_value n m h =
-    let a = m / 100000 in
-    let b = m / 10000 % 10 in
-    let c = m / 1000 % 10 in
-    let d = m / 100 % 10 in
-    let e = m / 10 % 10 in
-    let f = m % 10 in
-    let D = decimal in
-    let n1 = n * 10 + a in
-    let n2 = n1 * 10 + b in
-    let n3 = n2 * 10 + c in
-    let n4 = n3 * 10 + d in
-    let n5 = n4 * 10 + e in
-    let s5 = digits_join n ((((D a ++ D b) ++ D c) ++ D d) ++ D e) (D f) in
-    let s4 = digits_join n (((D a ++ D b) ++ D c) ++ D d) (D e) in
-    let s3 = digits_join n ((D a ++ D b) ++ D c) (D d) in
-    let s2 = digits_join n (D a ++ D b) (D c) in
-    let s1 = digits_join n (D a) (D b) in
-    let v1 : digits_value_after 10 n (D a) ≡ n1 = one_digit n a (omega (arith, h)) in
-    let v2 : digits_value_after 10 n (D a ++ D b) ≡ n2 = s1 ∙ ap (λ x. digits_value_after 10 x (D b)) v1 ∙ one_digit n1 b (omega arith) in
-    let v3 : digits_value_after 10 n ((D a ++ D b) ++ D c) ≡ n3 = s2 ∙ ap (λ x. digits_value_after 10 x (D c)) v2 ∙ one_digit n2 c (omega arith) in
-    let v4 : digits_value_after 10 n (((D a ++ D b) ++ D c) ++ D d) ≡ n4 = s3 ∙ ap (λ x. digits_value_after 10 x (D d)) v3 ∙ one_digit n3 d (omega arith) in
-    let v5 : digits_value_after 10 n ((((D a ++ D b) ++ D c) ++ D d) ++ D e) ≡ n5 = s4 ∙ ap (λ x. digits_value_after 10 x (D e)) v4 ∙ one_digit n4 e (omega arith) in
-    s5 ∙ ap (λ x. digits_value_after 10 x (D f)) v5 ∙ one_digit n5 f (omega arith) ∙ omega (arith, h)
+    let a = decimal (m / 100000) in
+    let b = a ++ decimal (m / 10000 % 10) in
+    let c = b ++ decimal (m / 1000 % 10) in
+    let d = c ++ decimal (m / 100 % 10) in
+    let e = d ++ decimal (m / 10 % 10) in
+    one_more n _ (m % 10) e
+    (one_more n _ (m / 10 % 10) d
+    (one_more n _ (m / 100 % 10) c
+    (one_more n _ (m / 1000 % 10) b (one_more n _ (m / 10000 % 10) a (one_digit n (m / 100000) (omega (arith, h))) (omega arith)) (omega arith)) (omega arith)) (omega arith)) (omega arith)
+    ∙ omega (arith, h)
 
 pointless : (xs : List ℕ) → Lacks 46 xs → filter (λ octet. not (octet == 46)) xs ≡ xs
 pointless [] h = refl
@@ -149,14 +132,10 @@ moment_value m h =
     let small : m / 1000000 < 2 ^ 64 = omega (arith, h) in
     let a : filter keep seconds ≡ seconds = pointless seconds (decimal_lacks 46 (m / 1000000) (omega arith) small) in
     let b : filter keep six ≡ six = pointless six (six_lacks 46 (m % 1000000) (omega arith) (omega arith)) in
-    let front : filter keep (seconds ++ codes ".") ≡ seconds = filter-append keep seconds (codes ".") ∙ ap (λ l. l ++ []) a ∙ back seconds in
+    let front : filter keep (seconds ++ codes ".") ≡ seconds = filter-append keep seconds (codes ".") ∙ ap (λ l. l ++ []) a ∙ append-nil seconds in
     let text : filter keep ((seconds ++ codes ".") ++ six) ≡ seconds ++ six = filter-append keep (seconds ++ codes ".") six ∙ ap (λ l. l ++ filter keep six) front ∙ ap (λ l. seconds ++ l) b in
     let value : digits_value_after 10 0 seconds ≡ m / 1000000 = (decimal_is_IsNumeral (m / 1000000) small).1 in
     ap (digits_value 10) text ∙ digits_join 0 seconds six ∙ ap (λ n. digits_value_after 10 n six) value ∙ six_value (m / 1000000) (m % 1000000) (omega arith) ∙ omega arith
-  where
-    back : (xs : List ℕ) → xs ++ [] ≡ xs
-    back [] = refl
-    back (x ∷ xs) = ap (λ l. x ∷ l) (back xs)
 
 -- ---- endpoints
 
@@ -165,11 +144,7 @@ abbrev pub IsEndpoint : Endpoint → Type 0
 IsEndpoint e = (e.address < 2 ^ 32) × (e.port < 2 ^ 16)
 
 endpoint_joined : (a b c d p : List ℕ) → (((((((a ++ 46 ∷ []) ++ b) ++ 46 ∷ []) ++ c) ++ 46 ∷ []) ++ d) ++ 58 ∷ []) ++ p ≡ a ++ 46 ∷ (b ++ 46 ∷ (c ++ 46 ∷ (d ++ 58 ∷ p)))
-endpoint_joined a b c d p =
-    append_assoc ((((((a ++ 46 ∷ []) ++ b) ++ 46 ∷ []) ++ c) ++ 46 ∷ []) ++ d) (58 ∷ []) p
-    ∙ onto ((((a ++ 46 ∷ []) ++ b) ++ 46 ∷ []) ++ c) 46 d (58 ∷ p)
-    ∙ onto ((a ++ 46 ∷ []) ++ b) 46 c (46 ∷ (d ++ 58 ∷ p))
-    ∙ onto a 46 b (46 ∷ (c ++ 46 ∷ (d ++ 58 ∷ p)))
+endpoint_joined a b c d p = simp append_assoc
 
 endpoint_lacks : (e : Endpoint) → IsEndpoint e → Lacks 32 (endpoint_text e)
 endpoint_lacks e h =
@@ -250,13 +225,12 @@ module _ (l : LineValue) (moment : IsMoment l.moment) (client : IsEndpoint l.cli
   same_text : (other : Endpoint) → IsEndpoint other → bytes_eq (endpoint_text l.client) (endpoint_text other) ≡ same_endpoint l.client other
   same_text other h = by (same_endpoint l.client other) refl
     where
-      never : (b : Bool) → bytes_eq (endpoint_text l.client) (endpoint_text other) ≡ b → (l.client ≡ other → ⊥) → bytes_eq (endpoint_text l.client) (endpoint_text other) ≡ false
-      never false e n = e
-      never true e n = absurd (n (endpoint_is l.client other client h ((bytes_eq-Decides (endpoint_text l.client) (endpoint_text other)).0 e)))
-
       by : (b : Bool) → same_endpoint l.client other ≡ b → bytes_eq (endpoint_text l.client) (endpoint_text other) ≡ b
       by true e = (bytes_eq-Decides (endpoint_text l.client) (endpoint_text other)).1 (ap endpoint_text (same_is l.client other e))
-      by false e = never _ refl (λ is. absurd (true≢false (sym (ap (λ x. same_endpoint x other) is ∙ same_self other) ∙ e)))
+      by false e =
+          false_from_ne_true _ (λ yes.
+          let is = endpoint_is l.client other client h ((bytes_eq-Decides (endpoint_text l.client) (endpoint_text other)).0 yes) in
+          true≢false (sym (ap (λ x. same_endpoint x other) is ∙ same_self other) ∙ e))
 
   pub names_is : (other : Endpoint) (text : List ℕ) → IsEndpoint other → names_both other text (line_text l) ≡ (same_endpoint l.client other && bytes_eq l.asset text)
   names_is other text h =
