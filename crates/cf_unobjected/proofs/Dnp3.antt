@@ -1,7 +1,7 @@
 -- Frames of a beginning of the stream to a controller, read by a judge.
 use Rattle.std.proofs.Common.{◌≡◌, ◌≤◌, ◌+◌, ◌∙◌, ◌++◌, ℕ, zero, suc, List, [], ◌∷◌, Bool, true, false, Option, None, Some, if◌then◌else◌, length, map, nat_lt, replicate, reverse, refl, sym, ap, subst, arith, inl, inr}
 use Rattle.std.specs.List.{AllByRecursion, flat_map}
-use Rattle.std.proofs.lemmas.Bool.{cases_Bool, eq-eqb, false≢true}
+use Rattle.std.proofs.lemmas.Bool.{cases_Bool, eq-eqb}
 use Rattle.std.proofs.lemmas.Bool.Decides.{nat_tests}
 use Rattle.cf_decode.specs.Received.{has_segment, segment_in, segments_in}
 use Rattle.cf_decode.specs.Units.{Fragment, Passed, Whole, data_frame, units_from, units_of}
@@ -33,9 +33,8 @@ use Rattle.cf_unobjected.proofs.Unobjected.{AreFine, no_complaint}
 
 -- no segment is dropped
 abbrev pub IsTaken : SegmentAnswer → Type 0
-IsTaken answers.More = Unit {0}
-IsTaken answers.Whole = Unit {0}
 IsTaken (answers.Dropped because) = ⊥
+IsTaken _ = Unit {0}
 
 pub all_both : {X : Type 0} (P : X → Type 0) (xs ys : List X) → AllByRecursion P xs → AllByRecursion P ys → AllByRecursion P (xs ++ ys)
 all_both P [] ys a b = b
@@ -74,13 +73,12 @@ module _ (asset : Asset) (client : ℕ) (back : (user : List ℕ) → user_of (b
 
   pub unit_segments : (start : ℕ) (ps : List Passed) → AllByRecursion (IsRightlyPassed asset client) ps → segments_in (units_from asset start ps) ≡ all_segments start (fragments_in ps)
   unit_segments start [] h = refl
-  unit_segments start (Whole (Adu a) ∷ ps) h = unit_segments start ps h.1
-  unit_segments start (Whole (Apdu a) ∷ ps) h = unit_segments start ps h.1
   unit_segments start (Whole (Frame x) ∷ ps) h = rw h.0.1 (unit_segments start ps h.1)
   unit_segments start (Fragment octets ∷ ps) h =
       segments_append (units_of asset start (Fragment octets)) (units_from asset (start + count_of (length octets)) ps)
       ∙ ap (λ xs. xs ++ segments_in (units_from asset (start + count_of (length octets)) ps)) (frames_segments (reverse (pieces.segments_of octets start)))
       ∙ ap (λ xs. reverse (pieces.segments_of octets start) ++ xs) (unit_segments (start + count_of (length octets)) ps h.1)
+  unit_segments start (Whole _ ∷ ps) h = unit_segments start ps h.1
 
   abbrev pub IsRightFragment : List ℕ → Type 0
   IsRightFragment octets = (2 ≤ length octets) × (length octets ≤ 2048) × (goes_on (fate_of_fragment asset (verdict_of asset client) side.Client octets) ≡ true)
@@ -109,10 +107,9 @@ module _ (asset : Asset) (client : ℕ) (back : (user : List ℕ) → user_of (b
 
   pub units_served : (start : ℕ) (ps : List Passed) → AllByRecursion (IsRightlyPassed asset client) ps → AllByRecursion IsServed (units_from asset start ps)
   units_served start [] h = tt
-  units_served start (Whole (Adu a) ∷ ps) h = (h.0, units_served start ps h.1)
-  units_served start (Whole (Apdu a) ∷ ps) h = (h.0, units_served start ps h.1)
   units_served start (Whole (Frame x) ∷ ps) h = (h.0.0, units_served start ps h.1)
   units_served start (Fragment octets ∷ ps) h = all_both IsServed (units_of asset start (Fragment octets)) (units_from asset (start + count_of (length octets)) ps) (frames_served _) (units_served (start + count_of (length octets)) ps h.1)
+  units_served start (Whole _ ∷ ps) h = (h.0, units_served start ps h.1)
 
   -- ---- units one after the other
 
@@ -123,10 +120,9 @@ module _ (asset : Asset) (client : ℕ) (back : (user : List ℕ) → user_of (b
 
   segment_fine : (answer : SegmentAnswer) (last : Option (List ℕ)) → IsTaken answer → AllByRecursion IsRightFragment (completed answer last) →
       complaint_of (fate_of_segment asset (verdict_of asset client) side.Client answer (completed answer last)) ≡ None
-  segment_fine answers.More last t r = refl
   segment_fine (answers.Dropped because) last t r = absurd t
-  segment_fine answers.Whole None t r = refl
   segment_fine answers.Whole (Some octets) t r = whole_fine octets r.0
+  segment_fine _ _ t r = refl
 
   -- a frame of the client beside the segments of its side
   abbrev fate_by_segment : List Judged → FrameValue → Fate
@@ -134,20 +130,12 @@ module _ (asset : Asset) (client : ℕ) (back : (user : List ℕ) → user_of (b
       fate_of_segment asset (verdict_of asset client) side.Client (answer_to (segments_of asset side.Client earlier) (user_of x.blocks))
       (completed (answer_to (segments_of asset side.Client earlier) (user_of x.blocks)) (last_fragment (user_of x.blocks ∷ segments_of asset side.Client earlier)))
 
-  data_by : (earlier : List Judged) (x : FrameValue) (b : Bool) → b ≡ true → (if b then fate_by_segment earlier x else fate.Carried) ≡ fate_by_segment earlier x
-  data_by earlier x true e = refl
-  data_by earlier x false e = absurd (false≢true e)
-
   data_frame_fate : (earlier : List Judged) (x : FrameValue) → stray_of asset side.Client x ≡ None → is_data x ≡ true →
       fate_by_segment earlier x ≡ fate_of_frame asset (verdict_of asset client) side.Client earlier x (stray_of asset side.Client x)
-  data_frame_fate earlier x s d = sym (subst (λ o. fate_of_frame asset (verdict_of asset client) side.Client earlier x o ≡ fate_by_segment earlier x) (sym s) (data_by earlier x (is_data x) d))
-
-  status_by : (earlier : List Judged) (x : FrameValue) (b : Bool) → b ≡ false → (if b then fate_by_segment earlier x else fate.Carried) ≡ fate.Carried
-  status_by earlier x false e = refl
-  status_by earlier x true e = absurd (false≢true (sym e))
+  data_frame_fate earlier x s d = rw (s, d) refl
 
   status_frame_fate : (earlier : List Judged) (x : FrameValue) → stray_of asset side.Client x ≡ None → is_data x ≡ false → fate.Carried ≡ fate_of_frame asset (verdict_of asset client) side.Client earlier x (stray_of asset side.Client x)
-  status_frame_fate earlier x s d = sym (subst (λ o. fate_of_frame asset (verdict_of asset client) side.Client earlier x o ≡ fate.Carried) (sym s) (status_by earlier x (is_data x) d))
+  status_frame_fate earlier x s d = rw (s, d) refl
 
   data_frame_segment : (x : FrameValue) → stray_of asset side.Client x ≡ None → is_data x ≡ true → lane.segment_in asset side.Client (Took side.Client (Frame x)) ≡ user_of x.blocks ∷ []
   data_frame_segment x s d = rw (s, d) refl

@@ -4,7 +4,7 @@ use Rattle.cf_judge.specs.Plain.{AreRead, Breaks, Ending, HasEnding, HasPlainFat
 use Rattle.cf_lane.proofs.Commands.{has_one_fate}
 use Rattle.cf_lane.proofs.Units.{free_unit}
 use Rattle.cf_lane.specs.Judged.{Judged}
-use Rattle.cf_lane.specs.Unit.{Adu, Apdu, Frame, SpellsUnit, UnitValue, unit_break}
+use Rattle.cf_lane.specs.Unit.{Adu, SpellsUnit, UnitValue, unit_break}
 use Rattle.cf_lane.specs.declared.fate.Fate.{Fate}
 use Rattle.cf_policy.specs.Verdict.{verdict_of}
 use Rattle.cf_policy.specs.declared.Asset.{Asset}
@@ -31,8 +31,7 @@ module _ (asset : Asset) (client : ℕ) where
 
   one_fate : (earlier : List Judged) (u : UnitValue) (f g : Fate) → HasPlainFate asset client earlier u f → HasPlainFate asset client earlier u g → f ≡ g
   one_fate earlier (Adu a) f g h k = has_one_fate asset (verdict_of asset client) a f g h k
-  one_fate earlier (Frame x) f g h k = h ∙ sym k
-  one_fate earlier (Apdu a) f g h k = h ∙ sym k
+  one_fate earlier _ f g h k = h ∙ sym k
 
   pub one_reading : (earlier : List Judged) (bytes born : List ℕ) (js ks : List Judged) (x y : Ending) → AreRead asset client earlier bytes born js x →
       AreRead asset client earlier bytes born ks y → (js ≡ ks) × (x ≡ y)

@@ -22,7 +22,7 @@ use Rattle.cf_dnptrans.specs.Transport.{fitting, is_linked, last_fragment, octet
 use Rattle.cf_lane.specs.Dnp3.{answer_now, segments_of, fate_of_fragment, fate_of_frame, fate_of_read, fate_of_segment, fate_of_whole, is_data, stray_of}
 use Rattle.cf_lane.specs.Fate.{HaveFates, HasItemFate}
 use Rattle.cf_lane.specs.Iec104.{asdu_in, asdu_refused, fate_by_form, fate_of_asdu, or_cut}
-use Rattle.cf_lane.specs.Item.{Broke, Ended, Item, Took}
+use Rattle.cf_lane.specs.Item.{Item, Took}
 use Rattle.cf_lane.specs.Judged.{Judged, goes_on, in_turn, is_refused}
 use Rattle.cf_lane.specs.Modbus.{HasCommandFate, of_its_acts, of_no_form, of_other_station}
 use Rattle.cf_lane.specs.Numbers.{ack_cut, info_cut}
@@ -107,13 +107,13 @@ module _ (asset : Asset) (client : ℕ) (says : Says) (allows : Allows says (ver
   acts_go : (acts : List Act) → goes_on (fate_of_acts asset says acts) ≡ true → goes_on (fate_of_acts asset (verdict_of asset client) acts) ≡ true
   acts_go acts e = ap goes_on (acts_admitted acts e)
 
-  confirms_or : (b : Bool) (acts : List Act) → goes_on (if b then fate.Carried else fate_of_acts asset says acts) ≡ true →
-      goes_on (if b then fate.Carried else fate_of_acts asset (verdict_of asset client) acts) ≡ true
-  confirms_or true acts e = refl
-  confirms_or false acts e = acts_go acts e
+  if_goes : (b : Bool) (f g h k : Fate) → (goes_on f ≡ true → goes_on h ≡ true) → (goes_on g ≡ true → goes_on k ≡ true) → goes_on (if b then f else g) ≡ true → goes_on (if b then h else k) ≡ true
+  if_goes true f g h k first second e = first e
+  if_goes false f g h k first second e = second e
 
   read_goes : (code : ℕ) (read : Result FragmentValue FragmentRefusal) → goes_on (fate_of_read asset says code read) ≡ true → goes_on (fate_of_read asset (verdict_of asset client) code read) ≡ true
-  read_goes code (Ok f) e = confirms_or (nat_eq f.code 0) (fragments.acts f) e
+  read_goes code (Ok f) e =
+      if_goes (nat_eq f.code 0) fate.Carried (fate_of_acts asset says (fragments.acts f)) fate.Carried (fate_of_acts asset (verdict_of asset client) (fragments.acts f)) (λ g. g) (acts_go (fragments.acts f)) e
   read_goes code (Err refusal) e = absurd (false≢true e)
 
   pub fragment_goes : (octets : List ℕ) → goes_on (fate_of_fragment asset says side.Client octets) ≡ true → goes_on (fate_of_fragment asset (verdict_of asset client) side.Client octets) ≡ true
@@ -129,19 +129,10 @@ module _ (asset : Asset) (client : ℕ) (says : Says) (allows : Allows says (ver
   abbrev station_refusal : List ℕ → Fate
   station_refusal octets = asdu_refused decider.Station reason.Station octets (station_of octets)
 
-  station_goes : (octets : List ℕ) (here : Bool) →
-      goes_on (if here then fate_by_form asset says octets (asdu_form.first_refusal (asdu_in octets)) else station_refusal octets) ≡ true →
-      goes_on (if here then fate_by_form asset (verdict_of asset client) octets (asdu_form.first_refusal (asdu_in octets)) else station_refusal octets) ≡ true
-  station_goes octets true e = form_goes octets (asdu_form.first_refusal (asdu_in octets)) e
-  station_goes octets false e = absurd (false≢true e)
-
-  short_goes : (octets : List ℕ) (short : Bool) (f g : Fate) → (goes_on f ≡ true → goes_on g ≡ true) → goes_on (if short then short_refusal octets else f) ≡ true →
-      goes_on (if short then short_refusal octets else g) ≡ true
-  short_goes octets true f g to e = absurd (false≢true e)
-  short_goes octets false f g to e = to e
-
   pub asdu_goes : (octets : List ℕ) → goes_on (fate_of_asdu asset says octets) ≡ true → goes_on (fate_of_asdu asset (verdict_of asset client) octets) ≡ true
-  asdu_goes octets e = short_goes octets (nat_lt (length octets) 9) _ _ (station_goes octets (nat_eq (station_of octets) asset.station)) e
+  asdu_goes octets e =
+      if_goes (nat_lt (length octets) 9) (short_refusal octets) _ (short_refusal octets) _ (λ g. g)
+      (if_goes (nat_eq (station_of octets) asset.station) _ (station_refusal octets) _ (station_refusal octets) (form_goes octets (asdu_form.first_refusal (asdu_in octets))) (λ g. g)) e
 
   abbrev AreRight : List Passed → Type 0
   AreRight = AllByRecursion (IsRightlyPassed asset client)
@@ -166,10 +157,7 @@ module _ (asset : Asset) (client : ℕ) (says : Says) (allows : Allows says (ver
   fragment_by : (octets : List ℕ) → 2 ≤ length octets → length octets ≤ 2048 → (f : Fate) → fate_of_fragment asset says side.Client octets ≡ f → AreRight (if goes_on f then Fragment octets ∷ [] else [])
   fragment_by octets long most fate.Carried e = ((long, most, fragment_goes octets (ap goes_on e)), tt)
   fragment_by octets long most (fate.Admitted used) e = ((long, most, fragment_goes octets (ap goes_on e)), tt)
-  fragment_by octets long most (fate.Refused refusal) e = tt
-  fragment_by octets long most (fate.Stray because) e = tt
-  fragment_by octets long most fate.Lengthens e = tt
-  fragment_by octets long most (fate.Cuts because) e = tt
+  fragment_by octets long most _ e = tt
 
   fragment_right : (octets : List ℕ) (short : Bool) → length octets ≤ 2048 → nat_lt (length octets) 2 ≡ short →
       AreRight (if goes_on (fate_of_whole asset says side.Client (octets ∷ [])) then Fragment octets ∷ [] else [])
@@ -180,10 +168,8 @@ module _ (asset : Asset) (client : ℕ) (says : Says) (allows : Allows says (ver
 
   segment_right : (answer : SegmentAnswer) (segments : List (List ℕ)) (last : Option (List ℕ)) → last_fragment segments ≡ last →
       AreRight (if goes_on (fate_of_segment asset says side.Client answer (completed answer last)) then map Fragment (completed answer last) else [])
-  segment_right answers.More segments last e = tt
-  segment_right (answers.Dropped because) segments last e = tt
-  segment_right answers.Whole segments None e = tt
   segment_right answers.Whole segments (Some octets) e = fragment_right octets (nat_lt (length octets) 2) (most_of segments octets e) refl
+  segment_right _ segments _ e = tt
 
   frame_right : (earlier : List Judged) (x : FrameValue) (stray : Option Why) → stray_of asset side.Client x ≡ stray → (data_ : Bool) → is_data x ≡ data_ →
       AreRight (passed_by_frame asset earlier (fate_of_frame asset says side.Client earlier x stray) x)
@@ -202,9 +188,7 @@ module _ (asset : Asset) (client : ℕ) (says : Says) (allows : Allows says (ver
   asdu_right s r asdu owed (fate.Admitted used) e = (asdu_goes asdu (ap goes_on e), tt)
   asdu_right s r asdu owed fate.Carried e = (asdu_goes asdu (ap goes_on e), tt)
   asdu_right s r asdu owed (fate.Refused refusal) e = acks_right owed
-  asdu_right s r asdu owed (fate.Stray because) e = tt
-  asdu_right s r asdu owed fate.Lengthens e = tt
-  asdu_right s r asdu owed (fate.Cuts because) e = tt
+  asdu_right s r asdu owed _ e = tt
 
   info_right : (earlier : List Judged) (send receive : ℕ) (asdu : List ℕ) (cut : Option CutReason) →
       AreRight (passed_by_apdu earlier (or_cut cut (fate_of_asdu asset says asdu)) (Info send receive asdu))
@@ -222,9 +206,7 @@ module _ (asset : Asset) (client : ℕ) (says : Says) (allows : Allows says (ver
   by_item earlier j (Took side.Client (Apdu (Ack receive))) h = subst (λ f. AreRight (passed_by_apdu earlier f (Ack receive))) (sym h) (ack_right earlier receive (ack_cut side.Client earlier receive))
   by_item earlier j (Took side.Client (Apdu (Info send receive asdu))) h =
       subst (λ f. AreRight (passed_by_apdu earlier f (Info send receive asdu))) (sym h) (info_right earlier send receive asdu (info_cut side.Client earlier send receive))
-  by_item earlier j (Took side.Controller u) h = tt
-  by_item earlier j (Ended s n) h = tt
-  by_item earlier j (Broke s because) h = tt
+  by_item earlier j _ h = tt
 
 pub all_right : (asset : Asset) (client : ℕ) (earlier js : List Judged) → HaveFates asset client earlier js → AllByRecursion (IsRightlyPassed asset client) (in_turn (λ before j. passed_by asset before j j.item) earlier js)
 all_right asset client earlier [] h = tt

@@ -6,7 +6,7 @@ use Rattle.cf_lane.proofs.Units.{free_unit, nothing_unit}
 use Rattle.std.proofs.lemmas.List.{append-nil}
 use Rattle.cf_judge.specs.Objections.{first_wrong, wrong}
 use Rattle.cf_judge.specs.Ruling.{complaint_of}
-use Rattle.cf_judge.specs.Plain.{AreRead, Ending, HasPlainFate, completed_in, fate_by_asdu}
+use Rattle.cf_judge.specs.Plain.{AreRead, HasPlainFate, completed_in}
 use Rattle.cf_judge.specs.Plain as plain
 use Rattle.cf_lane.specs.Judged.{Judged, goes_on}
 use Rattle.cf_lane.specs.Unit.{SpellsUnit, UnitValue}
@@ -27,12 +27,9 @@ some_octet p xs u zero b =
 some_octet p xs u (suc n) b = omega arith
 
 pub no_complaint : (f : Fate) → goes_on f ≡ true → complaint_of f ≡ None
-no_complaint fate.Carried e = refl
-no_complaint (fate.Admitted used) e = refl
 no_complaint (fate.Refused refusal) e = absurd (false≢true e)
 no_complaint (fate.Stray because) e = absurd (false≢true e)
-no_complaint fate.Lengthens e = refl
-no_complaint (fate.Cuts because) e = refl
+no_complaint _ e = refl
 
 module _ (asset : Asset) (client : ℕ) where
   -- units, each with a fate that is no complaint after the earlier ones
