@@ -1,18 +1,17 @@
 -- The packets that were heard from a client to an asset, session by session.
 use Rattle.std.proofs.Common.{◌≡◌, ℕ, Bool, true, false, List, [], ◌∷◌, ◌++◌, cond, map, slice_get, Option, Some, None, refl, sym, ap, ◌∙◌, subst}
-use Rattle.std.specs.Prelude.{filter}
 use Rattle.std.specs.List.{AllByRecursion}
-use Rattle.std.proofs.lemmas.Bool.{false≢true}
-use Rattle.cf_isolation.proofs.Tables.{BegunHave, Has, begun_in, each_append, each_filter, each_get, kept_has, next_has, same_is, table_has, went_has, found_has_all}
+use Rattle.std.proofs.lemmas.Bool.{and_parts, false≢true}
+use Rattle.cf_isolation.proofs.Tables.{BegunHave, Has, begun_in, same_is, sessions_have}
 use Rattle.cf_packet.specs.Packet.{PacketValue}
 use Rattle.cf_policy.specs.declared.Asset.{Asset}
 use Rattle.cf_run.specs.Entries.{asset_place}
-use Rattle.cf_run.specs.Sessions.{Each, HasEvents, HasRightEvents as IsRightSession, gone_after, leaves, left_by_packet, session_at, sessions_of}
-use Rattle.cf_run.specs.Table.{Session, asset_at, place_of, same_endpoint}
-use Rattle.cf_run.specs.Trace.{AreRunEvents, Begun, Dropped, RunEvent, NoRoom, NoSession, Received, Went, kept, table_after, tick_of, ticked, with_event_at, with_events}
+use Rattle.cf_run.specs.Sessions.{Each, HasEvents, HasRightEvents as IsRightSession, sessions_of}
+use Rattle.cf_run.specs.Table.{Session, asset_at, same_endpoint}
+use Rattle.cf_run.specs.Trace.{AreRunEvents, RunEvent}
 use Rattle.cf_session.specs.Event.{AreEvents as AreSessionEvents}
 use Rattle.cf_session.specs.Laws.{AreUncutBefore}
-use Rattle.cf_session.specs.Session.{Flow, SessionEvent, client_of, controllers, is_expired}
+use Rattle.cf_session.specs.Session.{Flow, SessionEvent, client_of, controllers}
 use Rattle.cf_view.specs.declared.Endpoint.{Endpoint}
 use Rattle.cf_watch.specs.Watched.{Watched}
 use Rattle.cf_selfjudged.specs.OneFlow.{Numbered, packets_of}
@@ -20,7 +19,7 @@ use Rattle.cf_selfjudged.specs.PairFlows.{IsSpoken, Spoken, pairs_on, sessions_o
 use Rattle.cf_selfjudged.specs.Separate.{is_to_place}
 use Rattle.cf_selfjudged.specs.Speaks.{SessionsSpeak, SpeaksAs}
 use Rattle.cf_selfjudged.proofs.Halves.{is_theirs}
-use Rattle.cf_selfjudged.proofs.Others.{and_left, and_right, number_is}
+use Rattle.cf_selfjudged.proofs.Others.{number_is}
 use Rattle.cf_selfjudged.proofs.Places.{place_has}
 use Rattle.cf_selfjudged.proofs.Theirs.{spoken, told}
 
@@ -33,38 +32,8 @@ all_found : (assets : List Asset) (limit : ℕ) (es : List RunEvent) → AreRunE
 all_found assets limit [] h = tt
 all_found assets limit (e ∷ es) h = ((λ f b is. (begun_in assets limit e es h f b is).2.found), all_found assets limit es h.1)
 
-module _ (K : Flow → Type 0) where
-  at_has : (o : Option Session) (xs : List Session) → Each (Has K) xs → ((s : Session) → o ≡ Some s → K s.flow) → Each (Has K) (elim o [ None ↦ [] | Some session ↦ session ∷ [] ])
-  at_has None xs h more = tt
-  at_has (Some s) xs h more = (more s refl, tt)
-
-  session_has : (xs : List Session) (o : Option ℕ) → Each (Has K) xs → Each (Has K) (session_at xs o)
-  session_has xs None h = tt
-  session_has xs (Some i) h = at_has (slice_get xs i) xs h (λ s e. each_get (Has K) xs i s h e)
-
-  left_has : (table : List Session) (r : Received) → Each (Has K) table → Each (Has K) (left_by_packet r table)
-  left_has table Dropped h = tt
-  left_has table NoRoom h = tt
-  left_has table NoSession h = tt
-  left_has table (Begun f e) h = session_has table (place_of (client_of f) f.asset.endpoint table) h
-  left_has table (Went i e) h = each_filter (Has K) leaves (with_event_at i e table) (went_has K i e table h)
-
-  gone_has : (es : List RunEvent) → BegunHave K es → Each (Has K) (gone_after es)
-  gone_has [] h = tt
-  gone_has (e ∷ es) h =
-      let tick = tick_of e.input in
-      let table = table_after es in
-      let has = table_has K es h.1 in
-      let with = with_events (kept tick table) e.ticks in
-      each_append (Has K) (gone_after es) _ (gone_has es h.1)
-      (each_append (Has K) (filter (λ s. is_expired s.flow s.events tick) table) _ (each_filter (Has K) _ table has)
-      (each_append (Has K) (filter leaves with) _ (each_filter (Has K) leaves with (next_has K (kept tick table) e.ticks (kept_has K tick table has)))
-      (left_has (ticked e.ticks tick table) e.received (found_has_all K tick e.ticks table has))))
-
 pub sessions_found : (assets : List Asset) (limit : ℕ) (es : List RunEvent) → AreRunEvents assets limit es → Each (Has (IsFound assets)) (sessions_of es)
-sessions_found assets limit es h =
-    let begun = all_found assets limit es h in
-    each_append (Has (IsFound assets)) (gone_after es) (table_after es) (gone_has (IsFound assets) es begun) (table_has (IsFound assets) es begun)
+sessions_found assets limit es h = sessions_have (IsFound assets) es (all_found assets limit es h)
 
 -- ---- a list whose elements are heard as two lists
 
@@ -120,8 +89,8 @@ module _ (speaks : SessionsSpeak) (assets : List Asset) (limit : ℕ) (client : 
   asset_by : (f : Flow) (o : Option ℕ) → asset_place assets f.asset.endpoint ≡ o → is_to_place client asset (client_of f) o ≡ true → IsFound assets f → (client_of f ≡ client) × (slice_get assets asset ≡ Some f.asset)
   asset_by f None at h found = absurd (false≢true h)
   asset_by f (Some k) at h found =
-      let here : k ≡ asset = number_is k asset (and_right (same_endpoint (client_of f) client) _ h) in
-      (same_is (client_of f) client (and_left _ _ h), place_has assets f.asset.endpoint asset (at ∙ ap Some here) ∙ found)
+      let here : k ≡ asset = number_is k asset ((and_parts (same_endpoint (client_of f) client) _ h).1) in
+      (same_is (client_of f) client ((and_parts _ _ h).0), place_has assets f.asset.endpoint asset (at ∙ ap Some here) ∙ found)
 
   theirs_by : (f : Flow) (e : SessionEvent) (es : List SessionEvent) (first : List Numbered) (are : HasEvents limit f (e ∷ es)) → is_theirs assets client asset f ≡ true → IsFound assets f →
       heard_as first ≡ packets_of (controllers (e ∷ es)) → (s : SpeaksAs f (e ∷ es) first) → IsTheirs s.session

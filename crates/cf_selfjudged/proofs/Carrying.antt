@@ -68,11 +68,6 @@ abbrev numbered : List Numbered → List PacketValue
 numbered ns = map (λ n. n.packet) ns
 
 -- over a list of packets
-pub top_all : (own : ℕ) (cs : List Carried) (ns : List Numbered) → AllByRecursion IsPlain (numbered ns) → top_of (carried_on own cs ns) ≡ letters_sent_by_all own (top_of cs) (numbered ns)
-top_all own cs [] h = refl
-top_all own cs (n ∷ ns) h =
-    top_all own (carried_by n.number own (top_of cs) n.packet ∷ cs) ns h.1 ∙ ap (λ k. letters_sent_by_all own k (numbered ns)) (top_on n.number own cs n.packet h.0)
-
 pub carry_all : (whole : Stream) (own : ℕ) (cs : List Carried) (ns : List Numbered) → AllByRecursion IsPlain (numbered ns) → CarryAll whole own (top_of cs) (numbered ns) → CarryOne whole cs → CarryOne whole (carried_on own cs ns)
 carry_all whole own cs [] h c had = had
 carry_all whole own cs (n ∷ ns) h c had =

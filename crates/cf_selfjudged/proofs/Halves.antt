@@ -1,17 +1,16 @@
 -- What one half of a session's event sends towards an asset: its own early or late segments.
-use Rattle.std.proofs.Common.{◌≡◌, ℕ, Bool, true, false, List, [], ◌∷◌, ◌++◌, cond, map, refl, ap, ◌∙◌}
+use Rattle.std.proofs.Common.{◌≡◌, ℕ, Bool, false, List, [], ◌∷◌, ◌++◌, cond, map, refl, ap, ◌∙◌}
 use Rattle.std.specs.Prelude.{filter}
 use Rattle.std.specs.List.{AllByRecursion}
 use Rattle.std.proofs.lemmas.List.{append-nil, map-append}
 use Rattle.std.proofs.lemmas.List.Elements.{filter-append}
 use Rattle.cf_isolation.proofs.Ends.{GoesFrom, leg_goes}
-use Rattle.cf_isolation.proofs.Lists.{all_both, all_map, filter_all}
+use Rattle.cf_isolation.proofs.Lists.{all_map, filter_all}
+use Rattle.cf_isolation.proofs.Packets.{early_all, late_all}
 use Rattle.cf_isolation.proofs.Tables.{IsOwn}
-use Rattle.cf_leg.specs.Event.{LegEvent}
 use Rattle.cf_packet.specs.Packet.{PacketValue}
 use Rattle.cf_policy.specs.declared.Asset.{Asset}
 use Rattle.cf_readback.proofs.Legs.{LegsRight}
-use Rattle.cf_readback.proofs.Writing.{Sends}
 use Rattle.cf_run.specs.Entries.{asset_place}
 use Rattle.cf_session.specs.Event.{AreRight}
 use Rattle.cf_session.specs.Sent.{Sent, at, early, is_first_half, late, sent_first, sent_second}
@@ -49,14 +48,6 @@ module _ (assets : List Asset) (client : Endpoint) (place : ℕ) where
 
     to_client : (p : PacketValue) → GoesFrom f.asset.endpoint (client_of f) p → Told false p
     to_client p g = ap (λ d. is_to_place client place p.source (asset_place assets d)) g.1 ∙ ap (is_to_place client place p.source) (no_place assets (client_of f) own.0)
-
-    early_all : (P : PacketValue → Type 0) (b : Bool) (e : LegEvent) → Sends P e → AllByRecursion P (early b e)
-    early_all P true e h = all_both P e.fired _ h.fired h.said
-    early_all P false e h = all_both P e.fired [] h.fired tt
-
-    late_all : (P : PacketValue → Type 0) (b : Bool) (e : LegEvent) → Sends P e → AllByRecursion P (late b e)
-    late_all P true e h = all_both P _ [] h.greeted tt
-    late_all P false e h = all_both P _ _ h.greeted h.said
 
     picked_of : (now : ℕ) (xs ys : List PacketValue) → AllByRecursion (GoesFrom (client_of f) f.asset.endpoint) xs → AllByRecursion (GoesFrom f.asset.endpoint (client_of f)) ys →
         picked (at now (xs ++ ys)) ≡ cond (is_theirs f) xs []

@@ -1,6 +1,7 @@
 -- The flows of a client and an asset are those of the packets from the one to the other.
 use Rattle.std.proofs.Common.{◌≡◌, ◌&&◌, ◌==◌, ℕ, Bool, true, false, List, [], ◌∷◌, cond, Option, Some, None, Ok, refl, ap, ◌∙◌, subst}
 use Rattle.std.specs.Prelude.{filter}
+use Rattle.std.proofs.lemmas.Bool.{and_parts}
 use Rattle.cf_packet.specs.Packet.{PacketValue}
 use Rattle.cf_policy.specs.declared.Asset.{Asset}
 use Rattle.cf_view.specs.declared.Endpoint.{Endpoint}
@@ -10,7 +11,7 @@ use Rattle.cf_watch.specs.Watched.{Watched, goes, with_record}
 use Rattle.cf_selfjudged.specs.OneFlow.{Numbered}
 use Rattle.cf_selfjudged.specs.PairFlows.{pair_on, pairs_on}
 use Rattle.cf_selfjudged.specs.Separate.{heard_on, is_to, is_to_place, pair_of}
-use Rattle.cf_selfjudged.proofs.Others.{and_left, and_right, number_is, stays}
+use Rattle.cf_selfjudged.proofs.Others.{number_is, stays}
 use Rattle.cf_selfjudged.proofs.Separate.{keeps}
 
 endpoint_is : (a b : Endpoint) → a.address ≡ b.address → a.port ≡ b.port → a ≡ b
@@ -24,11 +25,11 @@ module _ (client : Endpoint) (asset : ℕ) where
   step_some : (number place : ℕ) (p : PacketValue) (flows : List Watched) (b : Bool) → (same_endpoint p.source client && (place == asset)) ≡ b →
       pair_of client asset (goes number p (Some place) flows) ≡ after b number p (pair_of client asset flows)
   step_some number place p flows true h =
-      let ends = and_left (same_endpoint p.source client) (place == asset) h in
-      let a = number_is p.source.address client.address (and_left (p.source.address == client.address) _ ends) in
-      let b = number_is p.source.port client.port (and_right (p.source.address == client.address) _ ends) in
+      let ends = (and_parts (same_endpoint p.source client) (place == asset) h).0 in
+      let a = number_is p.source.address client.address ((and_parts (p.source.address == client.address) _ ends).0) in
+      let b = number_is p.source.port client.port ((and_parts (p.source.address == client.address) _ ends).1) in
       let same : p.source ≡ client = endpoint_is p.source client a b in
-      let there : place ≡ asset = number_is place asset (and_right (same_endpoint p.source client) _ h) in
+      let there : place ≡ asset = number_is place asset ((and_parts (same_endpoint p.source client) _ h).1) in
       subst (λ k. pair_of client k (goes number p (Some place) flows) ≡ pair_on number k p (pair_of client k flows)) there
       (subst (λ (c : Endpoint). pair_of c place (goes number p (Some place) flows) ≡ pair_on number place p (pair_of c place flows)) same (keeps number place p flows))
   step_some number place p flows false h = stays number place asset p client h flows

@@ -1,10 +1,10 @@
 -- What a run sends from a client to an asset is what its sessions of theirs sent, one after the other, and they are never two at a time.
-use Rattle.std.proofs.Common.{◌≡◌, ℕ, suc, ◌+◌, ◌≤◌, ◌&&◌, ◌==◌, Bool, true, false, not, List, [], ◌∷◌, ◌++◌, cond, Option, Some, None, option_map, Result, Ok, Err, refl, sym, ap, ◌∙◌, subst, append_assoc, arith}
+use Rattle.std.proofs.Common.{◌≡◌, ℕ, suc, ◌+◌, ◌≤◌, ◌&&◌, ◌==◌, Bool, true, false, not, List, [], ◌∷◌, ◌++◌, cond, Option, Some, None, option_map, Result, refl, sym, ap, ◌∙◌, subst, append_assoc, arith}
 use Rattle.std.specs.Prelude.{filter, position, slice_get}
 use Rattle.std.specs.List.{flat_map, remove}
-use Rattle.std.proofs.lemmas.Bool.{false≢true, true≢false}
+use Rattle.std.proofs.lemmas.Bool.{and_parts, and_right, false_from_ne_true, false≢true, true≢false}
 use Rattle.std.proofs.lemmas.List.{append-nil}
-use Rattle.cf_isolation.proofs.Tables.{HasOwn, IsOwn, all_own, begun_in, each_filter, found_has_all, kept_has, same_is, same_self, table_has}
+use Rattle.cf_isolation.proofs.Tables.{HasOwn, IsOwn, all_own, begun_in, each_filter, found_has_all, kept_has, receives, same_is, same_self, table_has}
 use Rattle.cf_leg.specs.Event.{LegEvent, is_idle, sent_in}
 use Rattle.cf_packet.specs.Packet.{PacketValue}
 use Rattle.cf_packet.specs.declared.packet.PacketRefusal.{PacketRefusal}
@@ -12,8 +12,8 @@ use Rattle.cf_policy.specs.declared.Asset.{Asset}
 use Rattle.cf_readback.proofs.Legs.{each_back}
 use Rattle.cf_run.specs.Entries.{asset_place}
 use Rattle.cf_run.specs.Sessions.{Each, HasRightEvents as IsRightSession, SessionsAreRight, gone_after, leaves, left_by_packet, session_at, sessions_of}
-use Rattle.cf_run.specs.Table.{Begins, Full, Goes, Match, Outside, Session, is_between, match_of, place_of, same_endpoint, without}
-use Rattle.cf_run.specs.Trace.{AreRunEvents, Begun, Dropped, RunEvent, GoesOnAt, NoRoom, NoSession, Received, Receives, ReceivesRecord, Went, after_received, kept, sent, sent_received, stays, table_after, tick_of, ticked, with_event_at, with_events}
+use Rattle.cf_run.specs.Table.{Session, is_between, place_of, same_endpoint, without}
+use Rattle.cf_run.specs.Trace.{AreRunEvents, Begun, RunEvent, GoesOnAt, Received, ReceivesRecord, Went, after_received, kept, sent, sent_received, stays, table_after, tick_of, ticked, with_event_at, with_events}
 use Rattle.cf_session.specs.Event.{IsBeginning}
 use Rattle.cf_session.specs.Sent.{Sent, is_first_half, late, sent_first, sent_second}
 use Rattle.cf_session.specs.Session.{Flow, SessionEvent, client_of, controllers, is_expired}
@@ -22,7 +22,7 @@ use Rattle.cf_view.specs.declared.Side.{Side}
 use Rattle.cf_selfjudged.specs.OneFlow.{packets_of}
 use Rattle.cf_selfjudged.specs.Separate.{is_to_place}
 use Rattle.cf_selfjudged.proofs.Halves.{is_theirs, picked, picked_append, second_picked}
-use Rattle.cf_selfjudged.proofs.Others.{and_left, and_right, number_is}
+use Rattle.cf_selfjudged.proofs.Others.{number_is}
 use Rattle.cf_run.proofs.Matched.{place_by}
 use Rattle.cf_selfjudged.proofs.Places.{one_place}
 use Rattle.cf_selfjudged.proofs.Stepping.{IsReady, all_ready, ticks_told, went_told}
@@ -56,26 +56,19 @@ module _ (assets : List Asset) (client : Endpoint) (place : ℕ) where
   abbrev P : List Sent → List PacketValue
   P all = picked assets client place all
 
-  and_false : (b : Bool) → (b && false) ≡ false
-  and_false true = refl
-  and_false false = refl
-
   -- ---- of theirs there is one pair of endpoints
 
   module _ (f : Flow) (k : ℕ) (there : asset_place assets f.asset.endpoint ≡ Some k) (same : same_endpoint (client_of f) client ≡ true) (here : (k == place) ≡ true) where
     other_place : (x : Endpoint) → same_endpoint x f.asset.endpoint ≡ false → (j : ℕ) → asset_place assets x ≡ Some j → (j == place) ≡ false
-    other_place x apart j at = by (j == place) refl
-      where
-        by : (b : Bool) → (j == place) ≡ b → b ≡ false
-        by true e =
-            let number : j ≡ k = number_is j place e ∙ sym (number_is k place here) in
-            let one : x ≡ f.asset.endpoint = one_place assets x f.asset.endpoint k (at ∙ ap Some number) there in
-            absurd (true≢false (sym (same_self f.asset.endpoint) ∙ ap (λ y. same_endpoint y f.asset.endpoint) (sym one) ∙ apart))
-        by false e = refl
+    other_place x apart j at =
+        false_from_ne_true (j == place) (λ e.
+        let number : j ≡ k = number_is j place e ∙ sym (number_is k place here) in
+        let one : x ≡ f.asset.endpoint = one_place assets x f.asset.endpoint k (at ∙ ap Some number) there in
+        true≢false (sym (same_self f.asset.endpoint) ∙ ap (λ y. same_endpoint y f.asset.endpoint) (sym one) ∙ apart))
 
     apart_by : (s : Session) (o : Option ℕ) → asset_place assets s.flow.asset.endpoint ≡ o → same_endpoint s.flow.asset.endpoint f.asset.endpoint ≡ false → is_to_place client place (client_of s.flow) o ≡ false
     apart_by s None at apart = refl
-    apart_by s (Some j) at apart = ap (λ b. same_endpoint (client_of s.flow) client && b) (other_place s.flow.asset.endpoint apart j at) ∙ and_false _
+    apart_by s (Some j) at apart = ap (λ b. same_endpoint (client_of s.flow) client && b) (other_place s.flow.asset.endpoint apart j at) ∙ and_right (same_endpoint (client_of s.flow) client) false refl
 
     agree_by : (s : Session) (b : Bool) → same_endpoint s.flow.asset.endpoint f.asset.endpoint ≡ b → (same_endpoint (client_of s.flow) (client_of f) && b) ≡ ours s.flow
     agree_by s true e =
@@ -83,11 +76,11 @@ module _ (assets : List Asset) (client : Endpoint) (place : ℕ) where
         let at : asset_place assets s.flow.asset.endpoint ≡ Some k = ap (asset_place assets) one ∙ there in
         ap (λ c. same_endpoint (client_of s.flow) c && true) (same_is (client_of f) client same)
         ∙ ap (λ b. same_endpoint (client_of s.flow) client && b) (sym here) ∙ ap (is_to_place client place (client_of s.flow)) (sym at)
-    agree_by s false e = and_false _ ∙ sym (apart_by s (asset_place assets s.flow.asset.endpoint) refl e)
+    agree_by s false e = and_right _ false refl ∙ sym (apart_by s (asset_place assets s.flow.asset.endpoint) refl e)
 
   ours_by : (f : Flow) (s : Session) (o : Option ℕ) → asset_place assets f.asset.endpoint ≡ o → is_to_place client place (client_of f) o ≡ true → is_between (client_of f) f.asset.endpoint s ≡ ours s.flow
   ours_by f s None at h = absurd (false≢true h)
-  ours_by f s (Some k) at h = agree_by f k at (and_left _ _ h) (and_right (same_endpoint (client_of f) client) _ h) s _ refl
+  ours_by f s (Some k) at h = agree_by f k at ((and_parts _ _ h).0) ((and_parts (same_endpoint (client_of f) client) _ h).1) s _ refl
 
   -- a session that begins is of theirs only where no other one is
   agree : (f : Flow) → ours f ≡ true → (s : Session) → is_between (client_of f) f.asset.endpoint s ≡ ours s.flow
@@ -154,31 +147,18 @@ module _ (assets : List Asset) (client : Endpoint) (place : ℕ) where
   still_told ss = append-nil (told ours ss)
 
   module _ (limit tick : ℕ) where
-    second_by : (table : List Session) (p : PacketValue) (m : Match) (r : Received) → Each (IsReady limit) table → Each (HasOwn assets) table → ((f : Flow) (e : SessionEvent) → r ≡ Begun f e → IsOwn assets f) →
-        count ours table ≤ 1 → Receives limit tick table p m r → told ours table ++ P (sent_received r) ≡ told ours (left_by_packet r table) ++ told ours (after_received r table)
-    second_by table p m Dropped h own new few g = still_told table
-    second_by table p m NoRoom h own new few g = still_told table
-    second_by table p m NoSession h own new few g = still_told table
-    second_by table p (Begins flow) (Begun f e) h own new few g = begun_told f tick e table (new f e refl) (subst (λ x. IsBeginning x tick e) (sym g.0) g.1) few
-    second_by table p Full (Begun f e) h own new few g = absurd g
-    second_by table p (Goes i s) (Begun f e) h own new few g = absurd g
-    second_by table p Outside (Begun f e) h own new few g = absurd g
-    second_by table p (Begins flow) (Went i e) h own new few g = absurd g
-    second_by table p Full (Went i e) h own new few g = absurd g
-    second_by table p (Goes i s) (Went j e) h own new few g = went_parts limit s p e table j h own (subst (λ k. GoesOnAt limit s p e (slice_get table k)) (sym g.0) g.1) few
-    second_by table p Outside (Went i e) h own new few g = absurd g
-
     second_told : (table : List Session) (p : Result PacketValue PacketRefusal) (r : Received) → Each (IsReady limit) table → Each (HasOwn assets) table → ((f : Flow) (e : SessionEvent) → r ≡ Begun f e → IsOwn assets f) →
         count ours table ≤ 1 → ReceivesRecord assets limit tick table p r → told ours table ++ P (sent_received r) ≡ told ours (left_by_packet r table) ++ told ours (after_received r table)
-    second_told table (Err refusal) r h own new few g = subst (λ x. told ours table ++ P (sent_received x) ≡ told ours (left_by_packet x table) ++ told ours (after_received x table)) (sym g) (still_told table)
-    second_told table (Ok p) r h own new few g = second_by table p (match_of assets table p) r h own new few g
+    second_told table p r h own new few g =
+        receives assets limit tick table
+        (λ r. ((f : Flow) (e : SessionEvent) → r ≡ Begun f e → IsOwn assets f) → told ours table ++ P (sent_received r) ≡ told ours (left_by_packet r table) ++ told ours (after_received r table))
+        ((λ new. still_told table), (λ new. still_told table), (λ new. still_told table)) (λ f e b new. begun_told f tick e table (new f e refl) b few)
+        (λ i e s q on new. went_parts limit s q e table i h own on few) p r g new
 
   received_few : (table : List Session) (r : Received) → count ours table ≤ 1 → count ours (after_received r table) ≤ 1
-  received_few table Dropped few = few
-  received_few table NoRoom few = few
-  received_few table NoSession few = few
   received_few table (Begun f e) few = begun_few_by f e table (ours f) refl few
   received_few table (Went i e) few = let same = same_count_at ours i e table in let f = fewer ours stays (with_event_at i e table) in omega (arith, few, same, f)
+  received_few table _ few = few
 
   -- ---- all events
 

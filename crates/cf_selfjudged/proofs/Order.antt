@@ -2,7 +2,7 @@
 use Rattle.std.proofs.Common.{◌≡◌, ◌||◌, ◌&&◌, ◌==◌, ℕ, Bool, true, false, inl, inr, List, [], ◌∷◌, ◌++◌, length, refl, sym, ap, ◌∙◌, subst}
 use Rattle.std.specs.Prelude.{MatchBool, nat_lt}
 use Rattle.std.specs.List.{AllByRecursion}
-use Rattle.std.proofs.lemmas.Bool.{cases_Bool, false≢true, true≢false}
+use Rattle.std.proofs.lemmas.Bool.{cases_Bool, false≢true, or_parts, true≢false}
 use Rattle.cf_leg.specs.Emits.{AllRight, EndsBy, IsGreeting, IsRight, SpeaksOpen, cut_packet, fired_at}
 use Rattle.cf_leg.specs.Event.{Cut, Ending, LegEvent, Spoke, Unspoken, greeted_by, said_by, sent_in}
 use Rattle.cf_leg.specs.Heard.{opened}
@@ -74,15 +74,11 @@ module _ (f : Flow) where
   said_shut es e (Spoke whole roomy outs) h g = speaks_shut (opened (controller_ends f).role (e ∷ es)) es e whole roomy outs h g
   said_shut es e (Cut p) h g = (subst NoAck (sym g.rst) (cut_shut (e ∷ es) _ _ h), tt)
 
-  shut_before : (a b : Bool) → (a || b) ≡ false → a ≡ false
-  shut_before true b h = absurd (true≢false h)
-  shut_before false b h = refl
-
   -- nothing with ACK goes out before the end is open
   shut : (es : List LegEvent) → AllRight (controller_ends f) es → opened (controller_ends f).role es ≡ false → AllByRecursion NoAck (packets_of es)
   shut [] right h = tt
   shut (e ∷ es) right h =
-      let before = shut_before (opened (controller_ends f).role es) _ h in
+      let before = (or_parts (opened (controller_ends f).role es) _ h).0 in
       all_both NoAck (packets_of es) _ (shut es right.1 before)
       (all_both NoAck e.fired _ (subst (AllByRecursion NoAck) (sym right.0.fired) (fired_shut es e right.1 before))
       (all_both NoAck (greeted_by e.came) _ (came_are (controller_ends f) NoAck greets_without es e.came right.0.came) (said_shut es e e.ending h right.0.ending)))

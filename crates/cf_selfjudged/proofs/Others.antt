@@ -1,7 +1,7 @@
 -- A packet leaves the flows of another client or asset as they are.
 use Rattle.std.proofs.Common.{◌≡◌, ◌&&◌, ◌==◌, ℕ, zero, suc, Bool, true, false, List, [], ◌∷◌, ◌++◌, set, slice_get, Option, Some, None, refl, sym, ap, ◌∙◌, subst, arith}
 use Rattle.std.specs.Prelude.{if◌then◌else◌}
-use Rattle.std.proofs.lemmas.Bool.{false≢true}
+use Rattle.std.proofs.lemmas.Bool.{and_parts, false≢true}
 use Rattle.std.proofs.lemmas.Bool.Decides.{nat_tests}
 use Rattle.std.proofs.lemmas.Option.{none-some, same_Some}
 use Rattle.std.proofs.lemmas.List.{append-nil}
@@ -11,14 +11,6 @@ use Rattle.cf_run.specs.Table.{is_opening, same_endpoint}
 use Rattle.cf_watch.specs.Watched.{Watched, begins_anew, begun_by, goes_at, goes_to, is_between, last_place, later_place, with_packet}
 use Rattle.cf_selfjudged.specs.Separate.{pair_of}
 use Rattle.cf_selfjudged.proofs.Separate.{new_mine}
-
-pub and_left : (a b : Bool) → (a && b) ≡ true → a ≡ true
-and_left true b h = refl
-and_left false b h = h
-
-pub and_right : (a b : Bool) → (a && b) ≡ true → b ≡ true
-and_right true b h = h
-and_right false b h = absurd (false≢true h)
 
 pub number_is : (a b : ℕ) → (a == b) ≡ true → a ≡ b
 number_is a b e = grind (arith, nat_tests, e)
@@ -39,10 +31,10 @@ module _ (number asset other : ℕ) (p : PacketValue) (client : Endpoint) (apart
   -- no flow is of both
   not_theirs : (f : Watched) → Mine f ≡ true → Theirs f ≡ false
   not_theirs f h =
-      let ends = and_left (same_endpoint f.client p.source) (f.asset == asset) h in
-      let a = number_is f.client.address p.source.address (and_left (f.client.address == p.source.address) _ ends) in
-      let b = number_is f.client.port p.source.port (and_right (f.client.address == p.source.address) _ ends) in
-      let c = number_is f.asset asset (and_right (same_endpoint f.client p.source) _ h) in
+      let ends = (and_parts (same_endpoint f.client p.source) (f.asset == asset) h).0 in
+      let a = number_is f.client.address p.source.address ((and_parts (f.client.address == p.source.address) _ ends).0) in
+      let b = number_is f.client.port p.source.port ((and_parts (f.client.address == p.source.address) _ ends).1) in
+      let c = number_is f.asset asset ((and_parts (same_endpoint f.client p.source) _ h).1) in
       ap (λ n. ((n == client.address) && (f.client.port == client.port)) && (f.asset == other)) a
       ∙ ap (λ n. ((p.source.address == client.address) && (n == client.port)) && (f.asset == other)) b
       ∙ ap (λ n. ((p.source.address == client.address) && (p.source.port == client.port)) && (n == other)) c

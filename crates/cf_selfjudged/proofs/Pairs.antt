@@ -1,7 +1,7 @@
 -- The flows of a client and an asset, session by session.
 use Rattle.std.proofs.Common.{None, ◌≡◌, ◌&&◌, ◌||◌, ◌==◌, ℕ, Bool, true, false, not, inl, inr, List, [], ◌∷◌, map, refl, sym, ap, ◌∙◌, subst, arith}
 use Rattle.std.specs.List.{AllByRecursion}
-use Rattle.std.proofs.lemmas.Bool.{cases_Bool, false≢true, true≢false}
+use Rattle.std.proofs.lemmas.Bool.{and_parts, cases_Bool, not-false, not-true, or_parts}
 use Rattle.std.proofs.lemmas.Bool.Decides.{nat_tests}
 use Rattle.cf_leg.specs.Emits.{syn}
 use Rattle.cf_leg.specs.Segment.{has_ack, has_syn}
@@ -13,7 +13,7 @@ use Rattle.cf_run.specs.Table.{is_opening}
 use Rattle.cf_watch.specs.Watched.{Watched, begins_anew, carried_by, with_packet}
 use Rattle.cf_selfjudged.specs.OneFlow.{Numbered, carried_on}
 use Rattle.cf_selfjudged.specs.Order.{SynsFirst}
-use Rattle.cf_selfjudged.proofs.Others.{and_left, and_right, number_is}
+use Rattle.cf_selfjudged.proofs.Others.{number_is}
 use Rattle.cf_selfjudged.specs.PairFlows.{GoesTo, IsOfSession, IsSpoken, Spoken, pair_on, pairs_on, sessions_on}
 
 abbrev AreSilent : List Carried → Type 0
@@ -23,19 +23,8 @@ AreSilent cs = AllByRecursion (λ c. letter_count c.text ≡ 0) cs
 abbrev IsQuiet : Watched → Type 0
 IsQuiet f = f.answered ≡ false → AreSilent f.carried
 
-or_left : (a b : Bool) → (a || b) ≡ false → a ≡ false
-or_left true b h = absurd (true≢false h)
-or_left false b h = refl
-
-or_right : (a b : Bool) → (a || b) ≡ false → b ≡ false
-or_right true b h = absurd (true≢false h)
-or_right false b h = h
-
 quiet_on : (number : ℕ) (p : PacketValue) (flow : Flow) (f : Watched) → GoesTo flow p → IsQuiet f → IsQuiet (with_packet number p f)
-quiet_on number p flow f g q h = (
-  g.answers (or_right f.answered (has_ack p) h),
-  q (or_left f.answered (has_ack p) h),
-)
+quiet_on number p flow f g q h = let parts = or_parts f.answered (has_ack p) h in (g.answers parts.1, q parts.0)
 
 -- ---- a packet of the session that has the flow goes on with it
 
@@ -43,9 +32,8 @@ same_number : (a b : ℕ) → a ≡ b → (a == b) ≡ true
 same_number a b e = grind (arith, nat_tests, e)
 
 anew_by : (has rest same answered : Bool) → (has ≡ true → (same ≡ true) × (answered ≡ false)) → ((has && rest) && not (same && not answered)) ≡ false
-anew_by false rest same answered h = refl
-anew_by true false same answered h = refl
 anew_by true true same answered h = let x = h refl in rw (x.0, x.1) refl
+anew_by _ _ same answered h = refl
 
 goes_on : (flow : Flow) (p : PacketValue) (f : Watched) → GoesTo flow p → f.origin ≡ flow.syn.seq → (has_syn p ≡ true → f.answered ≡ false) → begins_anew p f ≡ false
 goes_on flow p f g origin first =
@@ -91,14 +79,6 @@ record Begins (asset : ℕ) (flow : Flow) (n : Numbered) (fs : List Watched) (P 
   silent : AreSilent from.carried
   others : AllByRecursion P older
 
-not_true : (a : Bool) → not a ≡ true → a ≡ false
-not_true true h = absurd (false≢true h)
-not_true false h = refl
-
-not_false : (a : Bool) → not a ≡ false → a ≡ true
-not_false true h = refl
-not_false false h = absurd (true≢false h)
-
 abbrev HeadIsQuiet : List Watched → Type 0
 HeadIsQuiet [] = Unit {0}
 HeadIsQuiet (f ∷ fs) = IsQuiet f
@@ -116,13 +96,13 @@ begins asset flow n (f ∷ fs) P e q h =
     elim (cases_Bool (begins_anew n.packet f)) [
       | inl anew ↦ record { from = fresh asset n.packet; older = f ∷ fs; are = rw anew refl; origin = number; unanswered = refl; silent = tt; others = h }
       | inr on ↦
-          let same : ((n.packet.seq == f.origin) && not f.answered) ≡ true = not_false _ (sym (ap (λ b. b && not ((n.packet.seq == f.origin) && not f.answered)) o) ∙ on) in
-          let quiet : f.answered ≡ false = not_true f.answered (and_right (n.packet.seq == f.origin) _ same) in
+          let same : ((n.packet.seq == f.origin) && not f.answered) ≡ true = not-false _ (sym (ap (λ b. b && not ((n.packet.seq == f.origin) && not f.answered)) o) ∙ on) in
+          let quiet : f.answered ≡ false = not-true f.answered ((and_parts (n.packet.seq == f.origin) _ same).1) in
           record {
             from = f;
             older = fs;
             are = rw on refl;
-            origin = sym (number_is n.packet.seq f.origin (and_left (n.packet.seq == f.origin) _ same)) ∙ number;
+            origin = sym (number_is n.packet.seq f.origin ((and_parts (n.packet.seq == f.origin) _ same).0)) ∙ number;
             unanswered = quiet;
             silent = q quiet;
             others = h.1;

@@ -1,11 +1,10 @@
 -- The place of an asset among the assets of a policy, and the asset that is found at an endpoint.
-use Rattle.std.proofs.Common.{◌≡◌, ℕ, suc, ◌+◌, nat_lt, inl, inr, Bool, true, false, List, [], ◌∷◌, length, cond, Option, Some, None, option_map, refl, sym, ap, ◌∙◌, subst, arith}
-use Rattle.std.specs.Prelude.{position, slice_get}
-use Rattle.std.specs.List.{position_or_len}
-use Rattle.std.proofs.lemmas.Bool.{cases_Bool, true≢false}
-use Rattle.std.proofs.lemmas.Bool.Decides.{nat_tests}
+use Rattle.std.proofs.Common.{◌≡◌, ℕ, suc, Bool, true, false, List, [], ◌∷◌, cond, Option, Some, None, option_map, refl, sym, ap, ◌∙◌, subst}
+use Rattle.std.specs.Prelude.{slice_get}
+use Rattle.std.proofs.lemmas.Bool.{true≢false}
 use Rattle.std.proofs.lemmas.Option.{none-some, same_Some}
-use Rattle.cf_isolation.proofs.Tables.{found_there}
+use Rattle.cf_isolation.proofs.Tables.{same_is}
+use Rattle.cf_policy.proofs.FirstPlace.{first_at}
 use Rattle.cf_run.proofs.Matched.{place_by}
 use Rattle.cf_policy.specs.declared.Asset.{Asset}
 use Rattle.cf_run.specs.Entries.{asset_place}
@@ -35,21 +34,9 @@ no_place [] e h = refl
 no_place (a ∷ assets) e h = none_by assets a e _ (no_place assets e) refl h
 
 -- one place is that of one endpoint
-at_place : (assets : List Asset) (e : Endpoint) (k : ℕ) → asset_place assets e ≡ Some k → (a : Asset) → slice_get assets k ≡ Some a → a.endpoint ≡ e
-at_place assets e k h a is = found_there assets e a (sym (place_has assets e k h) ∙ is)
-
-inside_by : (assets : List Asset) (a : Asset) (e : Endpoint) (k : ℕ) (b : Bool) (o : Option ℕ) → ((i : ℕ) → o ≡ Some i → (x : Asset) × (slice_get assets i ≡ Some x)) →
-    cond b (Some 0) (option_map suc o) ≡ Some k → (x : Asset) × (slice_get (a ∷ assets) k ≡ Some x)
-inside_by assets a e k true o more g = (a, subst (λ n. slice_get (a ∷ assets) n ≡ Some a) (same_Some 0 k g) refl)
-inside_by assets a e k false None more g = absurd (none-some k g)
-inside_by assets a e k false (Some i) more g = let x = more i refl in (x.0, subst (λ n. slice_get (a ∷ assets) n ≡ Some x.0) (same_Some (suc i) k g) x.1)
-
-some_place : (assets : List Asset) (e : Endpoint) (k : ℕ) → asset_place assets e ≡ Some k → (x : Asset) × (slice_get assets k ≡ Some x)
-some_place [] e k h = cc
-some_place (a ∷ assets) e k h =
-    inside_by assets a e k (same_endpoint a.endpoint e) (asset_place assets e) (some_place assets e) (sym (place_by (λ (x : Asset). same_endpoint x.endpoint e) a assets _ refl) ∙ h)
-
 pub one_place : (assets : List Asset) (x y : Endpoint) (k : ℕ) → asset_place assets x ≡ Some k → asset_place assets y ≡ Some k → x ≡ y
 one_place assets x y k h g =
-    let a = some_place assets x k h in
-    sym (at_place assets x k h a.0 a.1) ∙ at_place assets y k g a.0 a.1
+    let a = first_at (λ (s : Asset). same_endpoint s.endpoint x) assets k h in
+    let b = first_at (λ (s : Asset). same_endpoint s.endpoint y) assets k g in
+    let same : a.0 ≡ b.0 = (let here = a.1.here in let there = b.1.here in cc) in
+    sym (same_is a.0.endpoint x a.1.passes) ∙ ap (λ (s : Asset). s.endpoint) same ∙ same_is b.0.endpoint y b.1.passes

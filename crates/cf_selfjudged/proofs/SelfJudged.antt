@@ -1,8 +1,7 @@
 -- The flows of a run's output capture have no objection.
-use Rattle.std.proofs.Common.{◌≡◌, ℕ, ◌+◌, ◌≤◌, ◌^◌, ◌==◌, Bool, true, false, List, [], ◌∷◌, ◌++◌, cond, if◌then◌else◌, map, slice_get, Some, None, option_map, Result, Ok, refl, sym, ap, ◌∙◌, subst, arith}
+use Rattle.std.proofs.Common.{◌≡◌, ℕ, ◌+◌, ◌≤◌, ◌^◌, Bool, true, false, List, [], ◌∷◌, ◌++◌, cond, if◌then◌else◌, map, slice_get, Some, None, option_map, refl, sym, ap, ◌∙◌, subst, arith}
 use Rattle.std.specs.Prelude.{drop, filter, length, reverse}
 use Rattle.std.specs.List.{AllByRecursion}
-use Rattle.std.proofs.lemmas.Bool.Decides.{nat_tests}
 use Rattle.cf_isolation.proofs.Lists.{all_front, all_map}
 use Rattle.cf_judge.specs.Objections.{AreReadBy, IsReadBy, Reading, first_wrong, objected, objection_of, objection_to, sooner, wrong_by}
 use Rattle.cf_judge.specs.Plain.{AreRead, Whole}
@@ -10,12 +9,10 @@ use Rattle.cf_packet.specs.Packet.{PacketValue}
 use Rattle.cf_policy.specs.declared.Asset.{Asset}
 use Rattle.cf_readback.specs.ReadBack.{ReadsAs, RunsAreReadBack, output_form, record_by}
 use Rattle.cf_run.specs.Capture.{AreRecords, FileEnd, LastPlace}
-use Rattle.cf_run.specs.Form.{first_place, form_of}
-use Rattle.cf_run.specs.declared.FormRefusal.{FormRefusal}
+use Rattle.cf_run.specs.Form.{first_place}
 use Rattle.cf_run.specs.Records.{HaveOneList}
 use Rattle.cf_run.specs.Sessions.{SessionsAreRight, sessions_of}
 use Rattle.cf_run.specs.Trace.{AreRunEvents, RunEvent, sent}
-use Rattle.cf_run.specs.declared.Form.{Form}
 use Rattle.cf_session.specs.Sent.{Sent}
 use Rattle.cf_session.specs.Session.{Flow, client_of}
 use Rattle.cf_unobjected.specs.OneReading.{ReadingsAreOne}
@@ -33,11 +30,9 @@ use Rattle.cf_selfjudged.proofs.Built.{IsTheirs, build, sessions_found}
 use Rattle.cf_selfjudged.proofs.Halves.{packets}
 use Rattle.cf_selfjudged.proofs.Onward.{onward}
 use Rattle.cf_selfjudged.proofs.Pairs.{all_of}
+use Rattle.cf_selfjudged.proofs.Separate.{self_number}
 
 -- ---- each flow of a list is one of its own pair
-
-self_number : (n : ℕ) → (n == n) ≡ true
-self_number n = grind (arith, nat_tests)
 
 self_between : (w : Watched) → is_between w.client w.asset w ≡ true
 self_between w = rw (self_number w.client.address, self_number w.client.port, self_number w.asset) refl
@@ -123,9 +118,6 @@ module _ (readings_one : ReadingsAreOne) (assets : List Asset) where
 
 -- ---- the file
 
-form_is : (x : Result Form FormRefusal) (a b : Form) → x ≡ Ok a → x ≡ Ok b → a ≡ b
-form_is x a b h g = cc
-
 pub self_judged : OneFlowIsUnobjected → SessionsSpeak → SessionsAreRight → FlowsAreOfTheirPackets → WatchedAreHeard → ReadingsAreOne → RunsAreReadBack → HaveOneList → RunsAreUnobjected
 self_judged one speaks law theirs heard readings_one back one_list assets limit given out log summary run small time newest has flows of_records j judgement =
     let all = sent run.events in
@@ -142,7 +134,7 @@ watched_judged back law assets limit given out log summary run small moments oct
     let ends = watches.ends in
     let few : length out ≤ 2 ^ 40 = (let short = ends.short in omega (arith, short)) in
     let reads = back assets limit given out log summary run moments octets few in
-    let same : ends.form ≡ output_form = form_is (form_of out) ends.form output_form ends.has_form reads.has_form in
+    let same : ends.form ≡ output_form = (let one = ends.has_form in let other = reads.has_form in cc) in
     let last : LastPlace = record { place = watches.place; found = FileEnd } in
     let are : AreRecords output_form 24 (drop 24 out) ends.records last = subst (λ f. AreRecords f (first_place f) (drop (first_place f) out) ends.records last) same ends.are_records in
     law assets limit given out log summary run small (record { moments = moments; octets = octets; size = few }) watches.newest

@@ -10,7 +10,7 @@ use Rattle.cf_watch.specs.Watched.{Watched, begins_anew, begun_by, goes_at, goes
 use Rattle.cf_selfjudged.specs.PairFlows.{pair_on}
 use Rattle.cf_selfjudged.specs.Separate.{pair_of}
 
-self_number : (n : ℕ) → (n == n) ≡ true
+pub self_number : (n : ℕ) → (n == n) ≡ true
 self_number n = grind (arith, nat_tests)
 
 module _ (number asset : ℕ) (p : PacketValue) where

@@ -5,16 +5,18 @@ use Rattle.std.specs.List.{flat_map}
 use Rattle.std.proofs.lemmas.Bool.{false≢true}
 use Rattle.std.proofs.lemmas.List.{append-nil}
 use Rattle.cf_audit.specs.declared.CutReason.{CutReason}
+use Rattle.cf_isolation.proofs.Packets.{right_events}
 use Rattle.cf_isolation.proofs.Tables.{HasOwn, IsOwn}
+use Rattle.cf_isolation.proofs.Turns.{uncut}
 use Rattle.cf_leg.specs.Emits.{fired_at}
 use Rattle.cf_leg.specs.Event.{Came, Ending, LegEvent, greeted_by, is_idle, said_by, sent_in}
 use Rattle.cf_leg.specs.declared.Ends.{Ends}
 use Rattle.cf_packet.specs.Packet.{PacketValue}
 use Rattle.cf_policy.specs.declared.Asset.{Asset}
 use Rattle.cf_readback.proofs.Legs.{legs_right}
-use Rattle.cf_run.specs.Sessions.{Each, HasEvents, HasRightEvents as IsRightSession}
+use Rattle.cf_run.specs.Sessions.{Each, HasRightEvents as IsRightSession}
 use Rattle.cf_run.specs.Table.{Session}
-use Rattle.cf_run.specs.Trace.{AreTicks, GoesOnAt, GoesOnWith, ends_cut, is_cut, replaced, stays, with_event_at, with_events}
+use Rattle.cf_run.specs.Trace.{AreTicks, GoesOnAt, GoesOnWith, ends_cut, replaced, stays, with_event_at, with_events}
 use Rattle.cf_session.specs.Event.{AreEvents as AreSessionEvents, EndsTick, IsPacket, IsTick}
 use Rattle.cf_session.specs.Sent.{early, is_first_half, late, sent_first, sent_second}
 use Rattle.cf_session.specs.Session.{Flow, SessionEvent, controller_ends, controllers}
@@ -73,10 +75,6 @@ IsHalf limit s = HasHalf limit s.flow s.events
 abbrev pub IsReady : ℕ → Session → Type 0
 IsReady limit s = IsHalf limit s × (stays s ≡ true)
 
-right_events : (limit : ℕ) (f : Flow) (es : List SessionEvent) → HasEvents limit f es → AreSessionEvents f limit es
-right_events limit f [] h = absurd h
-right_events limit f (e ∷ es) h = h.0
-
 halves : (limit tick : ℕ) (ss : List Session) (ts : List SessionEvent) → Each (IsRightSession limit) ss → AreTicks tick ss ts → Each (IsHalf limit) (with_events ss ts)
 halves limit tick [] ts h are = tt
 halves limit tick (s ∷ ss) [] h are = absurd are
@@ -92,10 +90,6 @@ kept_ready limit (s ∷ ss) h = by (stays s) refl (kept_ready limit ss h.1)
 
 pub all_ready : (limit tick : ℕ) (ss : List Session) (ts : List SessionEvent) → Each (IsRightSession limit) ss → AreTicks tick ss ts → Each (IsReady limit) (filter stays (with_events ss ts))
 all_ready limit tick ss ts h are = kept_ready limit (with_events ss ts) (halves limit tick ss ts h are)
-
-uncut_by : (c : Option CutReason) → not (is_cut c) ≡ true → c ≡ None
-uncut_by None e = refl
-uncut_by (Some because) e = absurd (false≢true e)
 
 alone_by : (b : Bool) (n : ℕ) → cond b 1 0 + n ≤ 1 → b ≡ true → n ≡ 0
 alone_by true n h e = omega (arith, h)
@@ -145,7 +139,7 @@ module _ (assets : List Asset) (client : Endpoint) (place : ℕ) where
   one_went limit s p e f (half ∷ es) ys own h stay g alone =
       ap (λ ps. (cond (ours f) (packets_of (controllers (half ∷ es))) [] ++ ys) ++ ps) (second_picked assets client place f own es e (legs_right f limit es h.2) g.right)
       ∙ went_by (ours f) (packets_of (controllers (half ∷ es))) ys (late (is_first_half e) e.controller) (packets_of (controllers (e ∷ es))) alone
-      (goes_on f limit h.0 es half s p e h.1 (uncut_by half.cut stay) g)
+      (goes_on f limit h.0 es half s p e h.1 (uncut half.cut stay) g)
 
   pub went_told : (limit : ℕ) (from : Side) (p : PacketValue) (e : SessionEvent) (ss : List Session) (i : ℕ) → Each (IsReady limit) ss → Each (HasOwn assets) ss → GoesOnAt limit from p e (slice_get ss i) → count ours ss ≤ 1 →
       told ours ss ++ picked assets client place (sent_second e) ≡ told ours (with_event_at i e ss)

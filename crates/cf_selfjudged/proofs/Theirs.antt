@@ -95,9 +95,8 @@ module _ (theirs : Flow → Bool) where
   fewer_out (s ∷ ss) (suc i) = let more = fewer_out ss i in omega (arith, more)
 
   pub same_count : (ss : List Session) (ts : List SessionEvent) → count (with_events ss ts) ≡ count ss
-  same_count [] ts = refl
-  same_count (s ∷ ss) [] = refl
   same_count (s ∷ ss) (t ∷ ts) = ap (λ n. cond (theirs s.flow) 1 0 + n) (same_count ss ts)
+  same_count _ _ = refl
 
   pub same_count_at : (i : ℕ) (e : SessionEvent) (ss : List Session) → count (with_event_at i e ss) ≡ count ss
   same_count_at zero e [] = refl

@@ -15,15 +15,13 @@ use Rattle.cf_readback.proofs.Writing.{Sends, all_both, sends_all}
 
 pub no_syn : (a b : Bool) → ((16 + (if a then 0 else 8) + (if b then 1 else 0)) / 2 % 2 == 1) ≡ false
 no_syn true true = refl
-no_syn true false = refl
 no_syn false true = refl
-no_syn false false = refl
+no_syn _ _ = refl
 
 some_ack : (a b : Bool) → ((16 + (if a then 0 else 8) + (if b then 1 else 0)) / 16 % 2 == 1) ≡ true
 some_ack true true = refl
-some_ack true false = refl
 some_ack false true = refl
-some_ack false false = refl
+some_ack _ _ = refl
 
 segment_goes : (f : Flow) (es : List LegEvent) (t : Advertised) (n : ℕ) (s : Stream) → GoesTo f (segment (way_of (controller_ends f) es) t n s)
 segment_goes f es t n s = record {
