@@ -79,10 +79,6 @@ cover_has p earlier rule (One number) h = λ client act low of has.
     list_any_at (λ r. has_act r client act) earlier number rule h.0 (grind arith)
 cover_has p earlier rule Several h = h
 
--- a rule that was read at a number is the one that stands there
-pub read_is : (rules read : List Rule) (n : ℕ) (q : Rule) → read ≡ rules → q ≡ get_or read n q → q ≡ get_or rules n q
-read_is rules read n q lent is = is ∙ ap (λ xs. get_or xs n q) lent
-
 kind_high : (ks : List Kind) (act : Act) (high : ℤ) → list_all (λ k. int_le k.points.high high) ks ≡ true → list_any (is_of_kind act) ks ≡ true
     → pos act.point ≤ℤ high
 kind_high [] act high all some = grind arith

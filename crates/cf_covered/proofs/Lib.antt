@@ -1,5 +1,6 @@
 mod Commands
 mod Inclusion
 mod LowCodes
+mod OutlineLooks
 mod RegionActs
 mod SpanLists

@@ -42,14 +42,15 @@ fn any_overlap(a: &[Span], b: &[Span]) -> bool
     a.iter().any(|span| some_overlap(b, span))
 }
 
-fn some_overlap(spans: &[Span], span: &Span) -> bool
+/// Whether one of some spans has a number in common with a span.
+pub fn some_overlap(spans: &[Span], span: &Span) -> bool
     ensures { result ≡ some_overlap spans.now span.now }
 {
     spans.iter().any(|stated| overlap(stated, span))
 }
 
 /// Whether two spans have a number in common.
-fn overlap(a: &Span, b: &Span) -> bool
+pub(crate) fn overlap(a: &Span, b: &Span) -> bool
     ensures { result ≡ overlap a.now b.now }
 {
     a.low <= b.high && b.low <= a.high

@@ -7,6 +7,7 @@ mod answer;
 mod codes;
 mod common;
 mod including;
+mod outline;
 mod points;
 mod regions;
 mod search;
@@ -15,7 +16,8 @@ mod spans;
 
 pub use answer::{Cover, cover_of};
 pub use codes::code_end;
-pub use common::have_common;
+pub use common::{have_common, some_overlap};
 pub use including::covering;
+pub use outline::{Outline, outlines};
 pub use points::highest_point;
 pub use slips::{Slip, likely_slip};

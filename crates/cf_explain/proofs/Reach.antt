@@ -14,13 +14,14 @@ use Rattle.cf_acts.specs.declared.Groups.{Groups}
 use Rattle.cf_acts.specs.declared.Groups.TheVariants as groups
 use Rattle.cf_acts.specs.declared.Kind.{Kind}
 use Rattle.cf_acts.specs.Acts.{between, has_group, has_value, is_of_kind, kinds}
-use Rattle.cf_explain.specs.Meets.{overlaps, reaches, reaches_groups, reaches_values, meets}
+use Rattle.cf_covered.specs.Common.{overlap}
+use Rattle.cf_explain.specs.Meets.{reaches, reaches_groups, reaches_values, meets}
 use Rattle.cf_explain.specs.Rules.{NeverHas}
 use Rattle.cf_acts.proofs.OfCommands.{command_acts_in}
 
 -- a number in both
-overlap : (s t : Span) (n : ℤ) → covers s n ≡ true → covers t n ≡ true → overlaps s t ≡ true
-overlap s t n a b =
+met : (s t : Span) (n : ℤ) → covers s n ≡ true → covers t n ≡ true → overlap s t ≡ true
+met s t n a b =
     let first = and_parts (int_le s.low n) (int_le n s.high) a in
     let second = and_parts (int_le t.low n) (int_le n t.high) b in
     and_from (int_le s.low t.high) (int_le t.low s.high) (grind (arith, ints, first.0, second.1)) (grind (arith, ints, first.1, second.0))
@@ -29,7 +30,7 @@ reach : (spans : List Span) (t : Span) (n : ℤ) → takes spans n ≡ true → 
 reach [] t n a b = refl
 reach (s ∷ ss) t n a b =
     let found = Any-from_list_any (λ x. covers x n) (s ∷ ss) a in
-    list_any-from_Any (λ x. overlaps x t) (s ∷ ss) (found.0, found.1, found.2, found.3, overlap found.1 t n found.4 b)
+    list_any-from_Any (λ x. overlap x t) (s ∷ ss) (found.0, found.1, found.2, found.3, met found.1 t n found.4 b)
 
 reach_groups : (spans : List Span) (g : Groups) (n : ℤ) → takes spans n ≡ true → has_group g n ≡ true → reaches_groups spans g ≡ true
 reach_groups spans (groups.Span s) n a b = reach spans s n a b

@@ -14,7 +14,8 @@ use Rattle.cf_policy.specs.declared.policy.Span.{Span}
 use Rattle.cf_acts.specs.Acts.{between, kind, kinds, modbus_kind, up_to}
 use Rattle.cf_acts.specs.declared.Groups.TheVariants as groups
 use Rattle.cf_acts.specs.declared.Kind.{Kind}
-use Rattle.cf_explain.specs.Meets.{meets, overlaps, reaches, reaches_groups, reaches_values}
+use Rattle.cf_covered.specs.Common.{overlap}
+use Rattle.cf_explain.specs.Meets.{meets, reaches, reaches_groups, reaches_values}
 use Rattle.cf_explain.specs.Reads.{HasSomeRead, NamesReads}
 use Rattle.cf_explain.specs.Rules.{IsSound}
 
@@ -38,7 +39,7 @@ some_number (s ∷ ss) high w =
 some_place : (spans : List Span) (high : ℤ) → AreSpansWithin (pos 0) high spans → reaches spans (up_to 65535) ≡ true → (n : ℕ) × (takes spans (pos n) ≡ true) × (n < 65536)
 some_place [] high w h = (0, refl, omega arith)
 some_place (s ∷ ss) high w h =
-    let found = Any-from_list_any (λ t. overlaps t (up_to 65535)) (s ∷ ss) h in
+    let found = Any-from_list_any (λ t. overlap t (up_to 65535)) (s ∷ ss) h in
     let here = subst (IsSpanWithin (pos 0) high) found.3 (All-get_or (IsSpanWithin (pos 0) high) (s ∷ ss) found.0 found.1 found.2 w.each) in
     let low = natural found.1.low here.above in
     let ends = and_parts (int_le found.1.low (pos 65535)) (int_le (pos 0) found.1.high) found.4 in

@@ -1,6 +1,5 @@
 -- Beside the proof: whether the lists of a rule have a number of a kind of acts each: `meets`. Warnings go by it.
-use Rattle.std.specs.Prelude.{int_le, Bool, ◌&&◌, ◌||◌, List, Option, Some, None}
-use Rattle.std.specs.List.{list_any}
+use Rattle.std.specs.Prelude.{Bool, ◌&&◌, ◌||◌, List, Option, Some, None}
 use Rattle.cf_policy.specs.declared.policy.Span.{Span}
 use Rattle.cf_policy.specs.declared.policy.Rule.{Rule}
 use Rattle.cf_policy.specs.Verdict.{is_empty}
@@ -8,14 +7,11 @@ use Rattle.cf_acts.specs.declared.Groups.{Groups}
 use Rattle.cf_acts.specs.declared.Groups.TheVariants as groups
 use Rattle.cf_acts.specs.declared.Kind.{Kind}
 use Rattle.cf_acts.specs.Acts.{between}
-
--- the spans have a number in common
-abbrev pub overlaps : Span → Span → Bool
-overlaps a b = int_le a.low b.high && int_le b.low a.high
+use Rattle.cf_covered.specs.Common.{some_overlap}
 
 -- a list that is stated has a number of the span, and one that is not stated has every number
 abbrev pub reaches : List Span → Span → Bool
-reaches spans s = is_empty spans || list_any (λ t. overlaps t s) spans
+reaches spans s = is_empty spans || some_overlap spans s
 
 -- a list of groups has one of these
 abbrev pub reaches_groups : List Span → Groups → Bool

@@ -10,10 +10,11 @@ ghost use Rattle.cf_explain.specs.Meets.{meets};
 ghost use Rattle.cf_policy.specs.Within.{IsRuleWithin};
 ghost use Rattle.cf_explain.specs.Reads.{HasReads, HasSomeRead, NamesReads};
 ghost use Rattle.cf_covered.specs.Including.{first_including};
+ghost use Rattle.cf_covered.specs.Outlines.{HasHull, rules_of};
 ghost use Rattle.cf_explain.specs.Rules.{Holds, IsMet, IsSound, NeverHas, NeverMeets, WantsValue, listed};
 
 use crate::unmet::{Unmet, why_unmet};
-use cf_covered::{code_end, covering};
+use cf_covered::{Outline, code_end, covering};
 use cf_policy::{Asset, Protocol, Rule, takes};
 use std::alloc::{AllocError, Global};
 
@@ -35,8 +36,15 @@ pub enum What {
 
 /// What is found of the rule of a number, from 0: that no command meets it, and nothing else; or for each of its codes that no
 /// command brings, that it wants values where reads have none, and that an earlier rule covers it.
-pub fn findings(alloc: Global, asset: &Asset, number: usize) -> Result<Vec<What>, AllocError>
-    requires { number < length asset.now.rules }
+pub fn findings(
+    alloc: Global,
+    asset: &Asset,
+    outlines: &[Outline<'_>],
+    number: usize,
+) -> Result<Vec<What>, AllocError>
+    requires inside { number < length asset.now.rules }
+    requires rules { rules_of outlines.now ≡ asset.now.rules }
+    requires hulls { All HasHull outlines.now }
     ensures so { (rule : Rule) → slice_get asset.now.rules number ≡ Some rule
         → IfOk result (λ found. All (Holds asset.now number rule) found.items) }
     ensures nothing { (rule : Rule) → slice_get asset.now.rules number ≡ Some rule
@@ -45,7 +53,7 @@ pub fn findings(alloc: Global, asset: &Asset, number: usize) -> Result<Vec<What>
     let rule = &asset.rules.as_slice()[number];
     match whole_finding(asset.protocol, rule) {
         Some(what) => Ok(vec![in alloc; what]?),
-        None => partial_findings(alloc, asset, number, rule),
+        None => partial_findings(alloc, asset, outlines, number, rule),
     }
 }
 
@@ -73,17 +81,20 @@ fn whole_finding(protocol: Protocol, rule: &Rule) -> Option<What>
 fn partial_findings(
     alloc: Global,
     asset: &Asset,
+    outlines: &[Outline<'_>],
     number: usize,
     rule: &Rule,
 ) -> Result<Vec<What>, AllocError>
     requires inside { number < length asset.now.rules }
+    requires rules { rules_of outlines.now ≡ asset.now.rules }
+    requires hulls { All HasHull outlines.now }
     requires rule { slice_get asset.now.rules number ≡ Some rule.now }
     ensures so { IfOk result (λ found. All (Holds asset.now number rule.now) found.items) }
     ensures nothing { IfOk result (λ found. found.items ≡ [] → IsSound asset.now number rule.now) }
 {
     let mut found = code_findings(alloc, asset, number, rule)?;
     put(&mut found, reads_finding(asset.protocol, rule))?;
-    put(&mut found, covered_finding(asset, number))?;
+    put(&mut found, covered_finding(outlines, number))?;
     Ok(found)
 }
 
@@ -98,13 +109,15 @@ fn put(found: &mut Vec<What>, what: Option<What>) -> Result<(), AllocError>
 }
 
 /// That an earlier rule covers the rule of a number.
-fn covered_finding(asset: &Asset, number: usize) -> Option<What>
-    requires { number < length asset.now.rules }
-    ensures so { IfSome result (λ what. (rule : Rule) → Holds asset.now number rule what) }
-    ensures none { (rule : Rule) → slice_get asset.now.rules number ≡ Some rule → is_none result ≡ true
-        → first_including asset.now.rules number rule ≡ None }
+fn covered_finding(outlines: &[Outline<'_>], number: usize) -> Option<What>
+    requires inside { number < length outlines.now }
+    requires hulls { All HasHull outlines.now }
+    ensures so { IfSome result (λ what. (asset : Asset) (rule : Rule) → rules_of outlines.now ≡ asset.rules
+        → Holds asset number rule what) }
+    ensures none { (rule : Rule) → slice_get (rules_of outlines.now) number ≡ Some rule → is_none result ≡ true
+        → first_including (rules_of outlines.now) number rule ≡ None }
 {
-    let earlier = covering(asset.rules.as_slice(), number)?;
+    let earlier = covering(outlines, number)?;
     Some(What::Covered(earlier))
 }
 

@@ -1,8 +1,11 @@
 //! What is warned of rules.
-ghost use Rattle.std.specs.Prelude.{◌<◌, length};
+ghost use Rattle.std.specs.Prelude.{◌≡◌, ◌<◌, All, length};
+ghost use Rattle.cf_covered.specs.Outlines.{HasHull, rules_of};
 
 use crate::found::{What, findings};
-use cf_covered::{Cover, Slip, code_end, cover_of, have_common, highest_point, likely_slip};
+use cf_covered::{
+    Cover, Outline, Slip, code_end, cover_of, have_common, highest_point, likely_slip, outlines,
+};
 use cf_policy::{Action, Asset, Policy, Rule, takes};
 use std::alloc::{AllocError, Global};
 
@@ -57,9 +60,10 @@ fn gather_asset(
     number: usize,
     asset: &Asset,
 ) -> Result<(), AllocError> {
+    let outlines = outlines(alloc, asset.rules.as_slice())?;
     for rule in 0..asset.rules.len() {
-        let found = findings(alloc, asset, rule)?;
-        let others = beside(alloc, asset, rule, found.as_slice())?;
+        let found = findings(alloc, asset, outlines.as_slice(), rule)?;
+        let others = beside(alloc, asset, outlines.as_slice(), rule, found.as_slice())?;
         for what in found.as_slice() {
             put(all, number, rule, Some(Warning::Found(*what)))?;
         }
@@ -86,16 +90,19 @@ fn put(
 fn beside(
     alloc: Global,
     asset: &Asset,
+    outlines: &[Outline<'_>],
     number: usize,
     found: &[What],
 ) -> Result<[Option<Warning>; 3], AllocError>
-    requires { number < length asset.now.rules }
+    requires inside { number < length asset.now.rules }
+    requires rules { rules_of outlines.now ≡ asset.now.rules }
+    requires hulls { All HasHull outlines.now }
 {
     if found.iter().any(|what| is_whole(*what)) {
         return Ok([None, None, None]);
     }
     let rule = &asset.rules.as_slice()[number];
-    let behind = cover_of(alloc, asset, number)?;
+    let behind = cover_of(alloc, asset, outlines, number)?;
     Ok([
         behind.map(Warning::Behind),
         points_told(asset, rule),

@@ -2,10 +2,11 @@
 ghost use Rattle.std.specs.Prelude.{◌≡◌, IfSome, is_none};
 ghost use Rattle.std.specs.List.{list_any};
 ghost use Rattle.cf_acts.specs.Acts.{kinds};
-ghost use Rattle.cf_explain.specs.Meets.{overlaps, reaches, reaches_groups, reaches_values, meets};
+ghost use Rattle.cf_explain.specs.Meets.{reaches, reaches_groups, reaches_values, meets};
 ghost use Rattle.cf_explain.specs.Rules.{NeverHas};
 
 use cf_acts::{Groups, Kind, kinds};
+use cf_covered::some_overlap;
 use cf_policy::{Items, Protocol, Rule, Span};
 
 /// Why no act with a code meets a rule.
@@ -109,18 +110,5 @@ fn reaches_values(spans: &Items<Span>, values: Option<Span>) -> bool
 fn reaches(spans: &Items<Span>, span: &Span) -> bool
     ensures { result ≡ reaches spans.now span.now }
 {
-    spans.is_empty() || some_overlaps(spans.as_slice(), span)
-}
-
-fn some_overlaps(spans: &[Span], span: &Span) -> bool
-    ensures { result ≡ list_any (λ s. overlaps s span.now) spans.now }
-{
-    spans.iter().any(|stated| overlaps(stated, span))
-}
-
-/// Whether two spans have a number in common.
-fn overlaps(a: &Span, b: &Span) -> bool
-    ensures { result ≡ overlaps a.now b.now }
-{
-    a.low <= b.high && b.low <= a.high
+    spans.is_empty() || some_overlap(spans.as_slice(), span)
 }
