@@ -41,7 +41,7 @@ impl Heard {
 
     /// Hands the lane a piece of the side's bytes, after those that are left of it, at a moment in microseconds, and says why
     /// the session is cut, if it is. Each queue has room for twice the bytes, and for what unfinished fragments may still put
-    /// out. After a cut nothing is left, and no further call is made; the line of the cut is the caller's to write.
+    /// out. After a cut nothing is left, and no further call is made; where the desk fails, what was left stays; the line of the cut is the caller's to write.
     pub fn feed<D: Desk>(
         &mut self,
         asset: &Asset,
@@ -69,6 +69,7 @@ impl Heard {
             (state lane.old to_client.old to_controller.old (DeskValue.lines (D.value desk.old)))
             (DeskValue.lines (D.value desk.new)) (DeskValue.line_part (D.value desk.new))) }
         ensures cut { IfOk result (λ cut. IfSome cut (λ _. self.new.rest.items ≡ [])) }
+        ensures stays { OnErr result (self.new.rest ≡ self.old.rest) }
         ensures letters { self.new.letters ≡ self.old.letters + length piece.now }
         ensures whole { OnOk result (DeskValue.whole (D.value desk.new) ≡ true) }
         ensures log { WritesLog (D.value desk.old) (D.value desk.new) }
