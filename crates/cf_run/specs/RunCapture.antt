@@ -1,7 +1,6 @@
 -- A run over a capture file: RunsAs says what its answer means, and what then stands in the files.
 use Rattle.std.specs.Prelude.{◌≡◌, ◌≢◌, ◌⊎◌, ℕ, List, [], ◌∷◌, ◌++◌, drop, take, Result, Ok, Err}
 use Rattle.std.specs.List.{concat}
-use Rattle.cf_outside.specs.Desk.{IsNoneOf}
 use Rattle.cf_outside.specs.Files.{Appends, Content, Creates, absent, content_after_create, holds, untold}
 use Rattle.cf_outside.specs.declared.files.WriteAnswer.TheVariants as write
 use Rattle.cf_pcap.specs.Header.{output_octets}
@@ -51,10 +50,6 @@ pub record AreApart (names : RunNamesValue) : Type 0 where
   pub capture_out : names.capture ≢ names.out
   pub capture_log : names.capture ≢ names.log
   pub out_log : names.out ≢ names.log
-
--- every file but those that are written is as it was
-abbrev pub KeepsOtherFiles : (written : List (List ℕ)) → (before after : List ℕ → Content) → Type 0
-KeepsOtherFiles written before after = (other : List ℕ) → IsNoneOf written other → after other ≡ before other
 
 -- a file of this form has these records up to its last place, as far as it is told
 abbrev pub HasRunRecords : Content → Form → List Record → LastPlace → Type 0

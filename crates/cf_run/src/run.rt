@@ -2,6 +2,7 @@
 ghost use Rattle.std.specs.Prelude.{◌≡◌, ◌≢◌, ◌+◌, ◌*◌, ◌^◌, ◌<◌, ◌≤◌, ◌∷◌, [], List, IsErrOf, Ok, OnOk, true};
 ghost use Rattle.cf_lane.specs.declared.limit.TheConstants.{LETTER_LIMIT};
 ghost use Rattle.cf_outside.specs.Faults.{HasCause};
+ghost use Rattle.cf_outside.specs.Frames.{KeepsOtherFiles};
 ghost use Rattle.cf_outside.specs.Files.{IsWhole, content_after_create, content_after_write};
 ghost use Rattle.cf_packet.specs.Packet.{read_record};
 ghost use Rattle.cf_pcap.specs.Header.{output_octets};
@@ -10,7 +11,7 @@ ghost use Rattle.cf_run.specs.FileDesk.{are_whole, files_desk, files_told};
 ghost use Rattle.cf_run.specs.Half.{StepBreaks, StepStops};
 ghost use Rattle.cf_run.specs.Form.{first_place};
 ghost use Rattle.cf_run.specs.Reader.{HasForm};
-ghost use Rattle.cf_run.specs.RunCapture.{AreApart, IsCreatedInPart, KeepsOtherFiles, RunsAs, RunsRecords, open_fault, run_names_value};
+ghost use Rattle.cf_run.specs.RunCapture.{AreApart, IsCreatedInPart, RunsAs, RunsRecords, open_fault, run_names_value};
 ghost use Rattle.cf_run.specs.RunCapture.{step_fault};
 ghost use Rattle.cf_run.specs.Step.{IsEngineOf, IsSoundEngine, StepsOn};
 ghost use Rattle.cf_run.specs.Trace.{RunEvent, table_after};

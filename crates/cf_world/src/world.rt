@@ -3,7 +3,7 @@ ghost use Rattle.std.specs.Prelude.{◌≡◌, ◌≢◌, ◌≤◌, ◌∷◌, 
 ghost use Rattle.cf_outside.specs.Faults.{HasCause};
 ghost use Rattle.cf_outside.specs.Files.{IsPartly, KeepsOthers, content_after_write};
 ghost use Rattle.cf_pcap.specs.Header.{output_octets};
-ghost use Rattle.cf_run.specs.RunCapture.{KeepsOtherFiles};
+ghost use Rattle.cf_outside.specs.Frames.{KeepsOtherFiles};
 ghost use Rattle.cf_world.specs.World.{MakesWorld, world_names_value};
 
 use crate::document::make_document;
