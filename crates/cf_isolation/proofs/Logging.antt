@@ -19,7 +19,8 @@ use Rattle.cf_run.specs.Run.{inputs_of}
 use Rattle.cf_run.specs.Selected.{Rises, last_moment}
 use Rattle.cf_run.specs.Sessions.{Each, SessionsAreRight}
 use Rattle.cf_run.specs.Summary.{found}
-use Rattle.cf_run.specs.Table.{Session, is_between, same_endpoint}
+use Rattle.cf_run.specs.Table.{Session, is_between}
+use Rattle.cf_view.specs.Endpoints.{same_endpoint}
 use Rattle.cf_run.specs.Trace.{AreRunEvents, AreTicks, Begun, RunEvent, Input, Received, ReceivesRecord, kept, logged, logged_at, logged_in_first, logged_in_second, logged_received, logged_ticks, table_after, tick_of}
 use Rattle.cf_isolation.specs.Lines.{lines_naming, moment_in, names_both}
 use Rattle.cf_isolation.specs.Logged.{IsReadInput, LogsAreIsolated, LogsHoldSessions, LogsHoldToTheNext}

@@ -27,7 +27,7 @@ use Rattle.cf_stream.specs.Stream.{letter_count}
 use Rattle.cf_view.specs.declared.Endpoint.{Endpoint}
 use Rattle.cf_view.specs.declared.Side.{Side}
 use Rattle.cf_run.specs.Isolation.{is_flow_of}
-use Rattle.cf_run.specs.Table.{same_endpoint}
+use Rattle.cf_view.specs.Endpoints.{same_endpoint}
 use Rattle.cf_isolation.specs.Lines.{moment_in, names_both}
 use Rattle.cf_isolation.proofs.Items.{AreAbout, IsAbout, new_about}
 use Rattle.cf_isolation.proofs.Lists.{all_both, all_map}

@@ -19,7 +19,8 @@ use Rattle.cf_view.specs.declared.Endpoint.{Endpoint}
 use Rattle.cf_view.specs.declared.Side.{Side}
 use Rattle.cf_run.specs.Isolation.{begins_theirs, goes_to_theirs, is_flow_of, is_theirs, ticks_of}
 use Rattle.cf_run.specs.Sessions.{Each, HasEvents, HasRightEvents as IsRightSession}
-use Rattle.cf_run.specs.Table.{Session, has_asset_at, is_between, same_endpoint}
+use Rattle.cf_run.specs.Table.{Session, has_asset_at, is_between}
+use Rattle.cf_view.specs.Endpoints.{same_endpoint}
 use Rattle.cf_run.specs.Trace.{AreTicks, Begun, Dropped, GoesOnAt, GoesOnWith, NoRoom, NoSession, Received, ReceivesRecord, Went, kept, sent_received, stays, ticked, with_events}
 use Rattle.cf_isolation.specs.Records.{goes_between}
 use Rattle.cf_isolation.proofs.Ends.{GoesFrom, leg_goes}

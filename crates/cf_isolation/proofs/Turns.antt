@@ -15,7 +15,8 @@ use Rattle.cf_view.specs.declared.Endpoint.{Endpoint}
 use Rattle.cf_view.specs.declared.Side.{Side}
 use Rattle.cf_run.specs.Isolation.{begins_theirs, goes_to_theirs, is_flow_of, is_theirs, ticks_of}
 use Rattle.cf_run.specs.Sessions.{HasEvents, leaves, left_by_packet, session_at}
-use Rattle.cf_run.specs.Table.{Session, is_between, place_of, same_endpoint, without}
+use Rattle.cf_run.specs.Table.{Session, is_between, place_of, without}
+use Rattle.cf_view.specs.Endpoints.{same_endpoint}
 use Rattle.cf_run.specs.Trace.{AreTicks, Begun, Dropped, GoesOnAt, GoesOnWith, NoRoom, NoSession, Received, ReceivesRecord, Went, after_received, behind, is_cut, kept, stays, ticked, with_event_at, with_events}
 use Rattle.cf_isolation.specs.Lives.{born_at}
 use Rattle.cf_isolation.proofs.Lists.{all_map}

@@ -14,7 +14,7 @@ use Rattle.std.proofs.lemmas.Str.Parse.{tells_digits}
 use Rattle.cf_audit.specs.Line.{LineValue}
 use Rattle.cf_audit.specs.Text.{line_text, what_text}
 use Rattle.cf_policy.specs.Names.{is_name_byte}
-use Rattle.cf_run.specs.Table.{same_endpoint}
+use Rattle.cf_view.specs.Endpoints.{same_endpoint}
 use Rattle.cf_view.specs.Text.{dotted, endpoint_text, moment_text, six_digits}
 use Rattle.cf_view.specs.declared.Endpoint.{Endpoint}
 use Rattle.cf_isolation.specs.Lines.{behind_word, first_word, moment_in, names_both}

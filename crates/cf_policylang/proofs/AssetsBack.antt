@@ -13,7 +13,8 @@ use Rattle.cf_policy.specs.declared.policy.Protocol.TheVariants.{Modbus, Dnp3, I
 use Rattle.cf_policy.specs.declared.policy.Span.{Span}
 use Rattle.cf_policy.specs.Names.{is_name}
 use Rattle.cf_policy.specs.Within.{AreAssetsWithin, IsAssetWithin, highest_master, highest_station, lowest_station}
-use Rattle.cf_policylang.specs.Assets.{asset, asset_address, asset_keys, asset_name, assets_from, endpoint, is_endpoint_taken, is_same_endpoint, master, number_at, protocol}
+use Rattle.cf_policylang.specs.Assets.{asset, asset_address, asset_keys, asset_name, assets_from, endpoint, is_endpoint_taken, master, number_at, protocol}
+use Rattle.cf_view.specs.Endpoints.{same_endpoint}
 use Rattle.cf_policylang.specs.declared.refusal.Cause.TheVariants as cause
 use Rattle.cf_policylang.specs.declared.refusal.Key.{Key}
 use Rattle.cf_policylang.specs.declared.refusal.Key.TheVariants as key
@@ -109,8 +110,8 @@ module _ (ls : List (List Span)) (few : length ls ≤ 64) where
 
   -- ---- the assets of a document
 
-  same_endpoint : (d e : Endpoint) → is_same_endpoint d e ≡ true → d ≡ e
-  same_endpoint d e same =
+  endpoint_is : (d e : Endpoint) → same_endpoint d e ≡ true → d ≡ e
+  endpoint_is d e same =
       let parts = and_parts (d.address == e.address) (d.port == e.port) same in
       let address : d.address ≡ e.address = eqb-true d.address e.address parts.0 in
       let port : d.port ≡ e.port = eqb-true d.port e.port parts.1 in
@@ -119,9 +120,9 @@ module _ (ls : List (List Span)) (few : length ls ≤ 64) where
   endpoint_free : (before : List Asset) (a : Asset) (after : List Asset) → AllPairs (λ b c. b.endpoint ≢ c.endpoint) (before ++ (a ∷ after))
       → is_endpoint_taken before a.endpoint ≡ false
   endpoint_free before a after h =
-      list_any_none (λ (b : Asset). is_same_endpoint b.endpoint a.endpoint) before
-      (λ i d inside. false_from_ne_true (is_same_endpoint (get_or before i d).endpoint a.endpoint)
-      (λ e. pairs_before (λ (b c : Asset). b.endpoint ≢ c.endpoint) before a after h i d inside (same_endpoint (get_or before i d).endpoint a.endpoint e)))
+      list_any_none (λ (b : Asset). same_endpoint b.endpoint a.endpoint) before
+      (λ i d inside. false_from_ne_true (same_endpoint (get_or before i d).endpoint a.endpoint)
+      (λ e. pairs_before (λ (b c : Asset). b.endpoint ≢ c.endpoint) before a after h i d inside (endpoint_is (get_or before i d).endpoint a.endpoint e)))
 
   pub assets_read : (own : List Asset) → AreAssetsWithin own → assets_from (naming ls) 0 (asset_tables ls own) [] ≡ Ok own
   assets_read own h =

@@ -30,7 +30,8 @@ use Rattle.cf_policylang.specs.declared.refusal.Place.{Place}
 use Rattle.cf_policylang.specs.declared.refusal.PolicyFault.{PolicyFault}
 use Rattle.cf_policylang.specs.declared.refusal.PolicyRefusal.{PolicyRefusal}
 use Rattle.cf_policylang.specs.Tested.{Answers, Tested, or_refused, at_asset, at_document, at_rule}
-use Rattle.cf_policylang.specs.Assets.{asset, asset_keys, asset_name, assets_from, asset_address, endpoint, is_asset_taken, is_endpoint_taken, is_same_endpoint, master, no_master, number_at, protocol}
+use Rattle.cf_policylang.specs.Assets.{asset, asset_keys, asset_name, assets_from, asset_address, endpoint, is_asset_taken, is_endpoint_taken, master, no_master, number_at, protocol}
+use Rattle.cf_view.specs.Endpoints.{same_endpoint}
 use Rattle.cf_policylang.specs.Documents.{document, document_keys, asset_items, text_meaning, toml_of, version}
 use Rattle.cf_policylang.specs.Fields.{name, as_text, as_number, as_table, as_array_of, count, has_other, required, stated, number_in, tables_from}
 use Rattle.cf_policylang.specs.Numbers.{address}
@@ -247,11 +248,11 @@ asset_address_if p ms =
     (λ d. and_then_any (λ n. n ≤ 4294967295) (as_text key.Address p d) _
     (λ text. or_refused_if (λ n. n ≤ 4294967295) cause.BadAddress key.Address p (address text) (address_if text)))
 
-same_itself : (e : Endpoint) → is_same_endpoint e e ≡ true
+same_itself : (e : Endpoint) → same_endpoint e e ≡ true
 same_itself e = grind (arith, nat_tests)
 
-endpoints_differ : (d e : Endpoint) → is_same_endpoint d e ≡ false → d ≢ e
-endpoints_differ d e other same = true≢false (sym (same_itself e) ∙ (ap (λ f. is_same_endpoint f e) (sym same) ∙ other))
+endpoints_differ : (d e : Endpoint) → same_endpoint d e ≡ false → d ≢ e
+endpoints_differ d e other same = true≢false (sym (same_itself e) ∙ (ap (λ f. same_endpoint f e) (sym same) ∙ other))
 
 record IsAssetEndpoint (seen : List Asset) (e : Endpoint) : Type 0 where
   address : e.address ≤ 4294967295
@@ -268,8 +269,8 @@ endpoint_if p seen ms =
     (λ free. record {
       address = fit;
       port = range;
-      apart = All-weaker (λ a. is_same_endpoint a.endpoint e ≡ false) (λ a. a.endpoint ≢ e) (λ a. endpoints_differ a.endpoint e) seen
-          (none_passes (λ a. is_same_endpoint a.endpoint e) seen free);
+      apart = All-weaker (λ a. same_endpoint a.endpoint e ≡ false) (λ a. a.endpoint ≢ e) (λ a. endpoints_differ a.endpoint e) seen
+          (none_passes (λ a. same_endpoint a.endpoint e) seen free);
     })))
 
 no_master_if : (p : Place) (ms : Members) → IfOk (no_master p ms) (λ n. n ≤ 0)

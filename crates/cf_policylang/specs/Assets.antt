@@ -2,6 +2,7 @@
 use Rattle.std.specs.Prelude.{ℕ, Bool, ◌&&◌, ◌==◌, is_some, if◌then◌else◌, List, [], ◌∷◌, Option, Some, None, Ok, codes, bytes_eq}
 use Rattle.std.specs.List.{list_any}
 use Rattle.toml.specs.Data.{Items, Members}
+use Rattle.cf_view.specs.Endpoints.{same_endpoint}
 use Rattle.cf_view.specs.declared.base.Endpoint.{Endpoint}
 use Rattle.cf_policy.specs.declared.policy.Asset.{Asset}
 use Rattle.cf_policy.specs.declared.policy.Protocol.{Protocol}
@@ -43,13 +44,9 @@ number_at key low high place members =
     and_then (required key place members) (λ value.
     and_then (as_number key place value) (λ z. or_refused cause.BadRange key place (number_in low high z)))
 
--- both have the same address and the same port
-abbrev pub is_same_endpoint : Endpoint → Endpoint → Bool
-is_same_endpoint a b = (a.address == b.address) && (a.port == b.port)
-
 -- an earlier asset has the endpoint
 abbrev pub is_endpoint_taken : List Asset → Endpoint → Bool
-is_endpoint_taken seen own = list_any (λ a. is_same_endpoint a.endpoint own) seen
+is_endpoint_taken seen own = list_any (λ a. same_endpoint a.endpoint own) seen
 
 -- the address, and then the port, at which the whole endpoint is tested
 abbrev pub endpoint : Place → List Asset → Members → Tested Endpoint

@@ -4,7 +4,7 @@ ghost use Rattle.std.specs.List.{list_any};
 ghost use Rattle.toml.specs.View.{table_view, array_view};
 ghost use Rattle.cf_policy.specs.Within.{lowest_station, highest_station, highest_master, most_assets};
 ghost use Rattle.cf_policylang.specs.Tested.{Answers, AnswersPlainly};
-ghost use Rattle.cf_policylang.specs.Assets.{is_asset_taken, asset_name, asset_address, number_at, is_same_endpoint, is_endpoint_taken};
+ghost use Rattle.cf_policylang.specs.Assets.{is_asset_taken, asset_name, asset_address, number_at, is_endpoint_taken};
 ghost use Rattle.cf_policylang.specs.Assets.{endpoint, protocol_of, protocol, no_master, master, asset, assets_from};
 
 use crate::fields::{as_number, as_table, as_text, has_other, name, number_in, required, stated};
@@ -15,7 +15,7 @@ use crate::sets::Named;
 use cf_policy::{
     Asset, HIGHEST_COMMON_ADDRESS, HIGHEST_LINK_ADDRESS, HIGHEST_UNIT, Items, Name, Protocol,
 };
-use cf_view::Endpoint;
+use cf_view::{Endpoint, same_endpoint};
 use std::alloc::Global;
 use toml::Table;
 use toml::value::Array;
@@ -133,13 +133,7 @@ fn is_endpoint_taken(earlier: &[Asset], endpoint: Endpoint) -> bool
 {
     earlier
         .iter()
-        .any(|asset| is_same_endpoint(&asset.endpoint, &endpoint))
-}
-
-fn is_same_endpoint(a: &Endpoint, b: &Endpoint) -> bool
-    ensures { result ≡ is_same_endpoint a.now b.now }
-{
-    a.address == b.address && a.port == b.port
+        .any(|asset| same_endpoint(&asset.endpoint, &endpoint))
 }
 
 fn protocol(place: Place, table: &Table) -> Result<Protocol, PolicyRefusal>

@@ -11,7 +11,8 @@ use Rattle.cf_packet.specs.declared.PacketRefusal.{PacketRefusal}
 use Rattle.cf_policy.specs.declared.Asset.{Asset}
 use Rattle.cf_run.specs.Capture.{Record}
 use Rattle.cf_run.specs.Entries.{asset_place}
-use Rattle.cf_run.specs.Table.{is_opening, same_endpoint}
+use Rattle.cf_run.specs.Table.{is_opening}
+use Rattle.cf_view.specs.Endpoints.{same_endpoint}
 use Rattle.cf_view.specs.declared.Endpoint.{Endpoint}
 use Rattle.cf_watch.specs.Seen.{begins_amid, begun_with, frame_by, goes_from, goes_to_asset, opening_amid, seen_by, with_frame}
 use Rattle.cf_watch.specs.Watched.{Watched, begins_anew, begun_by, goes, goes_at, goes_to, is_between, last_place, later_place, watched, with_packet, with_record}

@@ -18,7 +18,8 @@ use Rattle.cf_run.specs.Isolation.{AreMatched, NoneBegins, RunsIsolateSessions, 
 use Rattle.cf_run.specs.Run.{inputs_of}
 use Rattle.cf_run.specs.Sessions.{Each}
 use Rattle.cf_run.specs.Summary.{found}
-use Rattle.cf_run.specs.Table.{Begins, Match, Session, is_between, match_of, same_endpoint, without}
+use Rattle.cf_run.specs.Table.{Begins, Match, Session, is_between, match_of, without}
+use Rattle.cf_view.specs.Endpoints.{same_endpoint}
 use Rattle.cf_run.specs.Trace.{AreRunEvents, AreTicks, Begun, RunEvent, GoesOnWith, Input, IsRunEvent, Received, Receives, ReceivesRecord, after_received, behind, kept, logged_received, logged_ticks, replaced, sent_received, stays, table_after, tick_of, ticked, with_events}
 use Rattle.cf_run.proofs.Matched.{same_is}
 use Rattle.cf_run.proofs.Pairs.{filter_at_most, filter_keeps, filter_swap, next_are, ticks_are, without_theirs}

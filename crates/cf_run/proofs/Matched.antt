@@ -13,7 +13,8 @@ use Rattle.cf_view.specs.declared.Endpoint.{Endpoint}
 use Rattle.cf_run.specs.Engine.{AreAll, IsOneWith}
 use Rattle.cf_run.specs.Entries.{asset_place, goes_in_client, begins_at, begins_in, entry_between, entry_match, goes_in, is_at, is_closed_in, others, place_in}
 use Rattle.cf_run.specs.Receiving.{may_begin_one}
-use Rattle.cf_run.specs.Table.{Begins, Full, Goes, Match, Outside, Session, asset_at, begins, begins_or_full, goes, goes_from_client, has_asset_at, is_between, is_closed_at, match_of, may_begin, place_of, same_endpoint, table_size, without}
+use Rattle.cf_run.specs.Table.{Begins, Full, Goes, Match, Outside, Session, asset_at, begins, begins_or_full, goes, goes_from_client, has_asset_at, is_between, is_closed_at, match_of, may_begin, place_of, table_size, without}
+use Rattle.cf_view.specs.Endpoints.{same_endpoint}
 use Rattle.cf_run.specs.declared.entry.Entry.{Entry}
 use Rattle.cf_run.specs.declared.matching.Match.{Match as EntryMatch}
 use Rattle.cf_run.specs.declared.matching.Match.TheVariants as match

@@ -9,7 +9,8 @@ use Rattle.cf_session.specs.declared.life.Life.{Life}
 use Rattle.cf_session.specs.declared.life.Life.TheVariants as life
 use Rattle.cf_view.specs.declared.Endpoint.{Endpoint}
 use Rattle.cf_view.specs.declared.Side.TheVariants as side
-use Rattle.cf_run.specs.Table.{may_begin, same_endpoint, table_size}
+use Rattle.cf_run.specs.Table.{may_begin, table_size}
+use Rattle.cf_view.specs.Endpoints.{same_endpoint}
 use Rattle.cf_run.specs.declared.entry.Entry.{Entry}
 use Rattle.cf_run.specs.declared.matching.Match.{Match}
 use Rattle.cf_run.specs.declared.matching.Match.TheVariants as match

@@ -14,7 +14,8 @@ use Rattle.cf_session.specs.Session.{Flow, SessionEvent, client_of}
 use Rattle.cf_view.specs.declared.Endpoint.{Endpoint}
 use Rattle.cf_run.specs.Run.{IsRun}
 use Rattle.cf_run.specs.Summary.{found}
-use Rattle.cf_run.specs.Table.{Begins, Full, Goes, Match, Outside, Session, is_between, match_of, same_endpoint}
+use Rattle.cf_run.specs.Table.{Begins, Full, Goes, Match, Outside, Session, is_between, match_of}
+use Rattle.cf_view.specs.Endpoints.{same_endpoint}
 use Rattle.cf_run.specs.Trace.{Begun, RunEvent, Input, Received, Went, kept, logged_in_second, logged_received, logged_ticks}
 use Rattle.cf_run.specs.Trace.{sent_in_second, sent_received, table_after, tick_of}
 use Rattle.cf_run.specs.declared.summary.Summary.{Summary}

@@ -6,6 +6,7 @@ use Rattle.cf_leg.specs.Segment.{has_ack, has_fin, has_rst, has_syn}
 use Rattle.cf_packet.specs.Packet.{PacketValue}
 use Rattle.cf_policy.specs.declared.Asset.{Asset}
 use Rattle.cf_session.specs.Session.{Flow, SessionEvent, client_of, was_closed}
+use Rattle.cf_view.specs.Endpoints.{same_endpoint}
 use Rattle.cf_view.specs.declared.Endpoint.{Endpoint}
 use Rattle.cf_view.specs.declared.Side.{Side}
 use Rattle.cf_view.specs.declared.Side.TheVariants as side
@@ -18,10 +19,6 @@ pub record Session : Type 0 where
 -- how many sessions a table has at most
 abbrev pub table_size : ℕ
 table_size = 256
-
--- both have the same address and the same port
-abbrev pub same_endpoint : Endpoint → Endpoint → Bool
-same_endpoint a b = (a.address == b.address) && (a.port == b.port)
 
 -- the asset at an endpoint
 abbrev pub asset_at : List Asset → Endpoint → Option Asset

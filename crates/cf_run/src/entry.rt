@@ -2,11 +2,11 @@
 ghost use Rattle.std.specs.Prelude.{◌≡◌, ◌<◌, Some, length, slice_get};
 ghost use Rattle.cf_lane.specs.Judged.{one_if};
 ghost use Rattle.cf_run.specs.Entries.{cuts_by, entry_between, place_in, stays_by};
-ghost use Rattle.cf_run.specs.Table.{has_asset_at, same_endpoint};
+ghost use Rattle.cf_run.specs.Table.{has_asset_at};
 
 use cf_policy::Asset;
 use cf_session::{Life, Session};
-use cf_view::Endpoint;
+use cf_view::{Endpoint, same_endpoint};
 
 /// A session in the table, and the place of its asset in the policy.
 #[derive(Drop)]
@@ -36,29 +36,22 @@ pub(crate) fn asset_of<'a>(assets: &'a [Asset], place: usize) -> &'a Asset
     &assets[place]
 }
 
-/// Whether two endpoints are the same. The ports differ more often, as where many sessions have one client.
-pub(crate) fn is_same(a: &Endpoint, b: &Endpoint) -> bool
-    ensures { result ≡ same_endpoint a.now b.now }
-{
-    a.port == b.port && a.address == b.address
-}
-
 /// Whether an asset stands at an endpoint.
 pub(crate) fn has_asset_at(assets: &[Asset], endpoint: &Endpoint) -> bool
     ensures { result ≡ has_asset_at assets.now endpoint.now }
 {
     assets
         .iter()
-        .any(|asset| is_same(&asset.endpoint, endpoint))
+        .any(|asset| same_endpoint(&asset.endpoint, endpoint))
 }
 
 /// Whether a session is between this client and the asset at this endpoint.
 fn is_between(entry: &Entry, assets: &[Asset], client: &Endpoint, endpoint: &Endpoint) -> bool
     ensures { result ≡ entry_between assets.now client.now endpoint.now entry.now }
 {
-    is_same(&entry.session.client(), client)
+    same_endpoint(&entry.session.client(), client)
         && match assets.get(entry.asset) {
-            Some(asset) => is_same(&asset.endpoint, endpoint),
+            Some(asset) => same_endpoint(&asset.endpoint, endpoint),
             None => false,
         }
 }

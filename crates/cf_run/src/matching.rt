@@ -4,10 +4,10 @@ ghost use Rattle.cf_packet.specs.Packet.{packet_value};
 ghost use Rattle.cf_run.specs.Entries.{asset_place, begins_in, entry_match, goes_in, is_closed_in};
 ghost use Rattle.cf_run.specs.Table.{is_opening, may_begin};
 
-use crate::entry::{Entry, has_asset_at, is_same, place_in};
+use crate::entry::{Entry, has_asset_at, place_in};
 use cf_packet::{ACK, FIN, Packet, RST, SYN};
 use cf_policy::Asset;
-use cf_view::{Endpoint, Side};
+use cf_view::{Endpoint, Side, same_endpoint};
 
 /// How many sessions the table has at most.
 pub const TABLE_SIZE: usize = 256;
@@ -69,7 +69,7 @@ fn asset_at(assets: &[Asset], endpoint: &Endpoint) -> Option<usize>
 {
     assets
         .iter()
-        .position(|asset| is_same(&asset.endpoint, endpoint))
+        .position(|asset| same_endpoint(&asset.endpoint, endpoint))
 }
 
 /// Whether a flow has no session, or a closed one.

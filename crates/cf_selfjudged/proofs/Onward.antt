@@ -12,7 +12,8 @@ use Rattle.cf_policy.specs.declared.Asset.{Asset}
 use Rattle.cf_readback.proofs.Legs.{each_back}
 use Rattle.cf_run.specs.Entries.{asset_place}
 use Rattle.cf_run.specs.Sessions.{Each, HasRightEvents as IsRightSession, SessionsAreRight, gone_after, leaves, left_by_packet, session_at, sessions_of}
-use Rattle.cf_run.specs.Table.{Session, is_between, place_of, same_endpoint, without}
+use Rattle.cf_run.specs.Table.{Session, is_between, place_of, without}
+use Rattle.cf_view.specs.Endpoints.{same_endpoint}
 use Rattle.cf_run.specs.Trace.{AreRunEvents, Begun, RunEvent, GoesOnAt, Received, ReceivesRecord, Went, after_received, kept, sent, sent_received, stays, table_after, tick_of, ticked, with_event_at, with_events}
 use Rattle.cf_session.specs.Event.{IsBeginning}
 use Rattle.cf_session.specs.Sent.{Sent, is_first_half, late, sent_first, sent_second}

@@ -8,7 +8,8 @@ use Rattle.cf_policy.proofs.FirstPlace.{first_at}
 use Rattle.cf_run.proofs.Matched.{place_by}
 use Rattle.cf_policy.specs.declared.Asset.{Asset}
 use Rattle.cf_run.specs.Entries.{asset_place}
-use Rattle.cf_run.specs.Table.{asset_at, has_asset_at, same_endpoint}
+use Rattle.cf_run.specs.Table.{asset_at, has_asset_at}
+use Rattle.cf_view.specs.Endpoints.{same_endpoint}
 use Rattle.cf_view.specs.declared.Endpoint.{Endpoint}
 
 has_by : (assets : List Asset) (a : Asset) (e : Endpoint) (k : ℕ) (b : Bool) (o : Option ℕ) → ((i : ℕ) → o ≡ Some i → slice_get assets i ≡ asset_at assets e) → same_endpoint a.endpoint e ≡ b →

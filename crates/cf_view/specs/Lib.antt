@@ -1,3 +1,4 @@
+pub mod Endpoints
 pub mod Framing
 pub mod Moment
 pub mod Octets

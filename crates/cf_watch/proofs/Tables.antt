@@ -15,7 +15,7 @@ use Rattle.cf_watch.specs.Trail.{AreHeard, IsHeard, key_cmp, key_of}
 use Rattle.cf_packet.specs.Packet.{PacketValue}
 use Rattle.cf_watch.specs.Carried.{AreBorn, HasBytes}
 use Rattle.cf_watch.specs.Kept.{known}
-use Rattle.cf_run.specs.Table.{same_endpoint}
+use Rattle.cf_view.specs.Endpoints.{same_endpoint}
 use Rattle.cf_watch.specs.Seen.{begins_amid, begun_with, goes_from, opening_amid}
 use Rattle.cf_watch.specs.declared.scope.Scope.{Scope}
 use Rattle.cf_watch.specs.Watched.{Watched, begins_anew, begun_by, goes_at, is_between, last_place, later_place, with_packet}

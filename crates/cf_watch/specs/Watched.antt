@@ -10,7 +10,8 @@ use Rattle.cf_view.specs.declared.Endpoint.{Endpoint}
 use Rattle.cf_leg.specs.Segment.{has_ack, has_syn, letters_in}
 use Rattle.cf_run.specs.Capture.{Record}
 use Rattle.cf_run.specs.Entries.{asset_place}
-use Rattle.cf_run.specs.Table.{is_opening, same_endpoint}
+use Rattle.cf_run.specs.Table.{is_opening}
+use Rattle.cf_view.specs.Endpoints.{same_endpoint}
 use Rattle.cf_watch.specs.Carried.{Carried, top_of}
 
 -- a flow as it was watched: its client, the place of its asset in the policy, the number of its SYN, whether a packet with ACK has

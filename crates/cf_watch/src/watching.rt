@@ -10,7 +10,6 @@ ghost use Rattle.cf_watch.specs.Trail.{HasHeard, IsHeard, IsWatchOf, key_cmp, ke
 ghost use Rattle.cf_leg.specs.Segment.{has_ack};
 ghost use Rattle.cf_run.specs.Entries.{asset_place};
 ghost use Rattle.cf_watch.specs.Seen.{begins_amid, begun_with, frame_by, goes_from, goes_to_asset, with_frame};
-ghost use Rattle.cf_run.specs.Table.{same_endpoint};
 ghost use Rattle.cf_watch.specs.Watched.{Watched, begins_anew, goes_at, with_packet};
 
 use crate::born::Born;
@@ -21,7 +20,7 @@ use crate::scope::Scope;
 use crate::tag::frame_by;
 use cf_packet::{ACK, Packet, RST, SYN, read_packet};
 use cf_policy::Asset;
-use cf_view::{Endpoint, LinkKind, NoMemory};
+use cf_view::{Endpoint, LinkKind, NoMemory, same_endpoint};
 use std::alloc::Global;
 use std::collections::BTreeMap;
 
@@ -108,13 +107,6 @@ fn is_answered(answered: bool, packet: &Packet<'_>) -> bool
     answered || has(packet, ACK)
 }
 
-/// Whether two endpoints are the same.
-fn is_same(a: &Endpoint, b: &Endpoint) -> bool
-    ensures { result ≡ same_endpoint a.now b.now }
-{
-    a.address == b.address && a.port == b.port
-}
-
 /// The place of the asset at an endpoint.
 fn asset_at(assets: &[Asset], endpoint: &Endpoint) -> Option<usize>
     ensures place { result ≡ asset_place assets.now endpoint.now }
@@ -122,7 +114,7 @@ fn asset_at(assets: &[Asset], endpoint: &Endpoint) -> Option<usize>
 {
     assets
         .iter()
-        .position(|asset| is_same(&asset.endpoint, endpoint))
+        .position(|asset| same_endpoint(&asset.endpoint, endpoint))
 }
 
 /// Whether a packet begins its flow anew.
