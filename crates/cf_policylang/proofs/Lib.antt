@@ -6,6 +6,7 @@ pub mod Kept
 pub mod ListsBack
 pub mod Marks
 pub mod Middles
+pub mod NameNumbers
 pub mod Members
 pub mod PointsBack
 pub mod Printed

@@ -4,6 +4,7 @@ pub mod Fields
 pub mod Keys
 pub mod Lists
 pub mod Migrating
+pub mod NameNumbers
 pub mod Numbers
 pub mod Rates
 pub mod Rules

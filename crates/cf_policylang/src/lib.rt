@@ -3,6 +3,7 @@
 
 mod assets;
 mod documents;
+mod earlier;
 mod fields;
 mod lists;
 mod migrate;

@@ -1,6 +1,5 @@
 //! The rules of an asset.
-ghost use Rattle.std.specs.Prelude.{◌≡◌, ◌+◌, ◌<◌, ◌≤◌, [], IfOk, bytes_eq, vec_len};
-ghost use Rattle.std.specs.List.{list_any};
+ghost use Rattle.std.specs.Prelude.{◌≡◌, ◌+◌, ◌<◌, ◌≤◌, [], IfOk, vec_len};
 ghost use Rattle.toml.specs.View.{view, table_view, array_view};
 ghost use Rattle.cf_policy.specs.Within.{most_rules};
 ghost use Rattle.cf_policy.specs.Names.{is_reserved};
@@ -8,6 +7,7 @@ ghost use Rattle.cf_policylang.specs.Tested.{Answers, AnswersPlainly, at_rule};
 ghost use Rattle.cf_policylang.specs.Rules.{is_rule_taken, rule_name, action_of, action, client_spans, code_spans, group_spans};
 ghost use Rattle.cf_policylang.specs.Rules.{value_spans, rule, rules_from, rule_items, rules};
 
+use crate::earlier::Earlier;
 use crate::fields::{
     Kind, as_array_of, as_table, as_text, count, has_other, name, required, stated,
 };
@@ -39,7 +39,7 @@ fn rule(
     alloc: Global,
     named: &Named,
     place: Place,
-    earlier: &[Rule],
+    earlier: &Earlier,
     table: &Table,
 ) -> Result<Rule, PolicyFault>
     ensures { Answers (λ r. r) (rule named.now place earlier.now (table_view table.now)) result }
@@ -54,7 +54,7 @@ fn rule(
     let groups = group_spans(alloc, place, table)?;
     let points = rule_points(alloc, named, place, table)?;
     let values = value_spans(alloc, place, table)?;
-    let rate = rate(place, earlier, action, table)?;
+    let rate = rate(place, earlier.as_slice(), action, table)?;
     Ok(Rule {
         name,
         action,
@@ -67,7 +67,7 @@ fn rule(
     })
 }
 
-fn rule_name(place: Place, earlier: &[Rule], table: &Table) -> Result<Name, PolicyRefusal>
+fn rule_name(place: Place, earlier: &Earlier, table: &Table) -> Result<Name, PolicyRefusal>
     ensures { AnswersPlainly (λ n. n) (rule_name place earlier.now (table_view table.now)) result }
 {
     let name = name(place, table)?;
@@ -77,18 +77,14 @@ fn rule_name(place: Place, earlier: &[Rule], table: &Table) -> Result<Name, Poli
     Ok(name)
 }
 
-/// Whether the name stands for another decider or an earlier rule has it. It is compared with each of them, so an asset
-/// of `MOST_RULES` rules takes about half a million comparisons of at most `LONGEST_NAME` bytes.
-fn is_rule_taken(earlier: &[Rule], text: &str) -> bool
+/// Whether the name stands for another decider or an earlier rule has it. A number made of it is compared with those of
+/// the earlier rules, so an asset of `MOST_RULES` rules takes about half a million comparisons of numbers that lie
+/// together, and hardly one of names. Names that were chosen so that their numbers are equal take half a million
+/// comparisons of at most `LONGEST_NAME` bytes besides.
+fn is_rule_taken(earlier: &Earlier, text: &str) -> bool
     ensures { result ≡ is_rule_taken earlier.now text.now }
 {
-    is_reserved(text) || some_rule_has(earlier, text)
-}
-
-fn some_rule_has(rules: &[Rule], text: &str) -> bool
-    ensures { result ≡ list_any (λ r. bytes_eq r.name text.now) rules.now }
-{
-    rules.iter().any(|rule| rule.name.as_str() == text)
+    is_reserved(text) || earlier.has(text)
 }
 
 fn is_reserved(text: &str) -> bool
@@ -183,14 +179,14 @@ fn rules_from(
     requires { vec_len array.now ≤ most_rules }
     ensures { Answers (λ r. r) (rules_from named.now asset 0 (array_view array.now) []) result }
 {
-    let mut rules = Vec::new(alloc);
+    let mut earlier = Earlier::new(alloc);
     for (index, value) in array.iter().enumerate() {
         let table = as_table(Key::Rule, Place::asset(asset), value)?;
         let place = rule_place(asset, index);
-        let rule = rule(alloc, named, place, rules.as_slice(), table)?;
-        rules.push(rule)?;
+        let rule = rule(alloc, named, place, &earlier, table)?;
+        earlier = earlier.with(rule)?;
     }
-    Ok(Items::new(rules))
+    Ok(earlier.into_items())
 }
 
 /// The place of the rule at an index of its asset's array.
