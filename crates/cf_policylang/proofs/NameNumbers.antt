@@ -8,7 +8,7 @@ use Rattle.cf_policy.specs.declared.policy.Rule.{Rule}
 use Rattle.cf_policylang.specs.NameNumbers.{name_number}
 
 -- where the number of a name is not among those of the rules, none of them has the name
-pub has_numbers : (name : List ℕ) (rules : List Rule) → list_any (λ n. n == name_number name) (map (λ r. name_number r.name) rules) ≡ false
+pub lacks_name : (name : List ℕ) (rules : List Rule) → list_any (λ n. n == name_number name) (map (λ r. name_number r.name) rules) ≡ false
     → list_any (λ r. bytes_eq r.name name) rules ≡ false
-has_numbers name [] none = refl
-has_numbers name (r ∷ rules) none = grind (arith, common_steps, bytes_eq-Decides, has_numbers name rules)
+lacks_name name [] none = refl
+lacks_name name (r ∷ rules) none = grind (arith, common_steps, bytes_eq-Decides, lacks_name name rules)

@@ -44,8 +44,8 @@ impl Earlier {
         self.rules.as_slice()
     }
 
-    /// Whether one of them has the name. It is compared with theirs only where one of the numbers is its own: the numbers
-    /// lie together, a name is far from the next.
+    /// Whether one of them has the name. The names are compared only where one of the numbers is that of the name: numbers
+    /// lie together, and names far apart.
     pub(crate) fn has(&self, name: &str) -> bool
         ensures { result ≡ list_any (λ r. bytes_eq r.name name.now) self.now }
     {
