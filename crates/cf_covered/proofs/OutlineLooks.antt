@@ -1,161 +1,178 @@
 -- What a look at outlines finds is what a look at the rules would find.
-use Rattle.std.proofs.Common.{◌≡◌, Bool, ℕ, ◌+◌, ◌<◌, ◌≤ℤ◌, int_le, nat_lt, not, true, false, List, [], ◌∷◌, Option, Some, None, IfSome, map, take, length, get_or, slice_get, cond, refl, sym, subst, ap, ◌∙◌, arith}
+use Rattle.std.proofs.Common.{◌≡◌, Bool, ℕ, ◌+◌, ◌<◌, ◌≤◌, ◌≤ℤ◌, ◌++◌, true, false, List, [], ◌∷◌, Some, None, take, length, get_or, cond, refl, sym, subst, ap, ◌∙◌, append-nil, length-take, arith}
+use mathlib.Core.Logic.{⊎_elim}
 use Rattle.std.specs.Prelude.{◌&&◌, position}
-use Rattle.std.specs.List.{All, filter, position_or_len}
+use Rattle.std.specs.List.{All, filter}
 use Rattle.std.proofs.lemmas.Int.{ints}
-use Rattle.std.proofs.lemmas.Bool.{true≢false, and_parts, and_from}
-use Rattle.std.proofs.lemmas.List.Elements.{All-get_or, All-head, All-more, All-tail, All-take, All-weaker}
-use Rattle.std.proofs.lemmas.List.{get_or-map, length-map, take-map}
+use Rattle.std.proofs.lemmas.Bool.{true≢false, and_parts, cases_lt, false_from_ne_true}
+use Rattle.std.proofs.lemmas.Bool.Decides.{nat_tests}
+use Rattle.std.proofs.lemmas.List.Elements.{All-get_or, All-more, All-weaker, filter_more}
+use Rattle.std.proofs.lemmas.List.Sums.{position_or_len_is}
+use Rattle.std.proofs.lemmas.List.{get_or-map, length-map, take-map, take_all}
 use Rattle.std.proofs.lemmas.List.Folds.{Any-from_list_any}
-use Rattle.std.proofs.lemmas.Option.{slice_get-get_or}
+use Rattle.std.proofs.lemmas.List.Quantifiers.{position-Some}
+use Rattle.std.proofs.lemmas.Option.{get_or_from_slice_get}
 use Rattle.cf_policy.specs.declared.policy.Rule.{Rule}
 use Rattle.cf_policy.specs.declared.policy.Span.{Span}
+use Rattle.cf_policy.specs.Verdict.{covers}
+use Rattle.cf_covered.specs.declared.including.Earlier.{Earlier}
+use Rattle.cf_covered.specs.declared.including.Earlier.TheVariants.{Covering, Common}
 use Rattle.cf_covered.specs.declared.outline.Outline.{Outline}
+use Rattle.cf_covered.specs.declared.outline.TheConstants.{EVERY_NUMBER}
 use Rattle.cf_covered.specs.Common.{have_common, lists_overlap, overlap, some_overlap}
 use Rattle.cf_covered.specs.Including.{includes, includes_rule, is_inside, is_inside_some}
-use Rattle.cf_covered.specs.Outlines.{HasAll, HasHull, hull_includes, hulls_meet, outlined_includes, outlines_meet, rules_of}
+use Rattle.cf_covered.specs.Outlines.{HasHull, IsHull, IsTold, Tells, has_ends, rules_of}
+use Rattle.cf_covered.proofs.Inclusion.{never_decides}
 
-wider : (h k s : Span) → k.low ≤ℤ h.low → h.high ≤ℤ k.high → is_inside h s ≡ true → is_inside k s ≡ true
-wider h k s begins ends a =
-    let e = and_parts (int_le h.low s.low) (int_le s.high h.high) a in
-    and_from (int_le k.low s.low) (int_le s.high k.high) (grind (arith, ints, begins, e.0)) (grind (arith, ints, ends, e.1))
+pub both_ends : (h k s : Span) → covers h s.low ≡ true → k.low ≤ℤ h.low → h.high ≤ℤ k.high → covers k s.high ≡ true → has_ends k s ≡ true
+both_ends h k s low begins ends high = grind (arith, ints, nat_tests)
 
--- one more span is inside where a wider one has it
-pub one_more_inside : (spans : List Span) (i : ℕ) (d h k : Span) → i < length spans → All (λ s. is_inside h s ≡ true) (take i spans)
-    → k.low ≤ℤ h.low → h.high ≤ℤ k.high → is_inside k (get_or spans i d) ≡ true → All (λ s. is_inside k s ≡ true) (take (i + 1) spans)
+wider : (h k s : Span) → k.low ≤ℤ h.low → h.high ≤ℤ k.high → has_ends h s ≡ true → has_ends k s ≡ true
+wider h k s begins ends a = grind (arith, ints, nat_tests)
+
+-- both ends of one more span are inside where a wider one has them
+pub one_more_inside : (spans : List Span) (i : ℕ) (d h k : Span) → i < length spans → All (λ s. has_ends h s ≡ true) (take i spans)
+    → k.low ≤ℤ h.low → h.high ≤ℤ k.high → has_ends k (get_or spans i d) ≡ true → All (λ s. has_ends k s ≡ true) (take (i + 1) spans)
 one_more_inside spans i d h k inside before begins ends here =
-    All-more (λ s. is_inside k s ≡ true) spans i d inside
-    (All-weaker (λ s. is_inside h s ≡ true) (λ s. is_inside k s ≡ true) (λ s a. wider h k s begins ends a) (take i spans) before)
+    All-more (λ s. has_ends k s ≡ true) spans i d inside
+    (All-weaker (λ s. has_ends h s ≡ true) (λ s. has_ends k s ≡ true) (λ s a. wider h k s begins ends a) (take i spans) before)
     here
 
--- a test that holds only where another does may be made before it
-first_test : (a b : Bool) → (b ≡ true → a ≡ true) → (a && b) ≡ b
-first_test true b so = refl
-first_test false true so = absurd (true≢false (sym (so refl)))
-first_test false false so = refl
+-- the wider one is no less within all numbers
+pub still_within : (h k : Span) → k.low ≤ℤ h.low → h.high ≤ℤ k.high → overlap EVERY_NUMBER h ≡ true → overlap EVERY_NUMBER k ≡ true
+still_within h k begins ends a = grind (arith, ints, nat_tests)
 
--- a span of the list is inside what all are inside
-at : (h s : Span) (spans : List Span) (k : ℕ) → k < length spans → get_or spans k s ≡ s → All (λ t. is_inside h t ≡ true) spans → is_inside h s ≡ true
-at h s spans k within is all = subst (λ t. is_inside h t ≡ true) is (all k s within)
+-- a span of the list has its ends inside what has all ends
+at : (h s : Span) (spans : List Span) (k : ℕ) → k < length spans → get_or spans k s ≡ s → All (λ t. has_ends h t ≡ true) spans
+    → has_ends h s ≡ true
+at h s spans k within is all = subst (λ t. has_ends h t ≡ true) is (all k s within)
 
-spans_met : (a b : List Span) (g h : Span) → HasAll g a → HasAll h b → lists_overlap a b ≡ true → overlap g h ≡ true
-spans_met [] b g h has other both = absurd (true≢false has.0)
-spans_met (s ∷ ss) [] g h has other both = absurd (true≢false other.0)
-spans_met (s ∷ ss) (t ∷ ts) g h has other both =
-    let one = Any-from_list_any (λ x. some_overlap (t ∷ ts) x) (s ∷ ss) both in
-    let two = Any-from_list_any (λ y. overlap y one.1) (t ∷ ts) one.4 in
-    let meet = and_parts (int_le two.1.low one.1.high) (int_le one.1.low two.1.high) two.4 in
-    let in_one = and_parts (int_le g.low one.1.low) (int_le one.1.high g.high) (at g one.1 (s ∷ ss) one.0 one.2 one.3 has.1) in
-    let in_two = and_parts (int_le h.low two.1.low) (int_le two.1.high h.high) (at h two.1 (t ∷ ts) two.0 two.2 two.3 other.1) in
-    and_from (int_le g.low h.high) (int_le h.low g.high)
-    (grind (arith, ints, meet.1, in_one.0, in_two.1)) (grind (arith, ints, meet.0, in_one.1, in_two.0))
+-- where two spans overlap, or one is inside the other, what has their ends overlaps
+ends_met : (g h s t : Span) → has_ends g s ≡ true → has_ends h t ≡ true → overlap s t ≡ true → overlap g h ≡ true
+ends_met g h s t one other both = grind (arith, ints, nat_tests)
 
-hulls_met : (a b : List Span) (g h : Option Span) → IfSome g (λ x. HasAll x a) → IfSome h (λ x. HasAll x b) → lists_overlap a b ≡ true
-    → hulls_meet g h ≡ true
-hulls_met a b None h has other both = refl
-hulls_met a b (Some g) None has other both = refl
-hulls_met a b (Some g) (Some h) has other both = spans_met a b g h has other both
+ends_included : (g h s t : Span) → has_ends g s ≡ true → has_ends h t ≡ true → is_inside s t ≡ true → overlap g h ≡ true
+ends_included g h s t one other both = grind (arith, ints, nat_tests)
 
-outlines_meet_is : (p q : Outline) → HasHull p → HasHull q → outlines_meet p q ≡ have_common p.rule.now q.rule.now
-outlines_meet_is p q has other = first_test (hulls_meet p.hull q.hull) (have_common p.rule.now q.rule.now) (λ both.
+every_met : (g h : Span) → g ≡ EVERY_NUMBER → overlap EVERY_NUMBER h ≡ true → (overlap g h ≡ true) × (overlap h g ≡ true)
+every_met g h is within = rw is (within, grind (arith, within))
+
+hulls_met : (a b : List Span) (g h : Span) → IsHull g a → IsHull h b → lists_overlap a b ≡ true → overlap g h ≡ true
+hulls_met [] b g h one other both = (every_met g h (one.unstated refl) other.within).0
+hulls_met (s ∷ ss) [] g h one other both = (every_met h g (other.unstated refl) one.within).1
+hulls_met (s ∷ ss) (t ∷ ts) g h one other both =
+    let x = Any-from_list_any (λ x. some_overlap (t ∷ ts) x) (s ∷ ss) both in
+    let y = Any-from_list_any (λ y. overlap y x.1) (t ∷ ts) x.4 in
+    let met : overlap h g ≡ true =
+    ends_met h g y.1 x.1 (at h y.1 (t ∷ ts) y.0 y.2 y.3 other.stated) (at g x.1 (s ∷ ss) x.0 x.2 x.3 one.stated) y.4 in
+    grind (arith, met)
+
+hulls_included : (a b : List Span) (g h : Span) → IsHull g a → IsHull h b → includes a b ≡ true → overlap g h ≡ true
+hulls_included [] b g h one other both = (every_met g h (one.unstated refl) other.within).0
+hulls_included (s ∷ ss) [] g h one other both = (every_met h g (other.unstated refl) one.within).1
+hulls_included (s ∷ ss) (t ∷ ts) g h one other both =
+    let x = Any-from_list_any (λ o. is_inside o t) (s ∷ ss) (and_parts (is_inside_some (s ∷ ss) t) _ both).0 in
+    ends_included g h x.1 t (at g x.1 (s ∷ ss) x.0 x.2 x.3 one.stated)
+    (All-get_or (λ s. has_ends h s ≡ true) (t ∷ ts) 0 t (omega arith) other.stated) x.4
+
+fourth : (a b c d e : Bool) → (a && (b && (c && (d && e)))) ≡ true → d ≡ true
+fourth a b c d e all = grind arith
+
+last : (a b c d e : Bool) → (a && (b && (c && (d && e)))) ≡ true → e ≡ true
+last a b c d e all = grind arith
+
+-- a rule whose hull is apart from another's neither includes it nor has something in common with it
+pub apart : (p q : Outline) → HasHull p → HasHull q → overlap p.hull q.hull ≡ false
+    → (includes_rule p.rule.now q.rule.now ≡ false) × (have_common p.rule.now q.rule.now ≡ false)
+apart p q one other not =
     let a = p.rule.now in
-    let b = q.rule.now in
-    let later = and_parts (lists_overlap a.clients b.clients) _ both in
-    let groups = and_parts (lists_overlap a.codes b.codes) _ later.1 in
-    let values = and_parts (lists_overlap a.groups b.groups) _ groups.1 in
-    hulls_met a.points b.points p.hull q.hull has other (and_parts (lists_overlap a.values b.values) _ values.1).1)
+    let b = q.rule.now in (
+      false_from_ne_true _ (λ has. true≢false (sym (hulls_included a.points b.points p.hull q.hull one other
+          (fourth (includes a.clients b.clients) (includes a.codes b.codes) (includes a.groups b.groups) (includes a.points b.points) _ has)) ∙ not)),
+      false_from_ne_true _ (λ has. true≢false (sym (hulls_met a.points b.points p.hull q.hull one other
+          (last (lists_overlap a.clients b.clients) (lists_overlap a.codes b.codes) (lists_overlap a.groups b.groups) _ _ has)) ∙ not)),
+    )
 
-spans_included : (a b : List Span) (g : Span) → HasAll g a → includes a b ≡ true → hull_includes (Some g) b ≡ true
-spans_included [] b g has both = absurd (true≢false has.0)
-spans_included (s ∷ ss) [] g has both = both
-spans_included (s ∷ ss) (t ∷ ts) g has both =
-    let found = Any-from_list_any (λ o. is_inside o t) (s ∷ ss) (and_parts (is_inside_some (s ∷ ss) t) _ both).0 in
-    let e = and_parts (int_le g.low found.1.low) (int_le found.1.high g.high) (at g found.1 (s ∷ ss) found.0 found.2 found.3 has.1) in
-    let f = and_parts (int_le found.1.low t.low) (int_le t.high found.1.high) found.4 in
-    and_from (int_le g.low t.low) (int_le t.high g.high) (grind (arith, ints, e.0, f.0)) (grind (arith, ints, e.1, f.1))
+-- of so many rules none includes this one, and these may have something in common with it
+pub record Looked (rules : List Rule) (rule : Rule) (i : ℕ) (found : List Rule) : Type 0 where
+  pub passed : (k : ℕ) → k < i → includes_rule (get_or rules k rule) rule ≡ false
+  pub common : found ≡ filter (λ r. have_common r rule) (take i rules)
 
-hull_included : (a b : List Span) (g : Option Span) → IfSome g (λ x. HasAll x a) → includes a b ≡ true → hull_includes g b ≡ true
-hull_included a b None has both = refl
-hull_included a b (Some g) has both = spans_included a b g has both
+-- the rule of an outline
+rule_at : (outlines : List Outline) (i : ℕ) (o : Outline) (d : Rule) → i < length outlines → o ≡ get_or outlines i o
+    → get_or (rules_of outlines) i d ≡ o.rule.now
+rule_at outlines i o d inside is = get_or-map (λ p. p.rule.now) outlines i o d inside ∙ ap (λ p. p.rule.now) (sym is)
 
-outlined_includes_is : (p : Outline) (rule : Rule) → HasHull p → outlined_includes p rule ≡ includes_rule p.rule.now rule
-outlined_includes_is p rule has = first_test (hull_includes p.hull rule.points) (includes_rule p.rule.now rule) (λ both.
-    let a = p.rule.now in
-    let codes = and_parts (includes a.clients rule.clients) _ both in
-    let groups = and_parts (includes a.codes rule.codes) _ codes.1 in
-    let points = and_parts (includes a.groups rule.groups) _ groups.1 in
-    hull_included a.points rule.points p.hull has (and_parts (includes a.points rule.points) _ points.1).0)
+one_more : (P : ℕ → Type 0) (n : ℕ) → ((k : ℕ) → k < n → P k) → P n → (k : ℕ) → k < n + 1 → P k
+one_more P n below here k lt = ⊎_elim (λ early. below k early) (λ late. subst P (omega (arith, late, lt)) here) (cases_lt k n)
 
-one_more_met : (a b : Bool) (p : Outline) (ps : List Outline) (rs : List Rule) → a ≡ b → rules_of ps ≡ rs
-    → rules_of (cond a (p ∷ ps) ps) ≡ cond b (p.rule.now ∷ rs) rs
-one_more_met true true p ps rs same rest = ap (λ l. p.rule.now ∷ l) rest
-one_more_met true false p ps rs same rest = absurd (true≢false same)
-one_more_met false true p ps rs same rest = absurd (true≢false (sym same))
-one_more_met false false p ps rs same rest = rest
-
--- the rules whose outlines meet that of a rule are those that may have something in common with it
-pub rules_met : (outlines : List Outline) (q : Outline) → All HasHull outlines → HasHull q
-    → rules_of (filter (λ p. outlines_meet p q) outlines) ≡ filter (λ r. have_common r q.rule.now) (rules_of outlines)
-rules_met [] q has other = refl
-rules_met (p ∷ ps) q has other =
-    one_more_met (outlines_meet p q) (have_common p.rule.now q.rule.now) p (filter (λ o. outlines_meet o q) ps)
-    (filter (λ r. have_common r q.rule.now) (rules_of ps)) (outlines_meet_is p q (All-head HasHull p ps has) other)
-    (rules_met ps q (All-tail HasHull p ps has) other)
-
-one_more_passed : (a b : Bool) (m n : ℕ) → a ≡ b → m ≡ n → cond (not a) (1 + m) 0 ≡ cond (not b) (1 + n) 0
-one_more_passed a b m n same rest = ap (λ x. cond (not x) (1 + m) 0) same ∙ ap (λ k. cond (not b) (1 + k) 0) rest
-
-passed : (outlines : List Outline) (rule : Rule) → All HasHull outlines
-    → position_or_len (λ o. outlined_includes o rule) outlines ≡ position_or_len (λ r. includes_rule r rule) (rules_of outlines)
-passed [] rule has = refl
-passed (p ∷ ps) rule has =
-    one_more_passed (outlined_includes p rule) (includes_rule p.rule.now rule) _ _
-    (outlined_includes_is p rule (All-head HasHull p ps has)) (passed ps rule (All-tail HasHull p ps has))
-
--- the first outline that includes a rule is that of the first rule that does
-pub first_included : (outlines : List Outline) (rule : Rule) → All HasHull outlines
-    → position (λ o. outlined_includes o rule) outlines ≡ position (λ r. includes_rule r rule) (rules_of outlines)
-first_included outlines rule has =
-    let place = position_or_len (λ r. includes_rule r rule) (rules_of outlines) in
-    ap (λ n. cond (nat_lt n (length outlines)) (Some n) None) (passed outlines rule has)
-    ∙ ap (λ k. cond (nat_lt place k) (Some place) None) (sym (length-map outlines (λ o. o.rule.now)))
-
--- the outlines before one are those of the rules before it, and it is of the rule there
-pub outlined_before : (outlines : List Outline) (rules : List Rule) (number : ℕ) → rules_of outlines ≡ rules
-    → rules_of (take number outlines) ≡ take number rules
-outlined_before outlines rules number same = sym (take-map (λ o. o.rule.now) number outlines) ∙ ap (take number) same
-
-pub outlined_at : (outlines : List Outline) (rules : List Rule) (number : ℕ) (o : Outline) → rules_of outlines ≡ rules → number < length outlines
-    → o ≡ get_or outlines number o → slice_get rules number ≡ Some o.rule.now
-outlined_at outlines rules number o same inside is =
-    let there : get_or rules number o.rule.now ≡ o.rule.now =
-    ap (λ xs. get_or xs number o.rule.now) (sym same) ∙ get_or-map (λ p. p.rule.now) outlines number o o.rule.now inside ∙ ap (λ p. p.rule.now) (sym is) in
+-- the next rule does not include it
+pub one_more_looked : (outlines : List Outline) (rule : Rule) (i : ℕ) (o : Outline) (found : List Rule) → i < length outlines
+    → o ≡ get_or outlines i o → includes_rule o.rule.now rule ≡ false → Looked (rules_of outlines) rule i found
+    → Looked (rules_of outlines) rule (i + 1) (found ++ filter (λ r. have_common r rule) (o.rule.now ∷ []))
+one_more_looked outlines rule i o found inside is not so =
+    let rules = rules_of outlines in
+    let here = rule_at outlines i o rule inside is in
     let long = length-map outlines (λ p. p.rule.now) in
-    let here = ap length same in
-    slice_get-get_or rules number o.rule.now (omega (arith, inside, long, here)) ∙ ap Some there
+    record {
+      passed = one_more (λ k. includes_rule (get_or rules k rule) rule ≡ false) i so.passed (rw here not);
+      common = ap (λ f. f ++ filter (λ r. have_common r rule) (o.rule.now ∷ [])) so.common
+          ∙ sym (filter_more (λ r. have_common r rule) rules i rule (omega (arith, inside, long))
+          ∙ ap (λ r. filter (λ q. have_common q rule) (take i rules) ++ cond (have_common r rule) (r ∷ []) []) here);
+    }
+
+-- nor has something in common with it
+pub one_more_apart : (outlines : List Outline) (p q : Outline) (i : ℕ) (found : List Rule) → i < length outlines → p ≡ get_or outlines i p
+    → HasHull p → HasHull q → overlap p.hull q.hull ≡ false → Looked (rules_of outlines) q.rule.now i found
+    → Looked (rules_of outlines) q.rule.now (i + 1) found
+one_more_apart outlines p q i found inside is one other not so =
+    let neither = apart p q one other not in
+    subst (Looked (rules_of outlines) q.rule.now (i + 1))
+    (ap (λ b. found ++ cond b (p.rule.now ∷ []) []) neither.1 ∙ append-nil found)
+    (one_more_looked outlines q.rule.now i p found inside is neither.0 so)
+
+-- the first that includes it
+pub first_told : (outlines : List Outline) (rule : Rule) (i : ℕ) (o : Outline) (found : List Rule) → i < length outlines
+    → o ≡ get_or outlines i o → includes_rule o.rule.now rule ≡ true → Looked (rules_of outlines) rule i found
+    → position (λ r. includes_rule r rule) (rules_of outlines) ≡ Some i
+first_told outlines rule i o found inside is has so =
+    let long = length-map outlines (λ p. p.rule.now) in
+    let here = position_or_len_is (λ r. includes_rule r rule) (rules_of outlines) i rule (omega (arith, inside, long)) so.passed
+    (λ _. rw (rule_at outlines i o rule inside is) has) in
+    grind (arith, nat_tests)
+
+-- none does
+pub none_told : (outlines : List Outline) (rule : Rule) (i : ℕ) (found : List Rule) → length outlines ≤ i
+    → Looked (rules_of outlines) rule i found
+    → (position (λ r. includes_rule r rule) (rules_of outlines) ≡ None) × (found ≡ filter (λ r. have_common r rule) (rules_of outlines))
+none_told outlines rule i found all so =
+    let rules = rules_of outlines in
+    let end : length rules ≤ i = omega (arith, all, length-map outlines (λ p. p.rule.now)) in
+    let passed = position_or_len_is (λ r. includes_rule r rule) rules (length rules) rule (omega arith)
+    (λ k early. so.passed k (omega (arith, end, early))) (λ none. absurd (omega (arith, none))) in
+    (grind (arith, nat_tests), so.common ∙ ap (filter (λ r. have_common r rule)) (take_all i rules end))
 
 -- the outline of a number has its hull
-pub hull_at : (outlines : List Outline) (number : ℕ) (o : Outline) → number < length outlines → o ≡ get_or outlines number o → All HasHull outlines
-    → HasHull o
+pub hull_at : (outlines : List Outline) (number : ℕ) (o : Outline) → number < length outlines → o ≡ get_or outlines number o
+    → All HasHull outlines → HasHull o
 hull_at outlines number o inside is all = subst HasHull (sym is) (All-get_or HasHull outlines number o inside all)
 
--- what is found among the outlines before one is found among the rules before it
-pub found_before : (outlines : List Outline) (number : ℕ) (rule : Rule) (found : Option ℕ) → All HasHull outlines
-    → found ≡ position (λ o. outlined_includes o rule) (take number outlines)
-    → found ≡ position (λ r. includes_rule r rule) (take number (rules_of outlines))
-found_before outlines number rule found has is =
-    is ∙ first_included (take number outlines) rule (All-take HasHull number outlines has)
-    ∙ ap (position (λ r. includes_rule r rule)) (outlined_before outlines (rules_of outlines) number refl)
-
--- the rules that outlines lend
-pub lent_rules : (outlines : List Outline) → map (λ r. r.now) (map (λ o. o.rule) outlines) ≡ rules_of outlines
-lent_rules [] = refl
-lent_rules (o ∷ os) = ap (λ rs. o.rule.now ∷ rs) (lent_rules os)
-
--- a number of a rule is one of an outline
-pub is_outlined : (outlines : List Outline) (rules : List Rule) (number : ℕ) → rules_of outlines ≡ rules → number < length rules
-    → number < length outlines
-is_outlined outlines rules number same inside =
-    let long = length-map outlines (λ o. o.rule.now) in
-    let as_many = ap length same in
-    omega (arith, inside, long, as_many)
+-- what a look at the outlines before one tells is so of the rules before it
+pub told_before : (outlines : List Outline) (number : ℕ) (o : Outline) (earlier : Earlier) → number < length outlines
+    → o ≡ get_or outlines number o → Tells (rules_of (take number outlines)) o.rule.now earlier → IsTold (rules_of outlines) number earlier
+told_before outlines number o earlier inside is tells =
+    told (rules_of outlines) number o.rule.now earlier (omega (arith, inside, length-map outlines (λ p. p.rule.now)))
+    (rule_at outlines number o o.rule.now inside is)
+    (subst (λ rs. Tells rs o.rule.now earlier) (sym (take-map (λ p. p.rule.now) number outlines)) tells)
+  where
+    told : (rules : List Rule) (number : ℕ) (own : Rule) (earlier : Earlier) → number < length rules → get_or rules number own ≡ own
+        → Tells (take number rules) own earlier → IsTold rules number earlier
+    told rules number own (Covering first) inside is tells =
+        let place = position-Some (λ r. includes_rule r own) (take number rules) first own tells in (
+          omega (arith, place.0, length-take number rules),
+          never_decides rules number own (Some first) inside (sym is) (sym tells),
+          λ rule there. rw (sym (get_or_from_slice_get rules number rule own there) ∙ is) tells,
+        )
+    told rules number own (Common others) inside is tells =
+        λ rule there.
+        subst (λ r. Tells (take number rules) r (Common others)) (sym is ∙ get_or_from_slice_get rules number rule own there) tells

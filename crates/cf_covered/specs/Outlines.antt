@@ -1,40 +1,44 @@
--- Beside the proof: what a look at many rules needs of each: `HasHull`, a span that has all points that a rule states. Warnings go by it.
-use Rattle.std.specs.Prelude.{◌≡◌, Bool, true, false, ◌&&◌, List, [], ◌∷◌, Option, Some, None, IfSome, All, map}
+-- Beside the proof: what a look at the rules before one needs of each, `HasHull`, and what it tells, `IsTold`. Warnings go by it.
+use Rattle.std.specs.Prelude.{◌≡◌, ℕ, ◌<◌, Bool, true, ◌&&◌, List, Some, None, All, filter, map, position, slice_get, take}
 use Rattle.cf_policy.specs.declared.policy.Rule.{Rule}
 use Rattle.cf_policy.specs.declared.policy.Span.{Span}
-use Rattle.cf_policy.specs.Verdict.{is_empty}
+use Rattle.cf_policy.specs.Verdict.{covers, is_empty}
+use Rattle.cf_covered.specs.declared.including.Earlier.{Earlier}
+use Rattle.cf_covered.specs.declared.including.Earlier.TheVariants.{Covering, Common}
 use Rattle.cf_covered.specs.declared.outline.Outline.{Outline}
+use Rattle.cf_covered.specs.declared.outline.TheConstants.{EVERY_NUMBER}
 use Rattle.cf_covered.specs.Common.{have_common, overlap}
-use Rattle.cf_covered.specs.Including.{includes_rule, is_inside}
+use Rattle.cf_covered.specs.Including.{NeverDecides, first_including, includes_rule}
 
--- there are spans, and each is inside this one
-abbrev pub HasAll : Span → List Span → Type 0
-HasAll hull spans = (is_empty spans ≡ false) × All (λ s. is_inside hull s ≡ true) spans
+-- both ends of the second span are in the first
+abbrev pub has_ends : Span → Span → Bool
+has_ends hull s = covers hull s.low && covers hull s.high
 
--- an outline's span, where it has one, has all points that its rule states
+-- it has both ends of each span, or every number where there are no spans
+pub record IsHull (hull : Span) (spans : List Span) : Type 0 where
+  pub stated : All (λ s. has_ends hull s ≡ true) spans
+  pub unstated : is_empty spans ≡ true → hull ≡ EVERY_NUMBER
+  pub within : overlap EVERY_NUMBER hull ≡ true
+
+-- an outline's span is a hull of the points that its rule states
 abbrev pub HasHull : Outline → Type 0
-HasHull o = IfSome o.hull (λ h. HasAll h o.rule.now.points)
+HasHull o = IsHull o.hull o.rule.now.points
 
 -- the rules of outlines
 abbrev pub rules_of : List Outline → List Rule
 rules_of outlines = map (λ o. o.rule.now) outlines
 
--- two spans have a number in common, or one of them is not told
-abbrev pub hulls_meet : Option Span → Option Span → Bool
-hulls_meet None other = true
-hulls_meet (Some a) None = true
-hulls_meet (Some a) (Some b) = overlap a b
+-- the first of some rules that includes this one; or none does, and these are all that may have something in common with it
+abbrev pub Tells : List Rule → Rule → Earlier → Type 0
+Tells rules rule (Covering first) = position (λ r. includes_rule r rule) rules ≡ Some first
+Tells rules rule (Common others) =
+    (position (λ r. includes_rule r rule) rules ≡ None) × (map (λ r. r.now) others.items ≡ filter (λ r. have_common r rule) rules)
 
--- the first of some spans is inside this one, or this one is not told
-abbrev pub hull_includes : Option Span → List Span → Bool
-hull_includes None spans = true
-hull_includes (Some hull) [] = false
-hull_includes (Some hull) (s ∷ more) = is_inside hull s
-
--- a rule includes another, by its outline first
-abbrev pub outlined_includes : Outline → Rule → Bool
-outlined_includes o rule = hull_includes o.hull rule.points && includes_rule o.rule.now rule
-
--- two rules have something in common, by their outlines first
-abbrev pub outlines_meet : Outline → Outline → Bool
-outlines_meet o p = hulls_meet o.hull p.hull && have_common o.rule.now p.rule.now
+-- so it is of the rules before that of a number, which never decides where one of them includes it
+abbrev pub IsTold : List Rule → ℕ → Earlier → Type 0
+IsTold rules number (Covering first) =
+    (first < number) × NeverDecides rules number
+    × ((rule : Rule) → slice_get rules number ≡ Some rule → first_including rules number rule ≡ Some first)
+IsTold rules number (Common others) =
+    (rule : Rule) → slice_get rules number ≡ Some rule
+    → (first_including rules number rule ≡ None) × (map (λ r. r.now) others.items ≡ filter (λ r. have_common r rule) (take number rules))

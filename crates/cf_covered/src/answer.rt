@@ -1,12 +1,10 @@
 //! Rules that decide nothing that a command can have.
-ghost use Rattle.std.specs.Prelude.{◌≡◌, ◌<◌, ℕ, All, map, filter, length, slice_get, take, Some, IfOk, IfSome, true, [], ◌∷◌};
+ghost use Rattle.std.specs.Prelude.{◌≡◌, ◌<◌, ℕ, map, filter, length, slice_get, take, Some, IfOk, IfSome, true, [], ◌∷◌};
 ghost use Rattle.cf_policy.specs.declared.policy.Rule.{Rule};
 ghost use Rattle.cf_covered.specs.Common.{have_common};
 ghost use Rattle.cf_covered.specs.Covered.{DecidesNoCommand, IsCover, HaveAllOf};
-ghost use Rattle.cf_covered.specs.Outlines.{HasHull, outlines_meet, rules_of};
 
 use crate::common::have_common;
-use crate::outline::{Outline, outlines_meet};
 use crate::search::{Search, have_all_of};
 use cf_policy::{Asset, Protocol, Rule};
 use std::alloc::{AllocError, Global};
@@ -24,30 +22,24 @@ pub enum Cover {
 }
 
 /// What stands before the rule of a number, from 0, and has every act of a command that the rule has, so that the rule decides
-/// none. Nothing is said where the rule decides some, or where too much would have to be looked at. This project's own.
+/// none, given the rules before it that may have an act in common with it. Nothing is said where the rule decides some, or where
+/// too much would have to be looked at. This project's own.
 pub fn cover_of(
     alloc: Global,
     asset: &Asset,
-    outlines: &[Outline<'_>],
+    others: &[&Rule],
     number: usize,
 ) -> Result<Option<Cover>, AllocError>
     requires inside { number < length asset.now.rules }
-    requires rules { rules_of outlines.now ≡ asset.now.rules }
-    requires hulls { All HasHull outlines.now }
+    requires common { (rule : Rule) → slice_get asset.now.rules number ≡ Some rule
+        → map (λ r. r.now) others.now ≡ filter (λ r. have_common r rule) (take number asset.now.rules) }
     ensures never { IfOk result (λ found. IfSome found (λ _. DecidesNoCommand asset.now number)) }
     ensures covers { (rule : Rule) → slice_get asset.now.rules number ≡ Some rule
         → IfOk result (λ found. IfSome found (IsCover asset.now.protocol (take number asset.now.rules) rule)) }
 {
     let rules = asset.rules.as_slice();
-    let outline = &outlines[number];
-    let others = with_common(alloc, &outlines[..number], outline)?;
-    cover_among(
-        alloc,
-        asset.protocol,
-        &rules[..number],
-        others.as_slice(),
-        outline.rule,
-    )
+    let rule = &rules[number];
+    cover_among(alloc, asset.protocol, &rules[..number], others, rule)
 }
 
 /// What of the rules before a rule has all that it has, given those of them that may have an act in common with it.
@@ -70,21 +62,6 @@ fn cover_among(
         Some(number) => Ok(Some(Cover::Rule(number))),
         None => Ok(Some(Cover::Rules)),
     }
-}
-
-/// The rules that may have an act in common with a rule.
-fn with_common<'a>(
-    alloc: Global,
-    earlier: &[Outline<'a>],
-    rule: &Outline<'_>,
-) -> Result<Vec<&'a Rule>, AllocError>
-    ensures { IfOk result (λ left. left.items ≡ map (λ o. o.rule) (filter (λ o. outlines_meet o rule.now) earlier.now)) }
-{
-    earlier
-        .iter()
-        .filter(|other| outlines_meet(other, rule))
-        .map(|other| other.rule)
-        .collect(alloc)
 }
 
 /// The number of the first rule that has all that a later one has.

@@ -1,37 +1,79 @@
-//! Rules that one earlier rule covers by its lists.
-ghost use Rattle.std.specs.Prelude.{◌≡◌, ◌<◌, All, IfSome, Some, length, position, slice_get};
-ghost use Rattle.cf_policy.specs.declared.policy.Rule.{Rule};
+//! Rules that one earlier rule covers by its lists, and those that it may have an act in common with.
+ghost use Rattle.std.specs.Prelude.{◌≡◌, ◌<◌, ◌++◌, [], ◌∷◌, All, IfOk, OnOk, filter, length, map};
 ghost use Rattle.std.specs.List.{list_all, list_any};
-ghost use Rattle.cf_covered.specs.Including.{NeverDecides, first_including, includes, includes_rule, is_inside, is_inside_some};
-ghost use Rattle.cf_covered.specs.Outlines.{HasHull, outlined_includes, rules_of};
+ghost use Rattle.cf_covered.specs.Common.{have_common};
+ghost use Rattle.cf_covered.specs.Including.{includes, includes_rule, is_inside, is_inside_some};
+ghost use Rattle.cf_covered.specs.Outlines.{HasHull, IsTold, Tells, rules_of};
 
-use crate::outline::{Outline, outlined_includes};
+use crate::common::{have_common, overlap};
+use crate::outline::Outline;
 use cf_policy::{Items, Rule, Span};
+use std::alloc::{AllocError, Global};
 
-/// The first rule that covers the rule of a number, from 0, and stands before it: each list that it states has each span of
-/// the later rule's list inside one span. So the later rule never decides. Rules that cover it only together are not found.
-pub fn covering(outlines: &[Outline<'_>], number: usize) -> Option<usize>
-    requires inside { number < length outlines.now }
-    requires hulls { All HasHull outlines.now }
-    ensures before { IfSome result (λ earlier. earlier < number) }
-    ensures never { IfSome result (λ _. NeverDecides (rules_of outlines.now) number) }
-    ensures first { (rule : Rule) → slice_get (rules_of outlines.now) number ≡ Some rule
-        → result ≡ first_including (rules_of outlines.now) number rule }
-{
-    let outline = &outlines[number];
-    first_covering(&outlines[..number], outline.rule)
+/// What the rules before a rule are to it.
+#[derive(Drop)]
+pub enum Earlier<'a> {
+    /// The first that covers it, by its number from 0: each list that it states has each span of the rule's list inside one span.
+    Covering(usize),
+    /// No rule alone covers it so. These may have an act in common with it, and no others have.
+    Common(Vec<&'a Rule>),
 }
 
-fn first_covering(earlier: &[Outline<'_>], rule: &Rule) -> Option<usize>
-    ensures { result ≡ position (λ o. outlined_includes o rule.now) earlier.now }
+/// What the rules before the rule of a number, from 0, are to it. Where one covers it, it never decides. Rules that cover it only
+/// together are not found here.
+pub fn covering<'a>(
+    alloc: Global,
+    outlines: &[Outline<'a>],
+    number: usize,
+) -> Result<Earlier<'a>, AllocError>
+    requires inside { number < length outlines.now }
+    requires hulls { All HasHull outlines.now }
+    ensures told { IfOk result (IsTold (rules_of outlines.now) number) }
 {
-    earlier
-        .iter()
-        .position(|first| outlined_includes(first, rule))
+    look(alloc, &outlines[..number], &outlines[number])
+}
+
+/// Whose hulls are apart from that of the rule neither cover it nor have an act in common with it, so nothing else is read of them.
+fn look<'a>(
+    alloc: Global,
+    earlier: &[Outline<'a>],
+    outline: &Outline<'_>,
+) -> Result<Earlier<'a>, AllocError>
+    requires hulls { All HasHull earlier.now }
+    requires hull { HasHull outline.now }
+    ensures { IfOk result (Tells (rules_of earlier.now) outline.now.rule.now) }
+{
+    let hull = outline.hull;
+    let mut common = Vec::new(alloc);
+    for number in 0..earlier.len() {
+        let other = &earlier[number];
+        if overlap(&other.hull, &hull) {
+            if includes_rule(other.rule, outline.rule) {
+                return Ok(Earlier::Covering(number));
+            }
+            push_common(&mut common, other.rule, outline.rule)?;
+        }
+    }
+    Ok(Earlier::Common(common))
+}
+
+/// Adds a rule if it may have an act in common with another.
+fn push_common<'a>(
+    common: &mut Vec<&'a Rule>,
+    other: &'a Rule,
+    rule: &Rule,
+) -> Result<(), AllocError>
+    ensures { OnOk result (map (λ r. r.now) common.new.items
+        ≡ map (λ r. r.now) common.old.items ++ filter (λ r. have_common r rule.now) (other.now ∷ [])) }
+{
+    if have_common(other, rule) {
+        common.push(other)?;
+    }
+    Ok(())
 }
 
 /// Points are looked at first, as rules of a code mostly differ there.
-pub(crate) fn includes_rule(outer: &Rule, inner: &Rule) -> bool
+fn includes_rule(outer: &Rule, inner: &Rule) -> bool
     ensures { result ≡ includes_rule outer.now inner.now }
 {
     if !includes(&outer.points, &inner.points) {
@@ -63,7 +105,7 @@ fn is_inside_some(outers: &[Span], inner: &Span) -> bool
     outers.iter().any(|outer| is_inside(outer, inner))
 }
 
-pub(crate) fn is_inside(outer: &Span, inner: &Span) -> bool
+fn is_inside(outer: &Span, inner: &Span) -> bool
     ensures { result ≡ is_inside outer.now inner.now }
 {
     outer.low <= inner.low && inner.high <= outer.high

@@ -17,7 +17,7 @@ mod spans;
 pub use answer::{Cover, cover_of};
 pub use codes::code_end;
 pub use common::{have_common, some_overlap};
-pub use including::covering;
+pub use including::{Earlier, covering};
 pub use outline::{Outline, outlines};
 pub use points::highest_point;
 pub use slips::{Slip, likely_slip};

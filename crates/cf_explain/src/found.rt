@@ -1,5 +1,5 @@
 //! What is found of rules that decide nothing, or less than they seem to.
-ghost use Rattle.std.specs.Prelude.{◌≡◌, ℕ, ◌<◌, [], ◌++◌, All, IfOk, IfSome, IsTrue, None, OnOk, Some, false, is_none, length};
+ghost use Rattle.std.specs.Prelude.{◌≡◌, ℕ, ◌<◌, [], ◌++◌, All, IfOk, IfSome, IsTrue, List, None, OnOk, Some, false, is_none, length};
 ghost use Rattle.std.specs.Prelude.{pos, slice_get, true};
 ghost use Rattle.std.specs.List.{list_any};
 ghost use Rattle.cf_policy.specs.declared.policy.Asset.{Asset};
@@ -10,11 +10,11 @@ ghost use Rattle.cf_explain.specs.Meets.{meets};
 ghost use Rattle.cf_policy.specs.Within.{IsRuleWithin};
 ghost use Rattle.cf_explain.specs.Reads.{HasReads, HasSomeRead, NamesReads};
 ghost use Rattle.cf_covered.specs.Including.{first_including};
-ghost use Rattle.cf_covered.specs.Outlines.{HasHull, rules_of};
+ghost use Rattle.cf_covered.specs.Outlines.{IsTold};
 ghost use Rattle.cf_explain.specs.Rules.{Holds, IsMet, IsSound, NeverHas, NeverMeets, WantsValue, listed};
 
 use crate::unmet::{Unmet, why_unmet};
-use cf_covered::{Outline, code_end, covering};
+use cf_covered::{Earlier, code_end};
 use cf_policy::{Asset, Protocol, Rule, takes};
 use std::alloc::{AllocError, Global};
 
@@ -39,12 +39,11 @@ pub enum What {
 pub fn findings(
     alloc: Global,
     asset: &Asset,
-    outlines: &[Outline<'_>],
+    earlier: &Earlier<'_>,
     number: usize,
 ) -> Result<Vec<What>, AllocError>
     requires inside { number < length asset.now.rules }
-    requires rules { rules_of outlines.now ≡ asset.now.rules }
-    requires hulls { All HasHull outlines.now }
+    requires earlier { IsTold asset.now.rules number earlier.now }
     ensures so { (rule : Rule) → slice_get asset.now.rules number ≡ Some rule
         → IfOk result (λ found. All (Holds asset.now number rule) found.items) }
     ensures nothing { (rule : Rule) → slice_get asset.now.rules number ≡ Some rule
@@ -53,7 +52,7 @@ pub fn findings(
     let rule = &asset.rules.as_slice()[number];
     match whole_finding(asset.protocol, rule) {
         Some(what) => Ok(vec![in alloc; what]?),
-        None => partial_findings(alloc, asset, outlines, number, rule),
+        None => partial_findings(alloc, asset, earlier, number, rule),
     }
 }
 
@@ -81,20 +80,18 @@ fn whole_finding(protocol: Protocol, rule: &Rule) -> Option<What>
 fn partial_findings(
     alloc: Global,
     asset: &Asset,
-    outlines: &[Outline<'_>],
+    earlier: &Earlier<'_>,
     number: usize,
     rule: &Rule,
 ) -> Result<Vec<What>, AllocError>
-    requires inside { number < length asset.now.rules }
-    requires rules { rules_of outlines.now ≡ asset.now.rules }
-    requires hulls { All HasHull outlines.now }
+    requires earlier { IsTold asset.now.rules number earlier.now }
     requires rule { slice_get asset.now.rules number ≡ Some rule.now }
     ensures so { IfOk result (λ found. All (Holds asset.now number rule.now) found.items) }
     ensures nothing { IfOk result (λ found. found.items ≡ [] → IsSound asset.now number rule.now) }
 {
     let mut found = code_findings(alloc, asset, number, rule)?;
     put(&mut found, reads_finding(asset.protocol, rule))?;
-    put(&mut found, covered_finding(outlines, number))?;
+    put(&mut found, covered_finding(earlier))?;
     Ok(found)
 }
 
@@ -108,17 +105,17 @@ fn put(found: &mut Vec<What>, what: Option<What>) -> Result<(), AllocError>
     Ok(())
 }
 
-/// That an earlier rule covers the rule of a number.
-fn covered_finding(outlines: &[Outline<'_>], number: usize) -> Option<What>
-    requires inside { number < length outlines.now }
-    requires hulls { All HasHull outlines.now }
-    ensures so { IfSome result (λ what. (asset : Asset) (rule : Rule) → rules_of outlines.now ≡ asset.rules
+/// That an earlier rule covers a rule.
+fn covered_finding(earlier: &Earlier<'_>) -> Option<What>
+    ensures so { IfSome result (λ what. (asset : Asset) (number : ℕ) (rule : Rule) → IsTold asset.rules number earlier.now
         → Holds asset number rule what) }
-    ensures none { (rule : Rule) → slice_get (rules_of outlines.now) number ≡ Some rule → is_none result ≡ true
-        → first_including (rules_of outlines.now) number rule ≡ None }
+    ensures none { is_none result ≡ true → (rules : List Rule) (number : ℕ) (rule : Rule) → IsTold rules number earlier.now
+        → slice_get rules number ≡ Some rule → first_including rules number rule ≡ None }
 {
-    let earlier = covering(outlines, number)?;
-    Some(What::Covered(earlier))
+    match earlier {
+        Earlier::Covering(first) => Some(What::Covered(*first)),
+        Earlier::Common(_) => None,
+    }
 }
 
 /// The codes of a rule that no command brings.

@@ -1,10 +1,11 @@
 //! What is warned of rules.
-ghost use Rattle.std.specs.Prelude.{◌≡◌, ◌<◌, All, length};
-ghost use Rattle.cf_covered.specs.Outlines.{HasHull, rules_of};
+ghost use Rattle.std.specs.Prelude.{◌<◌, length};
+ghost use Rattle.cf_covered.specs.Outlines.{IsTold};
 
 use crate::found::{What, findings};
 use cf_covered::{
-    Cover, Outline, Slip, code_end, cover_of, have_common, highest_point, likely_slip, outlines,
+    Cover, Earlier, Slip, code_end, cover_of, covering, have_common, highest_point, likely_slip,
+    outlines,
 };
 use cf_policy::{Action, Asset, Policy, Rule, takes};
 use std::alloc::{AllocError, Global};
@@ -62,8 +63,9 @@ fn gather_asset(
 ) -> Result<(), AllocError> {
     let outlines = outlines(alloc, asset.rules.as_slice())?;
     for rule in 0..asset.rules.len() {
-        let found = findings(alloc, asset, outlines.as_slice(), rule)?;
-        let others = beside(alloc, asset, outlines.as_slice(), rule, found.as_slice())?;
+        let earlier = covering(alloc, outlines.as_slice(), rule)?;
+        let found = findings(alloc, asset, &earlier, rule)?;
+        let others = beside(alloc, asset, &earlier, rule, found.as_slice())?;
         for what in found.as_slice() {
             put(all, number, rule, Some(Warning::Found(*what)))?;
         }
@@ -90,19 +92,19 @@ fn put(
 fn beside(
     alloc: Global,
     asset: &Asset,
-    outlines: &[Outline<'_>],
+    earlier: &Earlier<'_>,
     number: usize,
     found: &[What],
 ) -> Result<[Option<Warning>; 3], AllocError>
     requires inside { number < length asset.now.rules }
-    requires rules { rules_of outlines.now ≡ asset.now.rules }
-    requires hulls { All HasHull outlines.now }
+    requires earlier { IsTold asset.now.rules number earlier.now }
 {
-    if found.iter().any(|what| is_whole(*what)) {
-        return Ok([None, None, None]);
-    }
+    let others = match earlier {
+        Earlier::Common(others) if !found.iter().any(|what| is_never(*what)) => others,
+        _ => return Ok([None, None, None]),
+    };
     let rule = &asset.rules.as_slice()[number];
-    let behind = cover_of(alloc, asset, outlines, number)?;
+    let behind = cover_of(alloc, asset, others.as_slice(), number)?;
     Ok([
         behind.map(Warning::Behind),
         points_told(asset, rule),
@@ -110,9 +112,9 @@ fn beside(
     ])
 }
 
-/// Whether what is found says that a rule has no act of a command, or none that no earlier rule has.
-fn is_whole(what: What) -> bool {
-    matches!(what, What::Never(_, _) | What::Covered(_))
+/// Whether what is found says that a rule has no act of a command.
+fn is_never(what: What) -> bool {
+    matches!(what, What::Never(_, _))
 }
 
 /// That a rule names points which no act of a command with one of its codes has, beside some that they have.
