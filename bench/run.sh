@@ -34,7 +34,7 @@ class Short(Capture):
         self.at += 10
 
 
-def capture(name, sessions):
+def capture(name, sessions, closes=True):
     into = Short()
     opened = [Session(into, ((10, 0, 0, 5), 49152 + k), ((10, 0, 0, 9), 502), 1000, 5000) for k in range(sessions)]
     for session in opened:
@@ -47,6 +47,8 @@ def capture(name, sessions):
                        session.client_number + 1 + session.to_controller, PSH | ACK, write))
         session.of_controller += len(write)
         session.to_client += len(write)
+    for session in opened if closes else []:
+        session.close()
     path = os.path.join(work, name)
     with open(path, "wb") as file:
         file.writelines(into.records)
@@ -91,21 +93,23 @@ def memory(path):
     return f"{int(told.stderr.split()[-1]):,} KiB"
 
 
-one, many = capture("one", 1), capture("many", 200)
+one, many, unclosed = capture("one", 1), capture("many", 200), capture("unclosed", 1, closes=False)
 peers = {"tcpdump": ["tcpdump", "-n", "-r", one],
          "suricata": ["suricata", "-r", one, "-l", work, "--set", "app-layer.protocols.modbus.enabled=yes"]}
 for name in [name for name in peers if not shutil.which(name)]:
     print(f"{name} is missing here, and was left out")
     del peers[name]
-ours, spread, others = [], [], {name: [] for name in peers}
+ours, spread, again, others = [], [], [], {name: [] for name in peers}
 for _ in range(5):
     ours.append(run(one))
     for name, words in peers.items():
         others[name].append(took(words))
     spread.append(run(many))
+    again.append(run(unclosed))
 middle = said("run", ours)
 print(f"         for {trips:,} round trips, {os.path.getsize(one):,} octets, {memory(one)}")
 for name, times in others.items():
     print(f"         run takes {middle / said(name, times):.2f} times the processor time of {name}")
 print(f"         with 200 open sessions {said('run', spread) / middle:.2f} times that of one session, {memory(many)}")
+print(f"         of a session that never closes, of which CAPTURE and OUT are read again, {said('run', again) / middle:.2f} times")
 PY

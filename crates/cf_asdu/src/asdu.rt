@@ -8,8 +8,8 @@ ghost use Rattle.cf_asdu.specs.declared.element.Element.{Element};
 use crate::element::{Element, element_of};
 use cf_view::{Reason, View};
 
-/// The fewest octets of an ASDU with an information object.
-const SHORTEST: usize = 9;
+/// The fewest octets of an ASDU with an information object. IEC 60870-5-101, section 7.2, in the sizes of IEC 60870-5-104.
+pub const SHORTEST: usize = 9;
 
 /// SQ, in the octet of the number: the objects follow each other from one address on.
 const SEQUENCE: u8 = 0x80;

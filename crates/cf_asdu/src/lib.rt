@@ -7,5 +7,5 @@ mod element;
 mod reply;
 
 pub use acts::{act_at, act_count};
-pub use asdu::{Asdu, AsduRefusal, no_octets_are_two_asdus, read_asdu, station_of};
+pub use asdu::{Asdu, AsduRefusal, SHORTEST, no_octets_are_two_asdus, read_asdu, station_of};
 pub use reply::mirror;

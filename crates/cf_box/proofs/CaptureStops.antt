@@ -1,21 +1,27 @@
 -- The answer of a listing, as the answer of the command.
-use Rattle.std.proofs.Common.{◌≡◌, ◌≢◌, ℕ, List, Result, Ok, Err, refl, ap, subst, inl, inr}
+use Rattle.std.proofs.Common.{◌≡◌, ◌≢◌, ℕ, List, Option, Result, Ok, Err, refl, ap, subst, inl, inr, arith}
 use Rattle.cf_outside.specs.Files.{Content}
-use Rattle.cf_run.specs.Capture.{AtPlace, Large, LastPlace, Record, Refused, TooLong}
-use Rattle.cf_run.specs.Reader.{HasForm, OpensAs}
-use Rattle.cf_run.specs.declared.BlockRefusal.{BlockRefusal}
-use Rattle.cf_run.specs.declared.BlockRefusal.TheVariants as block
-use Rattle.cf_run.specs.declared.Form.{Form}
-use Rattle.cf_run.specs.declared.FormRefusal.{FormRefusal}
-use Rattle.cf_run.specs.declared.FormRefusal.TheVariants as form
-use Rattle.cf_run.specs.declared.record_reader.OpenFault.{OpenFault}
-use Rattle.cf_run.specs.declared.record_reader.OpenFault.TheVariants as opened
-use Rattle.cf_watch.specs.Watch.{EndsAt as IsWatchedUpTo}
+use Rattle.cf_policy.specs.declared.Asset.{Asset}
+use Rattle.cf_records.specs.Capture.{AtPlace, Large, LastPlace, Record, Refused, TooLong}
+use Rattle.cf_records.specs.Reader.{HasForm, OpensAs}
+use Rattle.cf_records.specs.declared.BlockRefusal.{BlockRefusal}
+use Rattle.cf_records.specs.declared.BlockRefusal.TheVariants as block
+use Rattle.cf_records.specs.declared.Form.{Form}
+use Rattle.cf_records.specs.declared.FormRefusal.{FormRefusal}
+use Rattle.cf_records.specs.declared.FormRefusal.TheVariants as form
+use Rattle.cf_records.specs.declared.record_reader.OpenFault.{OpenFault}
+use Rattle.cf_records.specs.declared.record_reader.OpenFault.TheVariants as opened
+use Rattle.cf_watch.specs.Watch.{EndsAt as IsWatchedUpTo, WatchesAs}
+use Rattle.cf_watch.specs.declared.WatchFault.{WatchFault}
+use Rattle.cf_watch.specs.declared.WatchFault.TheVariants as fault
+use Rattle.cf_watch.specs.declared.WatchRefusal.TheVariants as watch
 use Rattle.cf_box.specs.Captures.{EndsAt, EndsSomewhere, Refuses, block_refusal, form_refusal}
-use Rattle.cf_box.specs.Command.{Packets}
-use Rattle.cf_box.specs.Ends.{Meets, PassesPolicy, StopsFor}
-use Rattle.cf_box.specs.Outside.{Outside, ReadFailed}
-use Rattle.cf_box.specs.Packets.{HasListedRecords, ListsFile, open_stop}
+use Rattle.cf_words.specs.Command.{Command, Packets}
+use Rattle.cf_box.specs.Ends.{CutsCapture, Meets, PassesPolicy, RefusesCapture, StopsFor}
+use Rattle.cf_box.specs.Outside.{Outside, ReadFailed, ReadsOnly}
+use Rattle.cf_box.specs.Packets.{HasListed, HasListedRecords, ListsFile, open_stop}
+use Rattle.cf_box.specs.Watching.{WatchCuts, WatchRefuses, fault_stop}
+use Rattle.cf_box.specs.declared.ending.CaptureRefusal.{CaptureRefusal}
 use Rattle.cf_box.specs.declared.ending.CaptureRefusal.TheVariants as refusal
 use Rattle.cf_box.specs.declared.ending.Done.{Done}
 use Rattle.cf_box.specs.declared.ending.Stop.{Stop}
@@ -23,29 +29,35 @@ use Rattle.cf_box.specs.declared.ending.Stop.TheVariants as stop
 
 -- a header that is refused refuses the capture, and so does a block
 pub form_refuses : (Has : Content → Form → List Record → LastPlace → Type 0) (file : Content) (of : FormRefusal) → HasForm file (Err of) → Refuses Has file (form_refusal of)
-form_refuses Has file form.Short h = h
-form_refuses Has file form.Magic h = h
-form_refuses Has file form.Version h = h
-form_refuses Has file form.LinkType h = h
 form_refuses Has file form.Section h = inl h
+form_refuses Has file _ h = h
 
 pub block_refuses : (Has : Content → Form → List Record → LastPlace → Type 0) (file : Content) (of : BlockRefusal) → EndsSomewhere Has file (Refused of) → Refuses Has file (block_refusal of)
-block_refuses Has file block.Block h = h
 block_refuses Has file block.Section h = inr h
-block_refuses Has file block.Interface h = h
-block_refuses Has file block.Resolution h = h
+block_refuses Has file _ h = h
 
 -- where a watched capture ends, a listing ends too
 pub listed : (file : Content) (found : AtPlace) (place : ℕ) → IsWatchedUpTo file found place → EndsAt HasListedRecords file found place
 listed file found place e = record { form = e.form; has_form = e.has_form; records = e.records; are_records = e.are_records }
 
--- by no moment
-no_clock : (of : FormRefusal) → form_refusal of ≢ refusal.Clock
-no_clock form.Short e = cc e
-no_clock form.Magic e = cc e
-no_clock form.Version e = cc e
-no_clock form.LinkType e = cc e
-no_clock form.Section e = cc e
+-- where the records of a listing end so
+pub listed_to : {file : Content} {old now : Option (List ℕ)} {failed : Type 0} {answer : Result Done Stop} (found : AtPlace) (l : HasListed file old now failed answer) → l.last.found ≡ found →
+    EndsAt HasListedRecords file found l.last.place
+listed_to {file} found l is = record {
+  form = l.form;
+  has_form = l.has_form;
+  records = l.records;
+  are_records = subst (λ f. HasListedRecords file l.form l.records (record { place = l.last.place; found = f })) is l.are_records;
+}
+
+-- by no moment, and by no place
+form_apart : (of : FormRefusal) → (form_refusal of ≢ refusal.Clock) × (form_refusal of ≢ refusal.Large)
+form_apart form.Short = ((λ e. cc e), (λ e. cc e))
+form_apart _ = ((λ e. cc e), (λ e. cc e))
+
+block_apart : (of : BlockRefusal) → (block_refusal of ≢ refusal.Clock) × (block_refusal of ≢ refusal.Large)
+block_apart block.Block = ((λ e. cc e), (λ e. cc e))
+block_apart _ = ((λ e. cc e), (λ e. cc e))
 
 module _ (file : List ℕ) (before after : Outside) (content : after.files.content ≡ before.files.content) (pair : after.pair ≡ before.pair) where
   abbrev capture : Content
@@ -55,31 +67,15 @@ module _ (file : List ℕ) (before after : Outside) (content : after.files.conte
   passes_none : PassesPolicy (Packets file) before
   passes_none = record { policy = λ file e. cc e; other = λ file e. cc e; asset = λ other name e f. cc e }
 
-  -- where the records end so
-  ended : (found : AtPlace) (l : (of : Form) × (records : List Record) × (last : LastPlace) × HasForm capture (Ok of) × HasListedRecords capture of records last × (last.found ≡ found)) →
-      EndsAt HasListedRecords capture found l.2.place
-  ended found (of, records, last, has, are, is) = record {
-    form = of;
-    has_form = has;
-    records = records;
-    are_records = subst (λ f. HasListedRecords capture of records (record { place = last.place; found = f })) is are;
-  }
-
   stops : (s : Stop) → (s ≡ stop.ReadFault → ReadFailed before after) → ListsFile capture before.sink after.sink (Err s) → StopsFor (Packets file) before after s
   stops stop.ReadFault read l = read refl
   stops stop.WriteFault read l = (inr l.answers.0, passes_none)
-  stops (stop.CaptureRefused refusal.TooLong) read l =
-      (((l.last.place, ended TooLong (l.form, l.records, l.last, l.has_form, l.are_records, l.answers.0)), λ e. cc e), passes_none)
-  stops (stop.CaptureRefused refusal.Large) read l =
-      (((l.last.place, ended Large (l.form, l.records, l.last, l.has_form, l.are_records, l.answers.0)), λ e. cc e), passes_none)
-  stops (stop.CaptureRefused refusal.Block) read l =
-      (((l.last.place, ended (Refused block.Block) (l.form, l.records, l.last, l.has_form, l.are_records, l.answers.0)), λ e. cc e), passes_none)
-  stops (stop.CaptureRefused refusal.Section) read l =
-      ((inr (l.last.place, ended (Refused block.Section) (l.form, l.records, l.last, l.has_form, l.are_records, l.answers.0)), λ e. cc e), passes_none)
-  stops (stop.CaptureRefused refusal.Interface) read l =
-      (((l.last.place, ended (Refused block.Interface) (l.form, l.records, l.last, l.has_form, l.are_records, l.answers.0)), λ e. cc e), passes_none)
-  stops (stop.CaptureRefused refusal.Resolution) read l =
-      (((l.last.place, ended (Refused block.Resolution) (l.form, l.records, l.last, l.has_form, l.are_records, l.answers.0)), λ e. cc e), passes_none)
+  stops (stop.CaptureRefused refusal.TooLong) read l = (((l.last.place, listed_to TooLong l l.answers.0), λ e. cc e), passes_none)
+  stops (stop.CaptureRefused refusal.Large) read l = (((l.last.place, listed_to Large l l.answers.0), λ e. cc e), passes_none)
+  stops (stop.CaptureRefused refusal.Block) read l = (((l.last.place, listed_to (Refused block.Block) l l.answers.0), λ e. cc e), passes_none)
+  stops (stop.CaptureRefused refusal.Section) read l = ((inr (l.last.place, listed_to (Refused block.Section) l l.answers.0), λ e. cc e), passes_none)
+  stops (stop.CaptureRefused refusal.Interface) read l = (((l.last.place, listed_to (Refused block.Interface) l l.answers.0), λ e. cc e), passes_none)
+  stops (stop.CaptureRefused refusal.Resolution) read l = (((l.last.place, listed_to (Refused block.Resolution) l l.answers.0), λ e. cc e), passes_none)
   stops (stop.CaptureCut place) read l = (
     record { form = l.form; has_form = l.has_form; records = l.records; are_records = subst (HasListedRecords capture l.form l.records) l.answers.0 l.are_records },
     passes_none,
@@ -95,10 +91,39 @@ module _ (file : List ℕ) (before after : Outside) (content : after.files.conte
   unopened : (fault : OpenFault) → (fault ≡ opened.Read → ReadFailed before after) → OpensAs capture (Err fault) → StopsFor (Packets file) before after (open_stop fault)
   unopened opened.NoMemory read h = tt
   unopened opened.Read read h = read refl
-  unopened (opened.Refused of) read h = ((form_refuses HasListedRecords capture of h, no_clock of), passes_none)
+  unopened (opened.Refused of) read h = ((form_refuses HasListedRecords capture of h, (form_apart of).0), passes_none)
 
   pub closed_meets : (fault : OpenFault) → (fault ≡ opened.Read → ReadFailed before after) → OpensAs capture (Err fault) → after.sink ≡ before.sink → Meets (Packets file) before after (Err (open_stop fault))
   closed_meets fault read h same = (
     unopened fault read h,
     record { lines = inl (record { fault = fault; opens = h; stops = refl; sink = same }); content = content; pair = pair },
   )
+
+-- ---- a capture that is not watched to its end
+
+-- that is no failed write
+pub not_a_write : (f : WatchFault) → fault_stop f ≢ stop.WriteFault
+not_a_write (fault.Refused watch.Long) e = cc e
+not_a_write _ e = cc e
+
+-- it is why a command stops that reads the capture after its policy
+module _ (c : Command) (before after : Outside) (capture : List ℕ) (assets : List Asset) (refuses : (r : CaptureRefusal) → WatchRefuses (before.files.content capture) r → RefusesCapture c before r)
+    (cuts : (place : ℕ) → WatchCuts (before.files.content capture) place → CutsCapture c before place) (passes : PassesPolicy c before) where
+  unwatched_by : (f : WatchFault) → (f ≡ fault.Read → ReadFailed before after) → WatchesAs assets (before.files.content capture) (Err f) → StopsFor c before after (fault_stop f)
+  unwatched_by fault.NoMemory read w = tt
+  unwatched_by fault.Read read w = read refl
+  unwatched_by (fault.Cut place) read w = (cuts place w, passes)
+  unwatched_by (fault.Refused watch.Long) read w = (refuses refusal.Long (inl (refl, w)), passes)
+  unwatched_by (fault.Refused watch.TooLong) read w =
+      (refuses refusal.TooLong (inr (record { short = w.1.short; refuses = (w.0, listed _ TooLong w.0 w.1); no_clock = λ e. cc e; no_large = λ e. cc e })), passes)
+  unwatched_by (fault.Refused (watch.Header of)) read w =
+      let refused = form_refuses HasListedRecords (before.files.content capture) of w.1 in
+      (refuses (form_refusal of) (inr (record { short = w.0; refuses = refused; no_clock = (form_apart of).0; no_large = (form_apart of).1 })), passes)
+  unwatched_by (fault.Refused (watch.Block of)) read w =
+      let refused = block_refuses HasListedRecords (before.files.content capture) of (w.0, listed _ (Refused of) w.0 w.1) in
+      (refuses (block_refusal of) (inr (record { short = w.1.short; refuses = refused; no_clock = (block_apart of).0; no_large = (block_apart of).1 })), passes)
+
+  pub unwatched : (middle : Outside) → ReadsOnly before.files middle.files → (f : WatchFault) → (f ≡ fault.Read → ReadFailed middle after) →
+      WatchesAs assets (middle.files.content capture) (Err f) → StopsFor c before after (fault_stop f)
+  unwatched middle only f read w =
+      unwatched_by f (λ e. let rose = read e in omega (arith, rose, only.reads)) (subst (λ k. WatchesAs assets (k capture) (Err f)) only.content w)

@@ -1,9 +1,9 @@
 -- What is said of two policies, as the answer of the command.
-use Rattle.std.proofs.Common.{◌≡◌, ℕ, List, Some, Result, Ok, Err, refl, subst, ◌∙◌, inl, inr, arith}
+use Rattle.std.proofs.Common.{◌≡◌, ℕ, List, Result, Ok, Err, refl, subst, ◌∙◌, inl, inr, arith}
 use Rattle.cf_policy.specs.declared.Policy.{Policy}
 use Rattle.cf_box.specs.Check.{ChangesNothing}
-use Rattle.cf_box.specs.Command.{Check, Compare}
-use Rattle.cf_box.specs.Compare.{CompareLeaves, HasPolicies, Says}
+use Rattle.cf_words.specs.Command.{Check, Compare}
+use Rattle.cf_box.specs.Compare.{HasPolicies, Says}
 use Rattle.cf_box.specs.Ends.{Meets, PassesPolicy, StopsFor}
 use Rattle.cf_box.specs.Outside.{Outside, ReadsOnly}
 use Rattle.cf_box.specs.PolicyFile.{HasPolicy, IsRefusedBy, StopsPolicy}

@@ -2,14 +2,14 @@
 use Rattle.std.proofs.lemmas.Option.{get_or_from_slice_get, slice_get_within}
 use Rattle.std.proofs.Common.{◌≤◌, length, arith, ◌≡◌, ◌⊎◌, ℕ, List, All, Some, Result, Ok, Err, drop, refl, sym, subst, ◌∙◌, ap, inl, inr}
 use Rattle.cf_outside.specs.Files.{Content, holds, IsWhole}
-use Rattle.cf_run.proofs.RecordLists.{one_list, one_timed_list}
-use Rattle.cf_run.specs.Capture.{AreRecords, AtPlace, Clock, Cut, FileEnd, Large, LastPlace, Record, Refused, TooLong}
-use Rattle.cf_run.specs.Form.{first_place, form_of}
-use Rattle.cf_run.specs.Moments.{AreTimed, first_moment}
-use Rattle.cf_run.specs.declared.BlockRefusal.TheVariants as block
-use Rattle.cf_run.specs.declared.Form.{Form}
-use Rattle.cf_run.specs.declared.FormRefusal.{FormRefusal}
-use Rattle.cf_run.specs.declared.FormRefusal.TheVariants as form
+use Rattle.cf_records.proofs.RecordLists.{one_list, one_timed_list}
+use Rattle.cf_records.specs.Capture.{AreRecords, AtPlace, Clock, Cut, FileEnd, Large, LastPlace, Record, Refused, TooLong}
+use Rattle.cf_records.specs.Form.{first_place, form_of}
+use Rattle.cf_records.specs.Moments.{AreTimed, first_moment}
+use Rattle.cf_records.specs.declared.BlockRefusal.TheVariants as block
+use Rattle.cf_records.specs.declared.Form.{Form}
+use Rattle.cf_records.specs.declared.FormRefusal.{FormRefusal}
+use Rattle.cf_records.specs.declared.FormRefusal.TheVariants as form
 use Rattle.cf_compare.specs.Outcome.{HasNothing, StopsAt}
 use Rattle.cf_policy.specs.declared.Asset.{Asset}
 use Rattle.cf_policy.specs.declared.Policy.{Policy}
@@ -17,7 +17,7 @@ use Rattle.cf_policylang.specs.Documents.{policy_meaning}
 use Rattle.cf_policylang.specs.declared.PolicyRefusal.{PolicyRefusal}
 use Rattle.cf_run.specs.RunCapture.{HasRunRecords}
 use Rattle.cf_box.specs.Captures.{EndsAt, Refuses}
-use Rattle.cf_box.specs.Command.{Command, Check, Compare, Judge, Migrate, Packets, Review, Run, Relay, World, Sift, asset_name, capture_file, policy_file, Learn}
+use Rattle.cf_words.specs.Command.{Command, Compare, Judge, Packets, Review, Run, World, asset_name, capture_file, other_file, policy_file, Learn}
 use Rattle.cf_box.specs.Compare.{ExceedsAt, IsNotIncluded}
 use Rattle.cf_box.specs.Ends.{CutsCapture, CutsRun, CutsStream, Denies, EndsIdle, ExceedsCells, ExceedsRules, LacksAsset, LinkFails, Meets, RefusesCapture, RefusesMadePolicy, RefusesPolicy}
 use Rattle.cf_box.specs.Outside.{Outside, ReadFailed, WriteFailed}
@@ -68,64 +68,96 @@ not_lacking c before file name t of_policy of_asset cause =
     let named = t.named in
     cc
 
--- a capture whose header is read and whose records end with the file is not refused, nor cut
-module _ (Has : Content → Form → List Record → LastPlace → Type 0) (bytes : List ℕ) (of_file : Form) (read : form_of bytes ≡ Ok of_file)
-    (ends : (found : AtPlace) (place : ℕ) → EndsAt Has (holds bytes) found place → found ≡ FileEnd) where
-  no_refusal : (of : FormRefusal) → form_of bytes ≡ Err of → ⊥
-  no_refusal of refused = let here = read in cc
+-- a policy that is told and has a meaning is not refused, where it is the command's one policy
+pub known_unrefused : (c : Command) (before : Outside) (file bytes : List ℕ) (p : Policy) (r : PolicyRefusal) → policy_file c ≡ Some file → before.files.content file ≡ holds bytes →
+    policy_meaning bytes ≡ Ok p → ((second : List ℕ) → other_file c ≡ Some second → ⊥) → RefusesPolicy c before r → ⊥
+known_unrefused c before file bytes p r needs told means one (inl cause) =
+    let e = cause.1 in
+    let here : cause.0 ≡ file = cc in
+    not_refused (before.files.content file) bytes p r told means (subst (λ f. IsRefusedBy (before.files.content f) r) here cause.2)
+known_unrefused c before file bytes p r needs told means one (inr (inl cause)) = one cause.0 cause.2
+known_unrefused c before file bytes p r needs told means one (inr (inr made)) = made_unread c before file needs made
+  where
+    -- a command that reads a policy file makes none for itself
+    made_unread : (c : Command) (before : Outside) (file : List ℕ) → policy_file c ≡ Some file → RefusesMadePolicy c before → ⊥
+    made_unread (World seed sessions policy names) before file e made = cc e
+    made_unread _ before file e made = made
 
-  not_refused_by : (r : CaptureRefusal) → Refuses Has (holds bytes) r → ⊥
-  not_refused_by refusal.Short h = no_refusal form.Short h
-  not_refused_by refusal.Magic h = no_refusal form.Magic h
-  not_refused_by refusal.Version h = no_refusal form.Version h
-  not_refused_by refusal.LinkType h = no_refusal form.LinkType h
-  not_refused_by refusal.TooLong h = cc (ends TooLong h.0 h.1)
-  not_refused_by refusal.Clock h = cc (ends Clock h.0 h.1)
-  not_refused_by refusal.Large h = cc (ends Large h.0 h.1)
-  not_refused_by refusal.Long h = h
-  not_refused_by refusal.Block h = cc (ends (Refused block.Block) h.0 h.1)
-  not_refused_by refusal.Section (inl h) = no_refusal form.Section h
-  not_refused_by refusal.Section (inr h) = cc (ends (Refused block.Section) h.0 h.1)
-  not_refused_by refusal.Interface h = cc (ends (Refused block.Interface) h.0 h.1)
-  not_refused_by refusal.Resolution h = cc (ends (Refused block.Resolution) h.0 h.1)
+-- the octets of a file have one list of records, so one end
+pub listing_once : (bytes : List ℕ) (found other : AtPlace) (place there : ℕ) → EndsAt HasListedRecords (holds bytes) found place → EndsAt HasListedRecords (holds bytes) other there → found ≡ other
+listing_once bytes found other place there e g =
+    let here = e.has_form in
+    let also = g.has_form in
+    let same : e.form ≡ g.form = cc in
+    let start = first_place g.form in
+    ap (λ l. l.found) (one_list g.form start (drop start bytes) e.records g.records (record { place = place; found = found }) (record { place = there; found = other })
+    (subst (λ x. AreRecords x (first_place x) (drop (first_place x) bytes) e.records (record { place = place; found = found })) same e.are_records) g.are_records).1
 
-  not_cut_at : (place : ℕ) → EndsAt Has (holds bytes) Cut place → ⊥
-  not_cut_at place h = cc (ends Cut place h)
+pub run_once : (bytes : List ℕ) (found other : AtPlace) (place there : ℕ) → EndsAt HasRunRecords (holds bytes) found place → EndsAt HasRunRecords (holds bytes) other there → found ≡ other
+run_once bytes found other place there e g =
+    let here = e.has_form in
+    let also = g.has_form in
+    let same : e.form ≡ g.form = cc in
+    let start = first_place g.form in
+    ap (λ l. l.found) (one_timed_list g.form first_moment start (drop start bytes) e.records g.records (record { place = place; found = found }) (record { place = there; found = other })
+    (subst (λ x. AreTimed x first_moment (first_place x) (drop (first_place x) bytes) e.records (record { place = place; found = found })) same e.are_records) g.are_records).1
 
--- the records of a listing, and those of a run, where each has its moment
-listing_ends : (bytes : List ℕ) (has : HasRecordsToItsEnd bytes) (found : AtPlace) (place : ℕ) → EndsAt HasListedRecords (holds bytes) found place → found ≡ FileEnd
-listing_ends bytes has found place e =
-    let here = has.1 in
-    let there = e.has_form in
-    let same : e.form ≡ has.0 = cc in
-    let start = first_place has.0 in
-    let ends : LastPlace = record { place = has.2.1; found = FileEnd } in
-    ap (λ e. e.found) (one_list has.0 start (drop start bytes) e.records has.2.0 (record { place = place; found = found }) ends
-    (subst (λ x. AreRecords x (first_place x) (drop (first_place x) bytes) e.records (record { place = place; found = found })) same e.are_records) has.2.2).1
+-- what refuses a capture
+abbrev pub Refusing : AtPlace → Type 0
+Refusing TooLong = Unit {0}
+Refusing Clock = Unit {0}
+Refusing Large = Unit {0}
+Refusing (Refused of) = Unit {0}
+Refusing _ = ⊥
 
-run_ends : (bytes : List ℕ) (has : HasTimedRecords bytes) (found : AtPlace) (place : ℕ) → EndsAt HasRunRecords (holds bytes) found place → found ≡ FileEnd
-run_ends bytes has found place e =
-    let here = has.1 in
-    let there = e.has_form in
-    let same : e.form ≡ has.0 = cc in
-    let start = first_place has.0 in
-    let ends : LastPlace = record { place = has.2.1; found = FileEnd } in
-    ap (λ e. e.found) (one_timed_list has.0 first_moment start (drop start bytes) e.records has.2.0 (record { place = place; found = found }) ends
-    (subst (λ x. AreTimed x first_moment (first_place x) (drop (first_place x) bytes) e.records (record { place = place; found = found })) same e.are_records) has.2.2).1
+-- a capture that is refused ends in no other way
+module _ (Has : Content → Form → List Record → LastPlace → Type 0) (bytes : List ℕ)
+    (once : (found other : AtPlace) (place there : ℕ) → EndsAt Has (holds bytes) found place → EndsAt Has (holds bytes) other there → found ≡ other) where
+  no_form : (of : FormRefusal) (found : AtPlace) (place : ℕ) → form_of bytes ≡ Err of → EndsAt Has (holds bytes) found place → ⊥
+  no_form of found place refused e = let here = e.has_form in cc
+
+  ends_so : (at found : AtPlace) (place : ℕ) → (there : ℕ) × EndsAt Has (holds bytes) at there → EndsAt Has (holds bytes) found place → Refusing at → Refusing found
+  ends_so at found place h e refuses = subst Refusing (once at found h.0 place h.1 e) refuses
+
+  pub ends_refused : (r : CaptureRefusal) → Refuses Has (holds bytes) r → (found : AtPlace) (place : ℕ) → EndsAt Has (holds bytes) found place → Refusing found
+  ends_refused refusal.Short h found place e = absurd (no_form form.Short found place h e)
+  ends_refused refusal.Magic h found place e = absurd (no_form form.Magic found place h e)
+  ends_refused refusal.Version h found place e = absurd (no_form form.Version found place h e)
+  ends_refused refusal.LinkType h found place e = absurd (no_form form.LinkType found place h e)
+  ends_refused refusal.Long h found place e = absurd h
+  ends_refused refusal.Section (inl h) found place e = absurd (no_form form.Section found place h e)
+  ends_refused refusal.Section (inr h) found place e = ends_so (Refused block.Section) found place h e tt
+  ends_refused _ h found place e = ends_so _ found place h e tt
+
+-- so one whose header is read and whose records end with the file is not refused, nor cut
+listing_end : (bytes : List ℕ) (has : HasRecordsToItsEnd bytes) → EndsAt HasListedRecords (holds bytes) FileEnd has.2.1
+listing_end bytes has = record { form = has.0; has_form = has.1; records = has.2.0; are_records = has.2.2 }
+
+run_end : (bytes : List ℕ) (has : HasTimedRecords bytes) → EndsAt HasRunRecords (holds bytes) FileEnd has.2.1
+run_end bytes has = record { form = has.0; has_form = has.1; records = has.2.0; are_records = has.2.2 }
+
+listing_unrefused : (bytes : List ℕ) → HasRecordsToItsEnd bytes → (r : CaptureRefusal) → Refuses HasListedRecords (holds bytes) r → ⊥
+listing_unrefused bytes has r h = ends_refused HasListedRecords bytes (listing_once bytes) r h FileEnd has.2.1 (listing_end bytes has)
+
+listing_uncut : (bytes : List ℕ) → HasRecordsToItsEnd bytes → (place : ℕ) → EndsAt HasListedRecords (holds bytes) Cut place → ⊥
+listing_uncut bytes has place h = cc (listing_once bytes Cut FileEnd place has.2.1 h (listing_end bytes has))
 
 pub not_refused_run : (bytes : List ℕ) → HasTimedRecords bytes → (r : CaptureRefusal) → RunRefuses (holds bytes) r → ⊥
-not_refused_run bytes has r h = not_refused_by HasRunRecords bytes has.0 has.1 (run_ends bytes has) r h
+not_refused_run bytes has r h = ends_refused HasRunRecords bytes (run_once bytes) r h FileEnd has.2.1 (run_end bytes has)
 
 pub not_cut_run : (bytes : List ℕ) → HasTimedRecords bytes → (place : ℕ) → RunCuts (holds bytes) place → ⊥
-not_cut_run bytes has place h = not_cut_at HasRunRecords bytes has.0 has.1 (run_ends bytes has) place h
+not_cut_run bytes has place h = cc (run_once bytes Cut FileEnd place has.2.1 h (run_end bytes has))
 
 -- a watched capture that is not too long
-not_refused_watch : (bytes : List ℕ) → HasRecordsToItsEnd bytes → length bytes ≤ CAPTURE_LIMIT → (r : CaptureRefusal) → WatchRefuses (holds bytes) r → ⊥
-not_refused_watch bytes has short r (inl (is, long)) = omega (arith, short, long)
-not_refused_watch bytes has short r (inr s) = not_refused_by HasListedRecords bytes has.0 has.1 (listing_ends bytes has) r s.refuses
+pub not_refused_watch : (bytes : List ℕ) → HasRecordsToItsEnd bytes × (length bytes ≤ CAPTURE_LIMIT) → (file : Content) → file ≡ holds bytes → (r : CaptureRefusal) → WatchRefuses file r → ⊥
+not_refused_watch bytes has file told r h = by (subst (λ f. WatchRefuses f r) told h)
+  where
+    by : WatchRefuses (holds bytes) r → ⊥
+    by (inl (is, long)) = omega (arith, has.1, long)
+    by (inr s) = listing_unrefused bytes has.0 r s.refuses
 
-not_cut_watch : (bytes : List ℕ) → HasRecordsToItsEnd bytes → (place : ℕ) → WatchCuts (holds bytes) place → ⊥
-not_cut_watch bytes has place h = not_cut_at HasListedRecords bytes has.0 has.1 (listing_ends bytes has) place (listed (holds bytes) Cut place h)
+pub not_cut_watch : (bytes : List ℕ) → HasRecordsToItsEnd bytes × (length bytes ≤ CAPTURE_LIMIT) → (file : Content) → file ≡ holds bytes → (place : ℕ) → WatchCuts file place → ⊥
+not_cut_watch bytes has file told place h = listing_uncut bytes has.0 place (listed (holds bytes) Cut place (subst (λ f. WatchCuts f place) told h))
 
 abbrev pub IsInForm : Command → Outside → Type 0
 IsInForm c before = (file : List ℕ) → capture_file c ≡ Some file → (bytes : List ℕ) × (before.files.content file ≡ holds bytes) × EndsWell c bytes
@@ -140,55 +172,30 @@ pub ends_in_form : (c : Command) (before : Outside) → IsInForm c before → Te
 ends_in_form (Packets capture) before good tells =
     let (bytes, told, has) = good capture refl in
     record {
-      refused = λ r h. not_refused_by HasListedRecords bytes has.0 has.1 (listing_ends bytes has) r (subst (λ f. Refuses HasListedRecords f r) told h.0);
-      cut = λ place h. not_cut_at HasListedRecords bytes has.0 has.1 (listing_ends bytes has) place (subst (λ f. EndsAt HasListedRecords f Cut place) told h);
+      refused = λ r h. listing_unrefused bytes has r (subst (λ f. Refuses HasListedRecords f r) told h.0);
+      cut = λ place h. listing_uncut bytes has place (subst (λ f. EndsAt HasListedRecords f Cut place) told h);
       run_cut = λ place h. h;
     }
 ends_in_form (Run policy names) before good tells =
     let (bytes, told, has) = good names.capture refl in
     let uncut : (place : ℕ) → RunCuts (before.files.content names.capture) place → ⊥ = λ place h. not_cut_run bytes has place (subst (λ f. RunCuts f place) told h) in
     record { refused = λ r h. not_refused_run bytes has r (subst (λ f. RunRefuses f r) told h); cut = uncut; run_cut = uncut }
-ends_in_form (Check policy) before good tells = record { refused = λ r h. h; cut = λ place h. h; run_cut = λ place h. h }
-ends_in_form (Compare policy other) before good tells = record { refused = λ r h. h; cut = λ place h. h; run_cut = λ place h. h }
 ends_in_form (Judge policy capture) before good tells =
     let (bytes, told, has) = good capture refl in
-    record {
-      refused = λ r h. not_refused_watch bytes has.0 has.1 r (subst (λ f. WatchRefuses f r) told h);
-      cut = λ place h. not_cut_watch bytes has.0 place (subst (λ f. WatchCuts f place) told h);
-      run_cut = λ place h. h;
-    }
+    record { refused = not_refused_watch bytes has _ told; cut = not_cut_watch bytes has _ told; run_cut = λ place h. h }
 ends_in_form (Learn policy capture out) before good tells =
     let (bytes, told, has) = good capture refl in
-    record {
-      refused = λ r h. not_refused_watch bytes has.0 has.1 r (subst (λ f. WatchRefuses f r) told h);
-      cut = λ place h. not_cut_watch bytes has.0 place (subst (λ f. WatchCuts f place) told h);
-      run_cut = λ place h. h;
-    }
+    record { refused = not_refused_watch bytes has _ told; cut = not_cut_watch bytes has _ told; run_cut = λ place h. h }
 ends_in_form (Review policy capture log) before good tells =
     let (bytes, told, has) = good capture refl in
-    record {
-      refused = λ r h. not_refused_watch bytes has.0 has.1 r (subst (λ f. WatchRefuses f r) told h);
-      cut = λ place h. not_cut_watch bytes has.0 place (subst (λ f. WatchCuts f place) told h);
-      run_cut = λ place h. h;
-    }
-ends_in_form (Migrate policy out) before good tells = record { refused = λ r h. h; cut = λ place h. h; run_cut = λ place h. h }
-ends_in_form (Relay policy asset port idles log) before good tells = record { refused = λ r h. h; cut = λ place h. h; run_cut = λ place h. h }
+    record { refused = not_refused_watch bytes has _ told; cut = not_cut_watch bytes has _ told; run_cut = λ place h. h }
 ends_in_form (World seed sessions policy names) before good tells = record { refused = λ r h. tells.1 h; cut = λ place h. tells.1 h; run_cut = λ place h. tells.1 h }
-ends_in_form (Sift policy asset client names) before good tells = record { refused = λ r h. h; cut = λ place h. h; run_cut = λ place h. h }
+ends_in_form _ before good tells = record { refused = λ r h. h; cut = λ place h. h; run_cut = λ place h. h }
 
 -- nor is a policy that has a meaning, or that the command made
 made_none : (c : Command) (before : Outside) → TellsMade c before → RefusesMadePolicy c before → ⊥
 made_none (World seed sessions policy names) before tells made = tells.0 made
-made_none (Check policy) before tells made = made
-made_none (Compare policy other) before tells made = made
-made_none (Judge policy capture) before tells made = made
-made_none (Learn policy capture out) before tells made = made
-made_none (Review policy capture log) before tells made = made
-made_none (Migrate policy out) before tells made = made
-made_none (Packets capture) before tells made = made
-made_none (Run policy names) before tells made = made
-made_none (Relay policy asset port idles log) before tells made = made
-made_none (Sift policy asset client names) before tells made = made
+made_none _ before tells made = made
 
 refusal_none : (c : Command) (before middle : Outside) (r : PolicyRefusal) → HasInput c before middle → RefusesPolicy c before r → ⊥
 refusal_none c before middle r input (inl cause) =
@@ -208,9 +215,8 @@ stops_nowhere ours theirs place reason all s lacks =
 
 not_denied : (ours theirs : Policy) → All (HasNothing theirs) ours.assets → (why : Denial) → IsNotIncluded ours theirs why → ⊥
 not_denied ours theirs all (denial.NoPartner name) d = stops_nowhere ours theirs d.0 _ all d.1 (λ asset none s. none.partner s.1)
-not_denied ours theirs all (denial.Objects tells) d = d
-not_denied ours theirs all (denial.Remarks counts) d = d
 not_denied ours theirs all (denial.Allows name client act) d = stops_nowhere ours theirs d.0 _ all d.1 (λ asset none s. none.difference client act s.1)
+not_denied ours theirs all _ d = d
 
 not_exceeding : (ours theirs : Policy) (name : List ℕ) → All (HasNothing theirs) ours.assets → ExceedsAt ours theirs name → ⊥
 not_exceeding ours theirs name all d = stops_nowhere ours theirs d.0 _ all d.1 (λ asset none s. none.cells s.1)

@@ -4,7 +4,7 @@ use Rattle.std.proofs.lemmas.List.{append_cancel_left}
 use Rattle.cf_audit.specs.declared.line.CutReason.{CutReason}
 use Rattle.cf_lane.specs.Judged.{Judged}
 use Rattle.cf_lane.specs.Laws.{HasOneJudgement}
-use Rattle.cf_outside.specs.Files.{Content, holds}
+use Rattle.cf_outside.specs.Files.{Content}
 use Rattle.cf_outside.specs.Pair.{Entry}
 use Rattle.cf_relay.specs.Answers.{client_of, history_of, idle_run, with_answers}
 use Rattle.cf_relay.specs.Turn.{AreItemsOf, cut_at}
@@ -15,9 +15,9 @@ use Rattle.cf_policy.specs.declared.Asset.{Asset}
 use Rattle.cf_policy.specs.declared.Policy.{Policy}
 use Rattle.cf_policylang.specs.Documents.{policy_meaning}
 use Rattle.cf_policylang.specs.declared.PolicyRefusal.{PolicyRefusal}
-use Rattle.cf_box.specs.Command.{Command, Check, Compare, Judge, Migrate, Packets, Review, Run, Relay, World, Sift, other_file, policy_file, Learn}
+use Rattle.cf_words.specs.Command.{Command, Check, Compare, Judge, Migrate, Packets, Review, Run, Relay, World, Sift, policy_file, Learn}
 use Rattle.cf_box.specs.Compare.{IsIncluded, OfPolicies, TellsNotIncluded}
-use Rattle.cf_box.specs.Ends.{Does, LacksAsset, Meets, PassesPolicy, RefusesMadePolicy, RefusesPolicy}
+use Rattle.cf_box.specs.Ends.{Does, LacksAsset, Meets, PassesPolicy, RefusesPolicy}
 use Rattle.cf_box.specs.Learn.{Learns}
 use Rattle.cf_box.specs.Outside.{Outside, ReadFailed, WriteFailed}
 use Rattle.cf_box.specs.PolicyFile.{FindsAsset, HasPolicy, IsRefusedBy, StopsPolicy, TellsAsset}
@@ -33,19 +33,15 @@ use Rattle.cf_box.specs.declared.ending.Done.{Done}
 use Rattle.cf_box.specs.declared.ending.Done.TheVariants as done
 use Rattle.cf_box.specs.declared.ending.Stop.{Stop}
 use Rattle.cf_box.specs.declared.ending.Stop.TheVariants as stop
-use Rattle.cf_box.proofs.CaptureExact.{capture_from, capture_cut_from}
-use Rattle.cf_box.proofs.Complete.{EndsInForm, ends_in_form, not_lacking, not_refused, same_bytes, same_policy}
-use Rattle.cf_box.proofs.Passing.{found_passes, one_policy}
+use Rattle.cf_box.proofs.CaptureExact.{DueBehind, capture_from, capture_cut_from}
+use Rattle.cf_box.proofs.Complete.{known_unrefused, not_cut_watch, not_lacking, not_refused, not_refused_watch, same_bytes, same_policy}
+use Rattle.cf_box.proofs.Passing.{found_passes, one_policy, policy_passes}
 use Rattle.cf_box.proofs.Relaying.{GoesOn, IsUncutEnd, few_by, idle_is_late, link_is_late, uncut_by}
 use Rattle.cf_box.proofs.Statuses.{Explains, IsOf, Unprinted, explained, read_failed, stop_is, write_failed}
 
 -- work that was done has passed the policy: a line a command
 does_pass : (before after : Outside) (c : Command) (d : Done) → Does c before after d → PassesPolicy c before
-does_pass before after (Check policy) d m = record {
-  policy = λ file e. let same : policy ≡ file = cc in (m.policy, subst (λ f. HasPolicy (before.files.content f) m.policy) same m.has);
-  other = λ file e. cc e;
-  asset = λ file name e f. cc f;
-}
+does_pass before after (Check policy) d m = policy_passes (Check policy) before policy m.policy refl refl refl m.has
 does_pass before after (Compare policy second) d m =
     let ours : Policy = m.includes.0 in
     let theirs : Policy = m.includes.1 in
@@ -54,69 +50,19 @@ does_pass before after (Compare policy second) d m =
       other = λ file e. let same : second ≡ file = cc in (theirs, subst (λ f. HasPolicy (before.files.content f) theirs) same m.includes.2.has_theirs);
       asset = λ file name e f. cc f;
     }
-does_pass before after (Judge policy capture) d m =
-    let meaning : Policy = m.keeps.0 in
-    record {
-      policy = λ file e. let same : policy ≡ file = cc in (meaning, subst (λ f. HasPolicy (before.files.content f) meaning) same m.keeps.2.has_policy);
-      other = λ file e. cc e;
-      asset = λ file name e f. cc f;
-    }
-does_pass before after (Migrate policy out) d m =
-    let meaning : Policy = m.keeps.meaning in
-    record {
-      policy = λ file e. let same : policy ≡ file = cc in (meaning, subst (λ f. HasPolicy (before.files.content f) meaning) same m.keeps.has);
-      other = λ file e. cc e;
-      asset = λ file name e f. cc f;
-    }
+does_pass before after (Judge policy capture) d m = policy_passes (Judge policy capture) before policy m.keeps.0 refl refl refl m.keeps.2.has_policy
+does_pass before after (Migrate policy out) d m = policy_passes (Migrate policy out) before policy m.keeps.meaning refl refl refl m.keeps.has
 does_pass before after (Learn policy capture out) d m =
-    let l : Learns policy capture before m.holds.learned = m.holds.learns in
-    record {
-      policy = λ file e. let same : policy ≡ file = cc in (l.known, subst (λ f. HasPolicy (before.files.content f) l.known) same l.watched.has_policy);
-      other = λ file e. cc e;
-      asset = λ file name e f. cc f;
-    }
+    let l : Learns policy capture before m.holds.learned = m.holds.learns in policy_passes (Learn policy capture out) before policy l.known refl refl refl l.watched.has_policy
 does_pass before after (Review policy capture log) (done.Reviewed counts) m =
-    let h : HoldsReview policy capture log before after = m.0.holds in
-    record {
-      policy = λ file e. let same : policy ≡ file = cc in (h.known, subst (λ f. HasPolicy (before.files.content f) h.known) same h.has.has_policy);
-      other = λ file e. cc e;
-      asset = λ file name e f. cc f;
-    }
+    let h : HoldsReview policy capture log before after = m.0.holds in policy_passes (Review policy capture log) before policy h.known refl refl refl h.has.has_policy
 does_pass before after (Review policy capture log) d m = absurd m
 does_pass before after (Packets capture) d m = record { policy = λ file e. cc e; other = λ file e. cc e; asset = λ file name e f. cc e }
-does_pass before after (Run policy names) d m = record {
-  policy = λ file e. let same : policy ≡ file = cc in (m.1.policy, subst (λ f. HasPolicy (before.files.content f) m.1.policy) same m.1.has);
-  other = λ file e. cc e;
-  asset = λ file name e f. cc f;
-}
+does_pass before after (Run policy names) d m = policy_passes (Run policy names) before policy m.1.policy refl refl refl m.1.has
 does_pass before after (Relay policy asset port idles log) d m =
     found_passes (Relay policy asset port idles log) before policy asset m.1.asset refl refl m.1.finds
 does_pass before after (World seed sessions policy names) d m = record { policy = λ file e. cc e; other = λ file e. cc e; asset = λ file name e f. cc e }
 does_pass before after (Sift policy name client names) d m = found_passes (Sift policy name client names) before policy name m.takes.asset refl refl m.takes.finds
-
--- a command that reads a policy file makes none for itself
-made_unread : (c : Command) (before : Outside) (file : List ℕ) → policy_file c ≡ Some file → RefusesMadePolicy c before → ⊥
-made_unread (World seed sessions policy names) before file e made = cc e
-made_unread (Check policy) before file e made = made
-made_unread (Compare policy second) before file e made = made
-made_unread (Judge policy capture) before file e made = made
-made_unread (Learn policy capture out) before file e made = made
-made_unread (Review policy capture log) before file e made = made
-made_unread (Migrate policy out) before file e made = made
-made_unread (Packets capture) before file e made = made
-made_unread (Run policy names) before file e made = made
-made_unread (Relay policy asset port idles log) before file e made = made
-made_unread (Sift policy asset client names) before file e made = made
-
--- a policy that is told and has a meaning is not refused, where it is the command's one policy
-known_unrefused : (c : Command) (before : Outside) (file bytes : List ℕ) (p : Policy) (r : PolicyRefusal) → policy_file c ≡ Some file → before.files.content file ≡ holds bytes →
-    policy_meaning bytes ≡ Ok p → ((second : List ℕ) → other_file c ≡ Some second → ⊥) → RefusesPolicy c before r → ⊥
-known_unrefused c before file bytes p r needs told means one (inl cause) =
-    let e = cause.1 in
-    let here : cause.0 ≡ file = cc in
-    not_refused (before.files.content file) bytes p r told means (subst (λ f. IsRefusedBy (before.files.content f) r) here cause.2)
-known_unrefused c before file bytes p r needs told means one (inr (inl cause)) = one cause.0 cause.2
-known_unrefused c before file bytes p r needs told means one (inr (inr made)) = made_unread c before file needs made
 
 -- the asset that is found is that of the policy that is told
 found_asset : (file : Content) (name : List ℕ) (t : TellsAsset file name) (a : Asset) → FindsAsset file name a → a ≡ t.asset
@@ -158,16 +104,7 @@ module _ (failed : Type 0) (status : ℕ) (before after : Outside) where
     refused_from (Err stop.NoMemory) meets h = inr (inr (stop_is failed status stop.NoMemory h))
     refused_from (Err (stop.PolicyRefused r)) meets h = inl (stop_is failed status (stop.PolicyRefused r) h)
     refused_from (Err stop.UnknownAsset) meets h = absurd (not_lacked meets.0)
-    refused_from (Err stop.WriteFault) meets h = absurd (not_passed meets.0.1)
-    refused_from (Err (stop.CaptureRefused r)) meets h = absurd (not_passed meets.0.1)
-    refused_from (Err (stop.CaptureCut place)) meets h = absurd (not_passed meets.0.1)
-    refused_from (Err (stop.RunCut place summary)) meets h = absurd (not_passed meets.0.1)
-    refused_from (Err stop.LinkFault) meets h = absurd (not_passed meets.0.1)
-    refused_from (Err stop.IdleEnd) meets h = absurd (not_passed meets.0.1)
-    refused_from (Err (stop.Cut reason)) meets h = absurd (not_passed meets.0.1)
-    refused_from (Err (stop.Denied why)) meets h = absurd (not_passed meets.0.1)
-    refused_from (Err (stop.TooManyRules name)) meets h = absurd (not_passed meets.0.1)
-    refused_from (Err (stop.TooManyCells name)) meets h = absurd (not_passed meets.0.1)
+    refused_from (Err _) meets h = absurd (not_passed meets.0.1)
 
   module _ (c : Command) (t : TellsNoAsset c before) where
     not_found : PassesPolicy c before → ⊥
@@ -178,47 +115,20 @@ module _ (failed : Type 0) (status : ℕ) (before after : Outside) where
         let some = found.2.1 in
         cc
 
-    known_policy : (r : PolicyRefusal) → RefusesPolicy c before r → ⊥
-    known_policy r cause = known_unrefused c before t.file t.bytes t.meaning r t.needs t.told t.means (λ second e. one_policy c second t.name e t.asks) cause
-
     unknown_from : (r : Result Done Stop) → Meets c before after r → IsOf r failed status → Due 10
     unknown_from (Ok d) meets h = absurd (not_found (does_pass before after c d meets))
     unknown_from (Err stop.ReadFault) meets h = inr (inl (stop_is failed status stop.ReadFault h, meets.0))
     unknown_from (Err stop.NoMemory) meets h = inr (inr (stop_is failed status stop.NoMemory h))
-    unknown_from (Err (stop.PolicyRefused r)) meets h = absurd (known_policy r meets.0)
+    unknown_from (Err (stop.PolicyRefused r)) meets h = absurd (known_unrefused c before t.file t.bytes t.meaning r t.needs t.told t.means (λ second e. one_policy c second t.name e t.asks) meets.0)
     unknown_from (Err stop.UnknownAsset) meets h = inl (stop_is failed status stop.UnknownAsset h)
-    unknown_from (Err stop.WriteFault) meets h = absurd (not_found meets.0.1)
-    unknown_from (Err (stop.CaptureRefused r)) meets h = absurd (not_found meets.0.1)
-    unknown_from (Err (stop.CaptureCut place)) meets h = absurd (not_found meets.0.1)
-    unknown_from (Err (stop.RunCut place summary)) meets h = absurd (not_found meets.0.1)
-    unknown_from (Err stop.LinkFault) meets h = absurd (not_found meets.0.1)
-    unknown_from (Err stop.IdleEnd) meets h = absurd (not_found meets.0.1)
-    unknown_from (Err (stop.Cut reason)) meets h = absurd (not_found meets.0.1)
-    unknown_from (Err (stop.Denied why)) meets h = absurd (not_found meets.0.1)
-    unknown_from (Err (stop.TooManyRules name)) meets h = absurd (not_found meets.0.1)
-    unknown_from (Err (stop.TooManyCells name)) meets h = absurd (not_found meets.0.1)
-
-  -- what is due where a write may have failed before
-  abbrev DueBehind : ℕ → Type 0
-  DueBehind n = (status ≡ n) ⊎ (((status ≡ 4) × (WriteFailed before after ⊎ failed)) ⊎ (((status ≡ 3) × ReadFailed before after) ⊎ (status ≡ 13)))
-
-  -- what is due where a stream is cut
-  abbrev DueWritten : Type 0
-  DueWritten = DueBehind 12
-
-  -- and where the idle answers end the work
-  abbrev DueIdle : Type 0
-  DueIdle = DueBehind 9
+    unknown_from (Err _) meets h = absurd (not_found meets.0.1)
 
   module _ (one : HasOneCut) (file name : List ℕ) (client : ℕ) (names : SiftNamesValue) (t : TellsCutStream file name client names before) where
-    same_asset : (a : Asset) → FindsAsset (before.files.content file) name a → a ≡ t.known.asset
-    same_asset a finds = found_asset (before.files.content file) name t.known a finds
-
     -- the stream does not go on to its end
     not_uncut : TakesStream file name client names before after None → ⊥
     not_uncut taken =
         let s = taken.sifted in
-        let asset = same_asset taken.asset taken.finds in
+        let asset = found_asset (before.files.content file) name t.known taken.asset taken.finds in
         let stream = same_bytes (before.files.content names.stream) t.stream s.bytes t.stream_told s.whole in
         let goes = subst (λ a. GoesUpTo a client (stored_history t.stream) taken.taken.cut s.history s.judged) asset
         (subst (λ b. GoesUpTo taken.asset client (stored_history b) taken.taken.cut s.history s.judged) stream s.goes) in
@@ -226,7 +136,7 @@ module _ (failed : Type 0) (status : ℕ) (before after : Outside) where
         let none = taken.is_cut in
         cc
 
-    cut_from : (r : Result Done Stop) → Meets (Sift file name client names) before after r → IsOf r failed status → DueWritten
+    cut_from : (r : Result Done Stop) → Meets (Sift file name client names) before after r → IsOf r failed status → DueBehind failed status before after 12
     cut_from (Ok d) meets h = absurd (not_uncut meets.takes)
     cut_from (Err stop.ReadFault) meets h = inr (inr (inl (stop_is failed status stop.ReadFault h, meets.0)))
     cut_from (Err stop.NoMemory) meets h = inr (inr (inr (stop_is failed status stop.NoMemory h)))
@@ -235,20 +145,10 @@ module _ (failed : Type 0) (status : ℕ) (before after : Outside) where
     cut_from (Err stop.UnknownAsset) meets h =
         absurd (not_lacking (Sift file name client names) before file name t.known refl refl meets.0)
     cut_from (Err stop.WriteFault) meets h = inr (inl (stop_is failed status stop.WriteFault h, inl meets.0.0))
-    cut_from (Err (stop.CaptureRefused r)) meets h = absurd meets.0.0
-    cut_from (Err (stop.CaptureCut place)) meets h = absurd meets.0.0
-    cut_from (Err (stop.RunCut place summary)) meets h = absurd meets.0.0
-    cut_from (Err stop.LinkFault) meets h = absurd meets.0.0
-    cut_from (Err stop.IdleEnd) meets h = absurd meets.0.0
     cut_from (Err (stop.Cut reason)) meets h = inl (stop_is failed status (stop.Cut reason) h)
-    cut_from (Err (stop.Denied why)) meets h = absurd meets.0.0
-    cut_from (Err (stop.TooManyRules name)) meets h = absurd meets.0.0
-    cut_from (Err (stop.TooManyCells name)) meets h = absurd meets.0.0
+    cut_from (Err _) meets h = absurd meets.0.0
 
   module _ (law : HasOneJudgement) (file name : List ℕ) (port idles : ℕ) (log : List ℕ) (t : TellsRelay file name before after.pair) where
-    relayed_asset : (a : Asset) → FindsAsset (before.files.content file) name a → a ≡ t.known.asset
-    relayed_asset a finds = found_asset (before.files.content file) name t.known a finds
-
     known_means : (r : PolicyRefusal) → RefusesPolicy (Relay file name port idles log) before r → ⊥
     known_means r cause = known_unrefused (Relay file name port idles log) before file t.known.bytes t.known.policy r refl t.known.told t.known.means (λ second e. cc e) cause
 
@@ -266,7 +166,7 @@ module _ (failed : Type 0) (status : ℕ) (before after : Outside) where
     relayed_cut : (a : Asset) (es : List Entry) (js : List Judged) → FindsAsset (before.files.content file) name a → after.pair.told ≡ with_answers before.pair.told es →
         AreItemsOf a es js → cut_at a es js ≡ cut_at t.known.asset t.answers t.judged
     relayed_cut a es js finds told are =
-        let asset : a ≡ t.known.asset = relayed_asset a finds in
+        let asset : a ≡ t.known.asset = found_asset (before.files.content file) name t.known a finds in
         let answers : es ≡ t.answers = relayed_answers es told in
         let here : AreItemsOf t.known.asset t.answers js = subst (λ x. AreItemsOf x t.answers js) asset (subst (λ l. AreItemsOf a l js) answers are) in
         let judged : js ≡ t.judged = law t.known.asset (client_of t.answers).address (history_of t.answers) js t.judged here t.are_items in
@@ -287,22 +187,17 @@ module _ (failed : Type 0) (status : ℕ) (before after : Outside) where
     not_cut_stop reason cut s kind late (inr l) = not_cut reason cut (Err s) kind l.0 l.1 l.2
 
     relay_cut_from : (reason : CutReason) → cut_at t.known.asset t.answers t.judged ≡ Some reason → (r : Result Done Stop) →
-        Meets (Relay file name port idles log) before after r → IsOf r failed status → DueWritten
+        Meets (Relay file name port idles log) before after r → IsOf r failed status → DueBehind failed status before after 12
     relay_cut_from reason cut (Ok d) meets h = absurd (not_cut reason cut (Ok d) tt meets.0 meets.1 meets.2)
     relay_cut_from reason cut (Err stop.ReadFault) meets h = inr (inr (inl (stop_is failed status stop.ReadFault h, meets.0)))
     relay_cut_from reason cut (Err stop.NoMemory) meets h = inr (inr (inr (stop_is failed status stop.NoMemory h)))
     relay_cut_from reason cut (Err (stop.PolicyRefused r)) meets h = absurd (known_means r meets.0)
     relay_cut_from reason cut (Err stop.UnknownAsset) meets h = absurd (known_asset meets.0)
     relay_cut_from reason cut (Err stop.WriteFault) meets h = inr (inl (stop_is failed status stop.WriteFault h, inl meets.0.0))
-    relay_cut_from reason cut (Err (stop.CaptureRefused r)) meets h = absurd meets.0.0
-    relay_cut_from reason cut (Err (stop.CaptureCut place)) meets h = absurd meets.0.0
-    relay_cut_from reason cut (Err (stop.RunCut place summary)) meets h = absurd meets.0.0
     relay_cut_from reason cut (Err stop.LinkFault) meets h = absurd (not_cut_stop reason cut stop.LinkFault tt link_is_late meets.1)
     relay_cut_from reason cut (Err stop.IdleEnd) meets h = absurd (not_cut_stop reason cut stop.IdleEnd tt idle_is_late meets.1)
     relay_cut_from reason cut (Err (stop.Cut other)) meets h = inl (stop_is failed status (stop.Cut other) h)
-    relay_cut_from reason cut (Err (stop.Denied why)) meets h = absurd meets.0.0
-    relay_cut_from reason cut (Err (stop.TooManyRules name)) meets h = absurd meets.0.0
-    relay_cut_from reason cut (Err (stop.TooManyCells name)) meets h = absurd meets.0.0
+    relay_cut_from reason cut (Err _) meets h = absurd meets.0.0
 
     -- nor did one go on that answered so
     not_idle : idle_run t.answers ≡ 2 * idles → (r : Result Done Stop) → GoesOn r → (answer : Result RelayDone RelayFault) →
@@ -313,16 +208,13 @@ module _ (failed : Type 0) (status : ℕ) (before after : Outside) where
         omega (arith, few, idle, ap idle_run same)
 
     relay_idle_from : cut_at t.known.asset t.answers t.judged ≡ None → idle_run t.answers ≡ 2 * idles → (r : Result Done Stop) →
-        Meets (Relay file name port idles log) before after r → IsOf r failed status → DueIdle
+        Meets (Relay file name port idles log) before after r → IsOf r failed status → DueBehind failed status before after 9
     relay_idle_from uncut idle (Ok d) meets h = absurd (not_idle idle (Ok d) tt meets.0 meets.1 meets.2)
     relay_idle_from uncut idle (Err stop.ReadFault) meets h = inr (inr (inl (stop_is failed status stop.ReadFault h, meets.0)))
     relay_idle_from uncut idle (Err stop.NoMemory) meets h = inr (inr (inr (stop_is failed status stop.NoMemory h)))
     relay_idle_from uncut idle (Err (stop.PolicyRefused r)) meets h = absurd (known_means r meets.0)
     relay_idle_from uncut idle (Err stop.UnknownAsset) meets h = absurd (known_asset meets.0)
     relay_idle_from uncut idle (Err stop.WriteFault) meets h = inr (inl (stop_is failed status stop.WriteFault h, inl meets.0.0))
-    relay_idle_from uncut idle (Err (stop.CaptureRefused r)) meets h = absurd meets.0.0
-    relay_idle_from uncut idle (Err (stop.CaptureCut place)) meets h = absurd meets.0.0
-    relay_idle_from uncut idle (Err (stop.RunCut place summary)) meets h = absurd meets.0.0
     relay_idle_from uncut idle (Err stop.LinkFault) (cause, inl l) h = absurd (link_is_late l.0)
     relay_idle_from uncut idle (Err stop.LinkFault) (cause, inr l) h = absurd (not_idle idle (Err stop.LinkFault) tt l.0 l.1 l.2)
     relay_idle_from uncut idle (Err stop.IdleEnd) meets h = inl (stop_is failed status stop.IdleEnd h)
@@ -331,37 +223,18 @@ module _ (failed : Type 0) (status : ℕ) (before after : Outside) where
         let same = relayed_cut c.asset c.answers c.judged c.finds c.told c.are_items in
         let cuts = c.cuts in
         absurd (cc)
-    relay_idle_from uncut idle (Err (stop.Denied why)) meets h = absurd meets.0.0
-    relay_idle_from uncut idle (Err (stop.TooManyRules name)) meets h = absurd meets.0.0
-    relay_idle_from uncut idle (Err (stop.TooManyCells name)) meets h = absurd meets.0.0
+    relay_idle_from uncut idle (Err _) meets h = absurd meets.0.0
 
   -- answers that end in too many Idle: a line a command
-  idle_from : HasOneJudgement → (c : Command) → TellsIdle c before after.pair → (r : Result Done Stop) → Meets c before after r → IsOf r failed status → DueIdle
-  idle_from law (Check policy) t r meets h = absurd t
-  idle_from law (Compare policy second) t r meets h = absurd t
-  idle_from law (Judge policy capture) t r meets h = absurd t
-  idle_from law (Learn policy capture out) t r meets h = absurd t
-  idle_from law (Review policy capture log) t r meets h = absurd t
-  idle_from law (Migrate policy out) t r meets h = absurd t
-  idle_from law (Packets capture) t r meets h = absurd t
-  idle_from law (Run policy names) t r meets h = absurd t
+  idle_from : HasOneJudgement → (c : Command) → TellsIdle c before after.pair → (r : Result Done Stop) → Meets c before after r → IsOf r failed status → DueBehind failed status before after 9
   idle_from law (Relay policy asset port idles log) t r meets h = relay_idle_from law policy asset port idles log t.0 t.1 t.2 r meets h
-  idle_from law (World seed sessions policy names) t r meets h = absurd t
-  idle_from law (Sift policy asset client names) t r meets h = absurd t
+  idle_from law _ t r meets h = absurd t
 
   -- a stream that is cut: a line a command
-  stream_from : HasOneCut → HasOneJudgement → (c : Command) → TellsCut c before after.pair → (r : Result Done Stop) → Meets c before after r → IsOf r failed status → DueWritten
-  stream_from one judgement (Check policy) t r meets h = absurd t
-  stream_from one judgement (Compare policy second) t r meets h = absurd t
-  stream_from one judgement (Judge policy capture) t r meets h = absurd t
-  stream_from one judgement (Learn policy capture out) t r meets h = absurd t
-  stream_from one judgement (Review policy capture log) t r meets h = absurd t
-  stream_from one judgement (Migrate policy out) t r meets h = absurd t
-  stream_from one judgement (Packets capture) t r meets h = absurd t
-  stream_from one judgement (Run policy names) t r meets h = absurd t
+  stream_from : HasOneCut → HasOneJudgement → (c : Command) → TellsCut c before after.pair → (r : Result Done Stop) → Meets c before after r → IsOf r failed status → DueBehind failed status before after 12
   stream_from one judgement (Relay policy asset port idles log) t r meets h = relay_cut_from judgement policy asset port idles log t.0 t.1.0 t.1.1 r meets h
-  stream_from one judgement (World seed sessions policy names) t r meets h = absurd t
   stream_from one judgement (Sift policy asset client names) t r meets h = cut_from one policy asset client names t r meets h
+  stream_from one judgement _ t r meets h = absurd t
 
   -- what is due where the first of two policies is not included in the second
   abbrev DueDenied : Type 0
@@ -394,22 +267,11 @@ module _ (failed : Type 0) (status : ℕ) (before after : Outside) where
     denied_from (Err (stop.PolicyRefused r)) meets h = absurd (both_mean r meets.0)
     denied_from (Err stop.UnknownAsset) meets h = let cause : LacksAsset (Compare policy second) before = meets.0 in absurd (cc (cause.3))
     denied_from (Err stop.WriteFault) meets h = absurd (meets.1.unwritten refl)
-    denied_from (Err (stop.CaptureRefused r)) meets h = absurd meets.0.0
-    denied_from (Err (stop.CaptureCut place)) meets h = absurd meets.0.0
-    denied_from (Err (stop.RunCut place summary)) meets h = absurd meets.0.0
-    denied_from (Err stop.LinkFault) meets h = absurd meets.0.0
-    denied_from (Err stop.IdleEnd) meets h = absurd meets.0.0
-    denied_from (Err (stop.Cut reason)) meets h = absurd meets.0.0
     denied_from (Err (stop.Denied why)) meets h = inl (inl (stop_is failed status (stop.Denied why) h))
-    denied_from (Err (stop.TooManyRules name)) meets h = absurd meets.0.0
     denied_from (Err (stop.TooManyCells name)) meets h = inl (inr (stop_is failed status (stop.TooManyCells name) h))
+    denied_from (Err _) meets h = absurd meets.0.0
 
   module _ (policy capture : List ℕ) (t : TellsObjection policy capture before) where
-    judged_in_form : EndsInForm (Judge policy capture) before
-    judged_in_form =
-        ends_in_form (Judge policy capture) before
-        (λ file e. let same : capture ≡ file = cc in (t.bytes, subst (λ f. before.files.content f ≡ holds t.bytes) same t.told, (t.ends, t.short))) tt
-
     objection_from : (r : Result Done Stop) → Meets (Judge policy capture) before after r → IsOf r failed status → DueDenied
     objection_from (Ok d) meets h = absurd (t.not_clean d meets.keeps)
     objection_from (Err stop.ReadFault) meets h = inr (inl (stop_is failed status stop.ReadFault h, meets.0))
@@ -418,26 +280,16 @@ module _ (failed : Type 0) (status : ℕ) (before after : Outside) where
         absurd (known_unrefused (Judge policy capture) before policy t.known.bytes t.known.policy r refl t.known.told t.known.means (λ second e. cc e) meets.0)
     objection_from (Err stop.UnknownAsset) meets h = let cause : LacksAsset (Judge policy capture) before = meets.0 in absurd (cc (cause.3))
     objection_from (Err stop.WriteFault) meets h = absurd (meets.1.unwritten refl)
-    objection_from (Err (stop.CaptureRefused r)) meets h = absurd (judged_in_form.refused r meets.0.0)
-    objection_from (Err (stop.CaptureCut place)) meets h = absurd (judged_in_form.cut place meets.0.0)
-    objection_from (Err (stop.RunCut place summary)) meets h = absurd meets.0.0
-    objection_from (Err stop.LinkFault) meets h = absurd meets.0.0
-    objection_from (Err stop.IdleEnd) meets h = absurd meets.0.0
-    objection_from (Err (stop.Cut reason)) meets h = absurd meets.0.0
+    objection_from (Err (stop.CaptureRefused r)) meets h = absurd (not_refused_watch t.bytes (t.ends, t.short) _ t.told r meets.0.0)
+    objection_from (Err (stop.CaptureCut place)) meets h = absurd (not_cut_watch t.bytes (t.ends, t.short) _ t.told place meets.0.0)
     objection_from (Err (stop.Denied why)) meets h = inl (inl (stop_is failed status (stop.Denied why) h))
-    objection_from (Err (stop.TooManyCells name)) meets h = absurd meets.0.0
-    objection_from (Err (stop.TooManyRules name)) meets h = absurd meets.0.0
+    objection_from (Err _) meets h = absurd meets.0.0
 
   module _ (policy capture log : List ℕ) (t : TellsRemark policy capture before) where
-    reviewed_in_form : EndsInForm (Review policy capture log) before
-    reviewed_in_form =
-        ends_in_form (Review policy capture log) before
-        (λ file e. let same : capture ≡ file = cc in (t.bytes, subst (λ f. before.files.content f ≡ holds t.bytes) same t.told, (t.ends, t.short))) tt
-
     clean_of : (counts : Counts) → DoesReview policy capture log before after (done.Reviewed counts) → NothingRemarked policy capture before
     clean_of counts m = let h : HoldsReview policy capture log before after = m.0.holds in (h.known, h.stamps, h.reviewed, h.has, m.1)
 
-    remark_from : (r : Result Done Stop) → Meets (Review policy capture log) before after r → IsOf r failed status → DueBehind 15
+    remark_from : (r : Result Done Stop) → Meets (Review policy capture log) before after r → IsOf r failed status → DueBehind failed status before after 15
     remark_from (Ok (done.Reviewed counts)) meets h = absurd (t.not_clean (clean_of counts meets))
     remark_from (Ok d) meets h = absurd meets
     remark_from (Err stop.ReadFault) meets h = inr (inr (inl (stop_is failed status stop.ReadFault h, meets.0)))
@@ -446,17 +298,12 @@ module _ (failed : Type 0) (status : ℕ) (before after : Outside) where
         absurd (known_unrefused (Review policy capture log) before policy t.known.bytes t.known.policy r refl t.known.told t.known.means (λ second e. cc e) meets.0)
     remark_from (Err stop.UnknownAsset) meets h = let cause : LacksAsset (Review policy capture log) before = meets.0 in absurd (cc (cause.3))
     remark_from (Err stop.WriteFault) meets h = inr (inl (stop_is failed status stop.WriteFault h, inl meets.0.0))
-    remark_from (Err (stop.CaptureRefused r)) meets h = absurd (reviewed_in_form.refused r meets.0.0)
-    remark_from (Err (stop.CaptureCut place)) meets h = absurd (reviewed_in_form.cut place meets.0.0)
-    remark_from (Err (stop.RunCut place summary)) meets h = absurd meets.0.0
-    remark_from (Err stop.LinkFault) meets h = absurd meets.0.0
-    remark_from (Err stop.IdleEnd) meets h = absurd meets.0.0
-    remark_from (Err (stop.Cut reason)) meets h = absurd meets.0.0
+    remark_from (Err (stop.CaptureRefused r)) meets h = absurd (not_refused_watch t.bytes (t.ends, t.short) _ t.told r meets.0.0)
+    remark_from (Err (stop.CaptureCut place)) meets h = absurd (not_cut_watch t.bytes (t.ends, t.short) _ t.told place meets.0.0)
     remark_from (Err (stop.Denied why)) meets h = inl (stop_is failed status (stop.Denied why) h)
-    remark_from (Err (stop.TooManyCells name)) meets h = absurd meets.0.0
-    remark_from (Err (stop.TooManyRules name)) meets h = absurd meets.0.0
+    remark_from (Err _) meets h = absurd meets.0.0
 
-  remarked_from : (c : Command) → TellsRemarks c before → (r : Result Done Stop) → Meets c before after r → IsOf r failed status → DueBehind 15
+  remarked_from : (c : Command) → TellsRemarks c before → (r : Result Done Stop) → Meets c before after r → IsOf r failed status → DueBehind failed status before after 15
   remarked_from (Review policy capture log) t r meets h = remark_from policy capture log t r meets h
   remarked_from c t r meets h = absurd t
 
@@ -473,19 +320,13 @@ later due status before middle after rise (inl h) = inl h
 later due status before middle after rise (inr (inl h)) = inr (inl (h.0, rise h.1))
 later due status before middle after rise (inr (inr h)) = inr (inr h)
 
-later_written : (status n : ℕ) (before middle after : Outside) (failed : Type 0) → (ReadFailed before middle → ReadFailed before after) →
-    (WriteFailed before middle ⊎ failed → WriteFailed before after) → DueBehind failed status before middle n → DueBehind ⊥ status before after n
-later_written status n before middle after failed rise wrote (inl h) = inl h
-later_written status n before middle after failed rise wrote (inr (inl h)) = inr (inl (h.0, inl (wrote h.1)))
-later_written status n before middle after failed rise wrote (inr (inr (inl h))) = inr (inr (inl (h.0, rise h.1)))
-later_written status n before middle after failed rise wrote (inr (inr (inr h))) = inr (inr (inr h))
-
-plain : (status n : ℕ) (before after : Outside) → DueBehind ⊥ status before after n →
+later_written : (failed : Type 0) (status n : ℕ) (before middle after : Outside) → (ReadFailed before middle → ReadFailed before after) →
+    (WriteFailed before middle ⊎ failed → WriteFailed before after) → DueBehind failed status before middle n →
     (status ≡ n) ⊎ (((status ≡ 4) × WriteFailed before after) ⊎ (((status ≡ 3) × ReadFailed before after) ⊎ (status ≡ 13)))
-plain status n before after (inl h) = inl h
-plain status n before after (inr (inl (h, inl w))) = inr (inl (h, w))
-plain status n before after (inr (inl (h, inr w))) = absurd w
-plain status n before after (inr (inr h)) = inr (inr h)
+later_written failed status n before middle after rise wrote (inl h) = inl h
+later_written failed status n before middle after rise wrote (inr (inl h)) = inr (inl (h.0, wrote h.1))
+later_written failed status n before middle after rise wrote (inr (inr (inl h))) = inr (inr (inl (h.0, rise h.1)))
+later_written failed status n before middle after rise wrote (inr (inr (inr h))) = inr (inr (inr h))
 
 pub exact_told : HasOneCut → HasOneJudgement → {c : Command} {before after : Outside} {status : ℕ} (e : Explains c before after status) → IsExact c before after status
 exact_told one law {c = c} {before = before} {after = after} {status = status} e = record {
@@ -493,16 +334,16 @@ exact_told one law {c = c} {before = before} {after = after} {status = status} e
       (refused_from (Unprinted e) status before e.middle c t e.r e.meets (explained e));
   unknown = λ t. later (status ≡ 10) status before e.middle after (read_failed e)
       (unknown_from (Unprinted e) status before e.middle c t e.r e.meets (explained e));
-  capture = λ t. plain status 6 before after (later_written status 6 before e.middle after (Unprinted e) (read_failed e) (write_failed e)
-      (capture_from (Unprinted e) status before e.middle c t e.r e.meets (explained e)));
-  capture_cut = λ t. plain status 7 before after (later_written status 7 before e.middle after (Unprinted e) (read_failed e) (write_failed e)
-      (capture_cut_from (Unprinted e) status before e.middle c t e.r e.meets (explained e)));
-  cut = λ t. plain status 12 before after (later_written status 12 before e.middle after (Unprinted e) (read_failed e) (write_failed e)
-      (stream_from (Unprinted e) status before e.middle one law c (subst (λ p. TellsCut c before p) e.reports.pair t) e.r e.meets (explained e)));
-  idle = λ t. plain status 9 before after (later_written status 9 before e.middle after (Unprinted e) (read_failed e) (write_failed e)
-      (idle_from (Unprinted e) status before e.middle law c (subst (λ p. TellsIdle c before p) e.reports.pair t) e.r e.meets (explained e)));
-  remarked = λ t. plain status 15 before after (later_written status 15 before e.middle after (Unprinted e) (read_failed e) (write_failed e)
-      (remarked_from (Unprinted e) status before e.middle c t e.r e.meets (explained e)));
+  capture = λ t. later_written (Unprinted e) status 6 before e.middle after (read_failed e) (write_failed e)
+      (capture_from (Unprinted e) status before e.middle c t e.r e.meets (explained e));
+  capture_cut = λ t. later_written (Unprinted e) status 7 before e.middle after (read_failed e) (write_failed e)
+      (capture_cut_from (Unprinted e) status before e.middle c t e.r e.meets (explained e));
+  cut = λ t. later_written (Unprinted e) status 12 before e.middle after (read_failed e) (write_failed e)
+      (stream_from (Unprinted e) status before e.middle one law c (subst (λ p. TellsCut c before p) e.reports.pair t) e.r e.meets (explained e));
+  idle = λ t. later_written (Unprinted e) status 9 before e.middle after (read_failed e) (write_failed e)
+      (idle_from (Unprinted e) status before e.middle law c (subst (λ p. TellsIdle c before p) e.reports.pair t) e.r e.meets (explained e));
+  remarked = λ t. later_written (Unprinted e) status 15 before e.middle after (read_failed e) (write_failed e)
+      (remarked_from (Unprinted e) status before e.middle c t e.r e.meets (explained e));
   denied = λ t. later ((status ≡ 15) ⊎ (status ≡ 17)) status before e.middle after (read_failed e)
       (asked_from (Unprinted e) status before e.middle c t e.r e.meets (explained e));
 }

@@ -1,5 +1,6 @@
 -- Which files are as they were.
 use Rattle.std.proofs.Common.{◌≡◌, ◌≢◌, ℕ, List, [], ◌∷◌, Result, Ok, Err, sym, subst, ◌∙◌, ap, inl, inr, arith}
+use Rattle.cf_outside.specs.Frames.{KeepsOtherFiles}
 use Rattle.cf_relay.specs.declared.done.RelayDone.{RelayDone}
 use Rattle.cf_relay.specs.declared.done.RelayEnd.{RelayEnd}
 use Rattle.cf_relay.specs.declared.done.RelayEnd.TheVariants as ends
@@ -9,10 +10,9 @@ use Rattle.cf_run.specs.RunCapture.{RunNamesValue}
 use Rattle.cf_run.specs.declared.run.RunFault.{RunFault}
 use Rattle.cf_run.specs.declared.run.RunFault.TheVariants as fault
 use Rattle.cf_run.specs.declared.run.RunRefusal.TheVariants as by
-use Rattle.cf_box.specs.Command.{Command, Check, Compare, Judge, Migrate, Packets, Review, Run, Relay, World, Sift, output_files, Learn}
+use Rattle.cf_words.specs.Command.{Command, Check, Compare, Judge, Migrate, Packets, Review, Run, Relay, World, Sift, output_files, Learn}
 use Rattle.cf_box.specs.Ending.{status_of, stop_status}
 use Rattle.cf_box.specs.Ends.{Does, Leaves, Meets, StopsFor}
-use Rattle.cf_sift.specs.Outputs.{IsSameBeside, KeepsAllBut}
 use Rattle.cf_box.specs.Learn.{LearnLeaves}
 use Rattle.cf_box.specs.Migrate.{MigrateLeaves}
 use Rattle.cf_box.specs.Outside.{Outside}
@@ -37,15 +37,8 @@ none_of n (inr (inr e)) a b c = c e
 
 -- no fault of a run has one
 not_of_run : (f : RunFault) → WritesNothing (stop_status (run_stop f)) → ⊥
-not_of_run fault.NoMemory w = none_of 13 w (omega arith) (omega arith) (omega arith)
-not_of_run fault.Read w = none_of 3 w (omega arith) (omega arith) (omega arith)
-not_of_run fault.Write w = none_of 4 w (omega arith) (omega arith) (omega arith)
-not_of_run (fault.Refused (by.Header of)) w = none_of 6 w (omega arith) (omega arith) (omega arith)
-not_of_run (fault.Refused (by.Block of)) w = none_of 6 w (omega arith) (omega arith) (omega arith)
 not_of_run (fault.Refused by.TooLong) w = none_of 6 w (omega arith) (omega arith) (omega arith)
-not_of_run (fault.Refused by.Clock) w = none_of 6 w (omega arith) (omega arith) (omega arith)
-not_of_run (fault.Refused by.Large) w = none_of 6 w (omega arith) (omega arith) (omega arith)
-not_of_run (fault.Cut at summary) w = none_of 7 w (omega arith) (omega arith) (omega arith)
+not_of_run f w = none_of (stop_status (run_stop f)) w (omega arith) (omega arith) (omega arith)
 
 -- nor has the end of a relay
 not_of_end : (admitted refused : ℕ) (end : RelayEnd) (s : Stop) → WritesNothing (stop_status s) → end_answer admitted refused end ≡ Err s → ⊥
@@ -56,24 +49,19 @@ not_of_end admitted refused (ends.Cut reason) s w is = none_of 12 (subst (λ r. 
 not_of_relay : (s : Stop) → WritesNothing (stop_status s) → (answer : Result RelayDone RelayFault) → relay_answer answer ≡ Err s → ⊥
 not_of_relay s w (Ok relayed) is = not_of_end relayed.admitted relayed.refused relayed.end s w is
 not_of_relay s w (Err relay_fault.NoMemory) is = none_of 13 (subst (λ r. WritesNothing (status_of r)) (sym is) w) (omega arith) (omega arith) (omega arith)
-not_of_relay s w (Err relay_fault.Link) is = none_of 8 (subst (λ r. WritesNothing (status_of r)) (sym is) w) (omega arith) (omega arith) (omega arith)
-not_of_relay s w (Err relay_fault.Write) is = none_of 4 (subst (λ r. WritesNothing (status_of r)) (sym is) w) (omega arith) (omega arith) (omega arith)
+not_of_relay s w (Err f) is = none_of (status_of (relay_answer (Err f))) (subst (λ r. WritesNothing (status_of r)) (sym is) w) (omega arith) (omega arith) (omega arith)
 
 module _ (before after : Outside) where
-  all_kept : (names : List (List ℕ)) (other : List ℕ) → after.files.content ≡ before.files.content → IsSameBeside before.files.content after.files.content other names
-  all_kept [] other same = ap (λ f. f other) same
-  all_kept (name ∷ names) other same = λ _. all_kept names other same
-
   abbrev Keeps : Command → Type 0
-  Keeps k = KeepsAllBut before.files.content after.files.content (output_files k)
+  Keeps k = KeepsOtherFiles (output_files k) before.files.content after.files.content
 
   nothing_written : (k : Command) → after.files.content ≡ before.files.content → Keeps k
-  nothing_written k same = λ other. all_kept (output_files k) other same
+  nothing_written k same = λ other _. ap (λ f. f other) same
 
   -- a relay writes its log alone
   relay_keeps : (policy asset : List ℕ) (port idles : ℕ) (log : List ℕ) (answer : Result RelayDone RelayFault) → HasRelayed policy asset port idles log before after answer →
-      KeepsAllBut before.files.content after.files.content (log ∷ [])
-  relay_keeps policy asset port idles log answer relayed = λ other differs. relayed.others other differs
+      KeepsOtherFiles (log ∷ []) before.files.content after.files.content
+  relay_keeps policy asset port idles log answer relayed = λ other none. relayed.others other none.0
 
   review_done_keeps : (policy capture log : List ℕ) (d : Done) → DoesReview policy capture log before after d → Keeps (Review policy capture log)
   review_done_keeps policy capture log (done.Reviewed counts) m = m.0.others
@@ -84,14 +72,13 @@ module _ (before after : Outside) where
   done_keeps (Check policy) d m = nothing_written (Check policy) m.same.content
   done_keeps (Compare policy other) d m = nothing_written (Compare policy other) m.same.content
   done_keeps (Judge policy capture) d m = nothing_written (Judge policy capture) m.same.content
-  done_keeps (Learn policy capture out) d m = m.others
-  done_keeps (Migrate policy out) d m = m.others
   done_keeps (Packets file) d m = nothing_written (Packets file) m.content
   done_keeps (Review policy capture log) d m = review_done_keeps policy capture log d m
   done_keeps (Run policy names) d m = m.1.others
   done_keeps (Relay policy asset port idles log) d m = relay_keeps policy asset port idles log m.0 m.1
-  done_keeps (World seed sessions policy names) d m = λ other p c out log. m.2.1.others other out log ∙ m.1.others other p c
+  done_keeps (World seed sessions policy names) d m = λ other none. m.2.1.others other none.1.1 ∙ m.1.others other (none.0, (none.1.0, tt))
   done_keeps (Sift policy asset client names) d m = m.takes.sifted.others
+  done_keeps _ d m = m.others
 
   sift_keeps : (policy asset : List ℕ) (client : ℕ) (names : SiftNamesValue) (s : Stop) → SiftLeaves policy asset client names before after s → Keeps (Sift policy asset client names)
   sift_keeps policy asset client names stop.ReadFault (inl l) = nothing_written (Sift policy asset client names) l.content
@@ -115,8 +102,8 @@ module _ (before after : Outside) where
 
   -- a run that stopped, from another moment on
   run_stop_keeps : (between : Outside) (policy : List ℕ) (names : RunNamesValue) (s : Stop) → RunLeaves policy names between after s →
-      KeepsAllBut between.files.content after.files.content (names.out ∷ names.log ∷ [])
-  run_stop_keeps between policy names s (inl l) = λ other out log. ap (λ f. f other) l.1.content
+      KeepsOtherFiles (names.out ∷ names.log ∷ []) between.files.content after.files.content
+  run_stop_keeps between policy names s (inl l) = λ other none. ap (λ f. f other) l.1.content
   run_stop_keeps between policy names s (inr l) = l.1.others
 
   -- and so does what stopped: a line a command
@@ -132,8 +119,8 @@ module _ (before after : Outside) where
   stop_keeps (Run policy names) s (inr l) = l.1.others
   stop_keeps (Relay policy asset port idles log) s (inl l) = nothing_written (Relay policy asset port idles log) l.1.content
   stop_keeps (Relay policy asset port idles log) s (inr l) = relay_keeps policy asset port idles log l.0 l.1
-  stop_keeps (World seed sessions policy names) s (inl l) = λ other p c out log. l.1.others other p c
-  stop_keeps (World seed sessions policy names) s (inr l) = λ other p c out log. run_stop_keeps l.0 policy names s l.2 other out log ∙ l.1.others other p c
+  stop_keeps (World seed sessions policy names) s (inl l) = λ other none. l.1.others other (none.0, (none.1.0, tt))
+  stop_keeps (World seed sessions policy names) s (inr l) = λ other none. run_stop_keeps l.0 policy names s l.2 other none.1.1 ∙ l.1.others other (none.0, (none.1.0, tt))
   stop_keeps (Sift policy asset client names) s l = sift_keeps policy asset client names s l
 
   pub keeps_from : (c : Command) (r : Result Done Stop) → Meets c before after r → Keeps c
@@ -170,20 +157,12 @@ module _ (before after : Outside) where
   not_of_world seed sessions policy names (stop.CaptureRefused r) w t f = t.1 f.0
   not_of_world seed sessions policy names (stop.CaptureCut place) w t f = t.1 f.0
   not_of_world seed sessions policy names (stop.RunCut place summary) w t f = t.1 f.0
-  not_of_world seed sessions policy names stop.LinkFault w t f = f.0
-  not_of_world seed sessions policy names stop.IdleEnd w t f = f.0
   not_of_world seed sessions policy names stop.UnknownAsset w t f = cc (f.3)
-  not_of_world seed sessions policy names (stop.Cut reason) w t f = f.0
-  not_of_world seed sessions policy names (stop.Denied why) w t f = f.0
-  not_of_world seed sessions policy names (stop.TooManyRules name) w t f = f.0
-  not_of_world seed sessions policy names (stop.TooManyCells name) w t f = f.0
   not_of_world seed sessions policy names stop.NoMemory w t f = none_of 13 w (omega arith) (omega arith) (omega arith)
+  not_of_world seed sessions policy names _ w t f = f.0
 
   -- such a status leaves the files as they were: a line a command
   unwritten_by : (k : Command) (s : Stop) → WritesNothing (stop_status s) → TellsMade k before → StopsFor k before after s → Leaves k before after s → after.files.content ≡ before.files.content
-  unwritten_by (Check policy) s w t f l = l.same.content
-  unwritten_by (Compare policy other) s w t f l = l.same.content
-  unwritten_by (Judge policy capture) s w t f l = l.same.content
   unwritten_by (Learn policy capture out) s w t f l = learn_unwritten policy capture out s w l
   unwritten_by (Review policy capture log) s w t f l = review_unwritten policy capture log s w l
   unwritten_by (Migrate policy out) s w t f l = migrate_unwritten policy out s w l
@@ -194,6 +173,7 @@ module _ (before after : Outside) where
   unwritten_by (Relay policy asset port idles log) s w t f (inr l) = absurd (not_of_relay s w l.0 l.2)
   unwritten_by (World seed sessions policy names) s w t f l = absurd (not_of_world seed sessions policy names s w t f)
   unwritten_by (Sift policy asset client names) s w t f l = sift_unwritten policy asset client names s w l
+  unwritten_by _ s w t f l = l.same.content
 
   module _ (failed : Type 0) (status : ℕ) where
     unwritten_from : (c : Command) (r : Result Done Stop) → Meets c before after r → IsOf r failed status → WritesNothing status → TellsMade c before → after.files.content ≡ before.files.content
@@ -202,9 +182,9 @@ module _ (before after : Outside) where
     unwritten_from c (Err s) meets h w t = unwritten_by c s (subst WritesNothing (stop_is failed status s h) w) t meets.0 meets.1
 
 module _ {c : Command} {before after : Outside} {status : ℕ} (e : Explains c before after status) where
-  pub kept_told : KeepsAllBut before.files.content after.files.content (output_files c)
+  pub kept_told : KeepsOtherFiles (output_files c) before.files.content after.files.content
   kept_told =
-      subst (λ f. KeepsAllBut before.files.content f (output_files c)) (sym (ap (λ f. f.content) e.reports.files)) (keeps_from before e.middle c e.r e.meets)
+      subst (λ f. KeepsOtherFiles (output_files c) before.files.content f) (sym (ap (λ f. f.content) e.reports.files)) (keeps_from before e.middle c e.r e.meets)
 
   pub unwritten_told : WritesNothing status → TellsMade c before → after.files.content ≡ before.files.content
   unwritten_told w t = ap (λ f. f.content) e.reports.files ∙ unwritten_from before e.middle (Unprinted e) status c e.r e.meets (explained e) w t

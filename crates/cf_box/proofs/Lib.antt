@@ -3,13 +3,11 @@ pub mod CaptureStops
 pub mod Comparing
 pub mod Complete
 pub mod Exact
-pub mod FileNames
 pub mod Judging
 pub mod Kept
 pub mod Learning
 pub mod Listing
 pub mod Migrating
-pub mod Numerals
 mod Passing
 pub mod Recorded
 pub mod Relaying

@@ -1,19 +1,20 @@
 -- Records that are listed one by one, where lines are gathered before they are put.
-use Rattle.std.proofs.Common.{◌≡◌, ◌≢◌, ◌⊎◌, ℕ, zero, suc, ◌+◌, List, [], ◌∷◌, ◌++◌, length, min, take, drop, Option, Some, None, Result, Ok, Err, refl, subst, sym, ap, ◌∙◌, append_assoc, inl, inr, arith}
+use Rattle.std.proofs.Common.{◌≡◌, ◌≢◌, ◌≤◌, ◌⊎◌, ℕ, zero, suc, ◌+◌, List, [], ◌∷◌, ◌++◌, length, min, take, drop, Option, Some, None, Result, Ok, Err, refl, subst, sym, ap, ◌∙◌, append_assoc, inl, inr, arith}
 use Rattle.std.proofs.lemmas.List.{append-nil, length-append, drop-drop, take_all, take-append-le}
 use Rattle.std.proofs.lemmas.Bool.{cases_lt}
 use Rattle.std.proofs.Math.Seq.{take-append-add}
+use Rattle.cf_outside.specs.Faults.{HasCause}
 use Rattle.cf_outside.specs.Files.{Content, untold, absent, holds}
 use Rattle.cf_outside.specs.Sink.{printed_with}
-use Rattle.cf_run.proofs.Behind.{StandsBehind}
-use Rattle.cf_run.proofs.RecordLists.{have_records}
-use Rattle.cf_run.specs.Capture.{AreRecords, AtPlace, FileEnd, IsLast, LastPlace, Record, Refused, form_behind}
-use Rattle.cf_run.specs.Form.{first_place}
-use Rattle.cf_run.specs.Reader.{FindsRecord, HasForm, PassesTo, ReaderValue}
-use Rattle.cf_run.specs.declared.BlockRefusal.{BlockRefusal}
-use Rattle.cf_run.specs.declared.BlockRefusal.TheVariants as block
-use Rattle.cf_run.specs.declared.Form.{Form}
-use Rattle.cf_run.specs.declared.NextRecord.TheVariants as next
+use Rattle.cf_records.proofs.Behind.{StandsBehind}
+use Rattle.cf_records.proofs.RecordLists.{have_records}
+use Rattle.cf_records.specs.Capture.{AreRecords, AtPlace, FileEnd, IsLast, LastPlace, Record, Refused, form_behind}
+use Rattle.cf_records.specs.Form.{first_place}
+use Rattle.cf_records.specs.Reader.{FindsRecord, HasForm, PassesTo, ReaderValue}
+use Rattle.cf_records.specs.declared.BlockRefusal.{BlockRefusal}
+use Rattle.cf_records.specs.declared.BlockRefusal.TheVariants as block
+use Rattle.cf_records.specs.declared.Form.{Form}
+use Rattle.cf_records.specs.declared.NextRecord.TheVariants as next
 use Rattle.cf_box.specs.Captures.{block_refusal}
 use Rattle.cf_box.specs.declared.ending.Done.{Done}
 use Rattle.cf_box.specs.declared.ending.Stop.{Stop}
@@ -230,11 +231,12 @@ module _ {file : Content} {start : Form} {reader : ReaderValue} {number : ℕ} {
 pub block_answers : (of : BlockRefusal) (records : List Record) (last : LastPlace) (before after : Option (List ℕ)) (failed : Type 0) → last.found ≡ Refused of →
     after ≡ printed_with before (lines_from 1 records) → ListingAnswers records last before after failed (Err (stop.CaptureRefused (block_refusal of)))
 block_answers block.Block records last before after failed e put = (e, put)
-block_answers block.Section records last before after failed e put = (e, put)
-block_answers block.Interface records last before after failed e put = (e, put)
-block_answers block.Resolution records last before after failed e put = (e, put)
+block_answers _ records last before after failed e put = (e, put)
 
 -- an ending that is no failed read is none
 pub not_read : {A B C : Type 0} (answer ended : Result Done Stop) → ((answer ≡ ended) × A) ⊎ ((answer ≡ Err stop.WriteFault) × B × C) → ended ≢ Err stop.ReadFault → answer ≡ Err stop.ReadFault → ⊥
 not_read answer ended (inl h) other is = other (sym h.0 ∙ is)
 not_read answer ended (inr h) other is = let write = h.0 in cc
+
+pub unread : {before middle after : ℕ} {failed : Type 0} → before ≤ middle → middle ≤ after → (failed → ⊥) → HasCause before after failed
+unread early late never = record { later = omega (arith, early, late); rose = λ is. absurd (never is) }

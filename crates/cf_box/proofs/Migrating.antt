@@ -1,39 +1,26 @@
 -- The answer of the writing of a policy, as the answer of the command.
-use Rattle.std.proofs.Common.{◌≡◌, ℕ, List, [], ◌∷◌, Some, Result, Ok, Err, refl, ap, subst, ◌∙◌, inl}
+use Rattle.std.proofs.Common.{◌≡◌, ℕ, List, [], ◌∷◌, Result, Ok, Err, refl, ap, subst, ◌∙◌, inl}
 use Rattle.cf_outside.specs.Faults.{Rose}
-use Rattle.cf_outside.specs.Files.{IsPartly, KeepsOthers, content_after_write}
+use Rattle.cf_outside.specs.Files.{IsPartly, content_after_write}
+use Rattle.cf_outside.specs.Frames.{KeepsOtherFiles}
 use Rattle.cf_policy.specs.declared.Policy.{Policy}
-use Rattle.cf_sift.specs.Outputs.{KeepsAllBut}
-use Rattle.cf_box.specs.Check.{ChangesNothing}
-use Rattle.cf_box.specs.Command.{Migrate}
+use Rattle.cf_words.specs.Command.{Migrate}
 use Rattle.cf_box.specs.Ends.{Meets, PassesPolicy}
-use Rattle.cf_box.specs.Migrate.{MigrateLeaves}
 use Rattle.cf_box.specs.Outside.{Outside, ReadsOnly}
-use Rattle.cf_box.specs.PolicyFile.{HasPolicy, StopsPolicy, WritesPolicy}
+use Rattle.cf_box.specs.PolicyFile.{HasPolicy, WritesPolicy}
 use Rattle.cf_box.specs.declared.ending.Done.{Done}
 use Rattle.cf_box.specs.declared.ending.Stop.{Stop}
 use Rattle.cf_box.specs.declared.ending.Stop.TheVariants as stop
-
--- the policy was not read
-pub unread_leaves : (policy out : List ℕ) (before after : Outside) (s : Stop) → StopsPolicy s → ChangesNothing before after →
-    MigrateLeaves policy out before after s
-unread_leaves policy out before after stop.ReadFault early same = same
-unread_leaves policy out before after (stop.PolicyRefused r) early same = same
-unread_leaves policy out before after stop.NoMemory early same = same
-unread_leaves policy out before after s early same = absurd early
+use Rattle.cf_box.proofs.Passing.{policy_passes}
 
 module _ (policy out : List ℕ) (before middle after : Outside) where
   module _ (p : Policy) (has : HasPolicy (before.files.content policy) p) (only : ReadsOnly before.files middle.files)
-      (others : KeepsOthers out middle.files.content after.files.content) (sink : after.sink ≡ before.sink) (pair : after.pair ≡ before.pair) where
-    kept : KeepsAllBut before.files.content after.files.content (out ∷ [])
-    kept = λ other differs. others other differs ∙ ap (λ f. f other) only.content
+      (others : KeepsOtherFiles (out ∷ []) middle.files.content after.files.content) (sink : after.sink ≡ before.sink) (pair : after.pair ≡ before.pair) where
+    kept : KeepsOtherFiles (out ∷ []) before.files.content after.files.content
+    kept = λ other none. others other none ∙ ap (λ f. f other) only.content
 
     passes : PassesPolicy (Migrate policy out) before
-    passes = record {
-      policy = λ file e. let here : policy ≡ file = cc in (p, subst (λ f. HasPolicy (before.files.content f) p) here has);
-      other = λ file e. cc e;
-      asset = λ file name e f. cc f;
-    }
+    passes = policy_passes (Migrate policy out) before policy p refl refl refl has
 
     -- it was read, and then written with this answer
     pub written_meets : (r : Result Done Stop) → WritesPolicy p (middle.files.content out) (after.files.content out) r →

@@ -13,7 +13,7 @@ use Rattle.cf_relay.specs.declared.done.RelayEnd.{RelayEnd}
 use Rattle.cf_relay.specs.declared.done.RelayEnd.TheVariants as ends
 use Rattle.cf_relay.specs.declared.done.RelayFault.{RelayFault}
 use Rattle.cf_relay.specs.declared.done.RelayFault.TheVariants as fault
-use Rattle.cf_box.specs.Command.{Relay}
+use Rattle.cf_words.specs.Command.{Relay}
 use Rattle.cf_box.specs.Ends.{Meets, PassesPolicy}
 use Rattle.cf_box.specs.Outside.{Outside, ReadsOnly}
 use Rattle.cf_box.specs.PolicyFile.{FindsAsset, StopsPolicy}
@@ -65,21 +65,18 @@ module _ (asset : Asset) (listen most : ℕ) (log : LogContents) (same : Type 0)
       RelayEnds asset listen most log same es answer → IsUncut asset es
   uncut_by r kind (Ok relayed) is h = uncut_at r kind relayed relayed.end is h
   uncut_by r kind (Err fault.Link) is h = unstopped h.goes
-  uncut_by r kind (Err fault.Write) is h = absurd (subst IsUncutEnd (sym is) kind)
-  uncut_by r kind (Err fault.NoMemory) is h = absurd (subst IsUncutEnd (sym is) kind)
+  uncut_by r kind (Err _) is h = absurd (subst IsUncutEnd (sym is) kind)
 
   few_at : (r : Result Done Stop) → GoesOn r → (relayed : RelayDone) (end : RelayEnd) → end_answer relayed.admitted relayed.refused end ≡ r →
       EndsAs asset listen most log es relayed end → idle_run es < most
   few_at r kind relayed ends.Done is h = h.goes.idle
-  few_at r kind relayed ends.IdleEnd is h = absurd (subst GoesOn (sym is) kind)
-  few_at r kind relayed (ends.Cut reason) is h = absurd (subst GoesOn (sym is) kind)
+  few_at r kind relayed _ is h = absurd (subst GoesOn (sym is) kind)
 
   pub few_by : (r : Result Done Stop) → GoesOn r → (answer : Result RelayDone RelayFault) → relay_answer answer ≡ r →
       RelayEnds asset listen most log same es answer → idle_run es < most
   few_by r kind (Ok relayed) is h = few_at r kind relayed relayed.end is h
   few_by r kind (Err fault.Link) is h = h.goes.idle
-  few_by r kind (Err fault.Write) is h = absurd (subst GoesOn (sym is) kind)
-  few_by r kind (Err fault.NoMemory) is h = absurd (subst GoesOn (sym is) kind)
+  few_by r kind (Err _) is h = absurd (subst GoesOn (sym is) kind)
 
 -- ---- the answer of the command
 

@@ -1,15 +1,15 @@
 -- What holds where a run came to its end.
 use Rattle.std.proofs.Common.{◌≡◌, ℕ, ◌^◌, ◌≤◌, List, [], ◌∷◌, Result, Ok, Err, sym, subst, ◌∙◌, ap, inl, inr, arith}
 use Rattle.cf_lane.specs.declared.limit.TheConstants.{LETTER_LIMIT}
+use Rattle.cf_outside.specs.Frames.{KeepsOtherFiles}
 use Rattle.cf_outside.specs.Sink.{printed_with}
-use Rattle.cf_run.specs.Capture.{FileEnd}
+use Rattle.cf_records.specs.Capture.{FileEnd}
 use Rattle.cf_run.specs.Headline.{RunsHaveHeadline}
 use Rattle.cf_run.specs.RunCapture.{RunNamesValue, RunsTo}
 use Rattle.cf_run.specs.declared.summary.Summary.{Summary}
-use Rattle.cf_box.specs.Command.{Command, Run}
+use Rattle.cf_words.specs.Command.{Command, Run}
 use Rattle.cf_box.specs.Ending.{Puts, Reports, summary_text}
 use Rattle.cf_box.specs.Ends.{Meets}
-use Rattle.cf_sift.specs.Outputs.{KeepsAllBut}
 use Rattle.cf_box.specs.Outside.{Outside, SinkValue}
 use Rattle.cf_box.specs.Run.{HasRun}
 use Rattle.cf_box.specs.RunHolds.{RunHolds}
@@ -39,7 +39,7 @@ module _ (law : RunsHaveHeadline) (failed : Type 0) (status : ℕ) (policy_name 
         summary = summary;
         runs = runs;
         headline = law run.policy.assets LETTER_LIMIT runs.leaves.is_run.events small runs.leaves.is_run.are;
-        others = subst (λ c. KeepsAllBut before.files.content c (names.out ∷ names.log ∷ [])) same run.others;
+        others = subst (λ c. KeepsOtherFiles (names.out ∷ names.log ∷ []) before.files.content c) same run.others;
         printed = was_put (summary_text summary) middle.sink after.sink status reports.prints is ∙ ap (λ (s : SinkValue). printed_with s.text (summary_text summary)) run.sink;
         pair = reports.pair ∙ run.pair;
       }

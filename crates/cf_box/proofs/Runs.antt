@@ -2,10 +2,10 @@
 use Rattle.std.proofs.Common.{◌≡◌, ℕ, List, [], ◌∷◌, Result, Ok, Err, refl, ap, ◌∙◌, subst, arith, inl, inr}
 use Rattle.std.specs.Result.{IsErrOf}
 use Rattle.cf_lane.specs.declared.limit.TheConstants.{LETTER_LIMIT}
-use Rattle.cf_outside.specs.Desk.{IsNoneOf}
 use Rattle.cf_outside.specs.Faults.{Rose}
 use Rattle.cf_outside.specs.Files.{Content}
-use Rattle.cf_run.specs.Capture.{AtPlace}
+use Rattle.cf_outside.specs.Frames.{KeepsOtherFiles}
+use Rattle.cf_records.specs.Capture.{AtPlace}
 use Rattle.cf_policy.specs.declared.Policy.{Policy}
 use Rattle.cf_run.specs.RunCapture.{HasRunRecords, RunNamesValue, RunsAs, RunsTo}
 use Rattle.cf_run.specs.declared.run.RunFault.{RunFault}
@@ -13,9 +13,8 @@ use Rattle.cf_run.specs.declared.run.RunFault.TheVariants as fault
 use Rattle.cf_run.specs.declared.run.RunRefusal.TheVariants as by
 use Rattle.cf_run.specs.declared.summary.Summary.{Summary}
 use Rattle.cf_box.specs.Captures.{EndsAt}
-use Rattle.cf_box.specs.Command.{Run}
+use Rattle.cf_words.specs.Command.{Run}
 use Rattle.cf_box.specs.Ends.{Meets, PassesPolicy, StopsFor}
-use Rattle.cf_sift.specs.Outputs.{KeepsAllBut}
 use Rattle.cf_box.specs.Outside.{Outside, ReadsOnly}
 use Rattle.cf_box.specs.PolicyFile.{HasPolicy}
 use Rattle.cf_box.specs.Run.{HasRun, run_stop}
@@ -23,6 +22,7 @@ use Rattle.cf_box.specs.declared.ending.Done.{Done}
 use Rattle.cf_box.specs.declared.ending.Done.TheVariants as done
 use Rattle.cf_box.specs.declared.ending.Stop.{Stop}
 use Rattle.cf_box.proofs.CaptureStops.{block_refuses, form_refuses}
+use Rattle.cf_box.proofs.Passing.{policy_passes}
 
 -- the answer of the command
 abbrev pub run_answer : Result Summary RunFault → Result Done Stop
@@ -30,17 +30,13 @@ run_answer (Ok summary) = Ok (done.Ran summary)
 run_answer (Err fault) = Err (run_stop fault)
 
 -- every file but the two outputs is as it was
-pub kept_but : (names : RunNamesValue) (old middle new : List ℕ → Content) → middle ≡ old → ((other : List ℕ) → IsNoneOf (names.out ∷ names.log ∷ []) other → new other ≡ middle other) →
-    KeepsAllBut old new (names.out ∷ names.log ∷ [])
-kept_but names old middle new same kept = λ other out log. kept other (out, (log, tt)) ∙ ap (λ f. f other) same
+pub kept_but : (names : RunNamesValue) (old middle new : List ℕ → Content) → middle ≡ old → KeepsOtherFiles (names.out ∷ names.log ∷ []) middle new →
+    KeepsOtherFiles (names.out ∷ names.log ∷ []) old new
+kept_but names old middle new same kept = λ other none. kept other none ∙ ap (λ f. f other) same
 
 module _ (policy_name : List ℕ) (names : RunNamesValue) (before after : Outside) (policy : Policy) (has : HasPolicy (before.files.content policy_name) policy) where
   passes : PassesPolicy (Run policy_name names) before
-  passes = record {
-    policy = λ file e. let same : policy_name ≡ file = cc in (policy, subst (λ f. HasPolicy (before.files.content f) policy) same has);
-    other = λ file e. cc e;
-    asset = λ file name e f. cc f;
-  }
+  passes = policy_passes (Run policy_name names) before policy_name policy refl refl refl has
 
   -- where the records ended
   ends_at : (found : AtPlace) (place : ℕ) (summary : Summary) → RunsTo policy.assets LETTER_LIMIT names before.files.content after.files.content found place summary → EndsAt HasRunRecords (before.files.content names.capture) found place
@@ -55,10 +51,8 @@ module _ (policy_name : List ℕ) (names : RunNamesValue) (before after : Outsid
   stops (fault.Refused (by.Header of)) h read write = (form_refuses HasRunRecords (before.files.content names.capture) of h.0, passes)
   stops (fault.Refused (by.Block of)) h read write =
       (block_refuses HasRunRecords (before.files.content names.capture) of (h.0, ends_at _ h.0 h.1 h.2), passes)
-  stops (fault.Refused by.TooLong) h read write = ((h.0, ends_at _ h.0 h.1 h.2), passes)
-  stops (fault.Refused by.Clock) h read write = ((h.0, ends_at _ h.0 h.1 h.2), passes)
-  stops (fault.Refused by.Large) h read write = ((h.0, ends_at _ h.0 h.1 h.2), passes)
   stops (fault.Cut at summary) h read write = (ends_at _ at summary h, passes)
+  stops (fault.Refused _) h read write = ((h.0, ends_at _ h.0 h.1 h.2), passes)
 
   pub run_meets : (r : Result Summary RunFault) → HasRun policy_name names before after r → RunsAs policy.assets LETTER_LIMIT names before.files.content after.files.content r →
       (IsErrOf r fault.Read → Rose before.files.read_faults after.files.read_faults) → (IsErrOf r fault.Write → Rose before.files.write_faults after.files.write_faults) →
@@ -69,7 +63,7 @@ module _ (policy_name : List ℕ) (names : RunNamesValue) (before after : Outsid
 -- the same after files were read, none of which changed
 pub run_after : (policy_name : List ℕ) (names : RunNamesValue) (before middle after : Outside) (policy : Policy) → HasPolicy (before.files.content policy_name) policy →
     ReadsOnly before.files middle.files → (r : Result Summary RunFault) → RunsAs policy.assets LETTER_LIMIT names middle.files.content after.files.content r →
-    ((other : List ℕ) → IsNoneOf (names.out ∷ names.log ∷ []) other → after.files.content other ≡ middle.files.content other) →
+    KeepsOtherFiles (names.out ∷ names.log ∷ []) middle.files.content after.files.content →
     (IsErrOf r fault.Read → Rose middle.files.read_faults after.files.read_faults) → (IsErrOf r fault.Write → Rose middle.files.write_faults after.files.write_faults) →
     after.sink ≡ before.sink → after.pair ≡ before.pair → Meets (Run policy_name names) before after (run_answer r)
 run_after policy_name names before middle after policy has only r runs others read write sink pair =

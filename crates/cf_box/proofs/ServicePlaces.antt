@@ -3,7 +3,7 @@ use Rattle.std.proofs.Common.{◌≡◌, ℕ, Bool, true, false, ◌&&◌, Optio
 use Rattle.std.specs.Prelude.{option_and_then}
 use Rattle.std.specs.List.{list_any}
 use Rattle.std.proofs.lemmas.List.{map_push}
-use Rattle.cf_box.proofs.FileNames.{list_any_of_map}
+use Rattle.cf_words.proofs.FileNames.{list_any_of_map}
 use Rattle.cf_box.specs.ServiceWords.{PlaceWord, are_apart, is_same_place, place_word, place_word_value, place_words}
 use Rattle.cf_box.specs.declared.service.PlaceWord.{PlaceWord as PlaceFields}
 

@@ -19,7 +19,7 @@ use Rattle.cf_serve.specs.declared.ServeFault.{ServeFault}
 use Rattle.cf_serve.specs.declared.ServeFault.TheVariants as fault
 use Rattle.cf_serve.specs.declared.table.Place.{Place}
 use Rattle.cf_box.proofs.Sifting.{since}
-use Rattle.cf_box.specs.Command.{Check}
+use Rattle.cf_words.specs.Command.{Check}
 use Rattle.cf_box.specs.Ends.{RefusesPolicy, StopsFor}
 use Rattle.cf_box.specs.Outside.{FilesValue, ReadsOnly, SinkValue, outside}
 use Rattle.cf_box.specs.PolicyFile.{HasPolicy, IsRefusedBy, StopsPolicy}
@@ -33,16 +33,14 @@ use Rattle.cf_box.specs.declared.service.PlaceWord.{PlaceWord as PlaceFields}
 places_count : (policy : Policy) (words : List PlaceWord) (places : List Place) → ArePlaces policy words places → length places ≡ length words
 places_count policy [] [] all = refl
 places_count policy (word ∷ words) (place ∷ places) all = ap suc (places_count policy words places all.1.1.1)
-places_count policy [] (place ∷ places) all = absurd all
-places_count policy (word ∷ words) [] all = absurd all
+places_count policy _ _ all = absurd all
 
 -- each within the limits
 pub places_within : (policy : Policy) (words : List PlaceWord) (places : List Place) → ArePlaces policy words places
     → AllByRecursion (λ (place : Place). IsAssetWithin place.asset.now) places
 places_within policy [] [] all = tt
 places_within policy (word ∷ words) (place ∷ places) all = (all.1.1.0, places_within policy words places all.1.1.1)
-places_within policy [] (place ∷ places) all = absurd all
-places_within policy (word ∷ words) [] all = absurd all
+places_within policy _ _ all = absurd all
 
 -- what was found, where nothing was before
 pub found_places : (policy : Policy) (words there : List PlaceFields) → there ≡ words → (old new all : List Place) → old ≡ [] → all ≡ new

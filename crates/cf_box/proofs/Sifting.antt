@@ -11,10 +11,8 @@ use Rattle.cf_sift.specs.Stored.{GoesUpTo, stored_history}
 use Rattle.cf_sift.specs.declared.SiftDone.{SiftDone}
 use Rattle.cf_sift.specs.declared.SiftFault.{SiftFault}
 use Rattle.cf_sift.specs.declared.SiftFault.TheVariants as fault
-use Rattle.cf_box.specs.Check.{ChangesNothing}
-use Rattle.cf_box.specs.Command.{Sift}
+use Rattle.cf_words.specs.Command.{Sift}
 use Rattle.cf_box.specs.Ends.{Meets, PassesPolicy, StopsFor}
-use Rattle.cf_box.specs.PolicyFile.{StopsPolicy}
 use Rattle.cf_box.specs.Outside.{Outside}
 use Rattle.cf_box.specs.PolicyFile.{FindsAsset}
 use Rattle.cf_box.specs.Sift.{SiftLeaves, TakesStream, sift_stop}
@@ -27,14 +25,6 @@ use Rattle.cf_box.proofs.Passing.{found_passes}
 -- what has risen since late has risen since early
 pub since : (early late now : ℕ) → early ≤ late → Rose late now → Rose early now
 since early late now later rose = omega (arith, later, rose)
-
--- a stop before the asset was found leaves all as it was
-pub early_leaves : (policy name : List ℕ) (client : ℕ) (names : SiftNamesValue) (before after : Outside) (s : Stop) → StopsPolicy s → ChangesNothing before after →
-    SiftLeaves policy name client names before after s
-early_leaves policy name client names before after stop.ReadFault early same = inl same
-early_leaves policy name client names before after (stop.PolicyRefused r) early same = same
-early_leaves policy name client names before after stop.NoMemory early same = same
-early_leaves policy name client names before after s early same = absurd early
 
 module _ (policy name : List ℕ) (client : ℕ) (names : SiftNamesValue) (before after : Outside) (asset : Asset)
     (finds : FindsAsset (before.files.content policy) name asset) where

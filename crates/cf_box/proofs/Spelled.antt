@@ -87,13 +87,9 @@ pub nothing_behind : (xs : List ℕ) (n : ℕ) → length xs ≤ n → drop n xs
 nothing_behind xs n past = drop_of_length-le xs past
 
 -- texts that were spelled, the last one first
-behind : (v a b : List ℕ) {w x : List ℕ} → x ≡ a ++ w → w ≡ b ++ v → x ≡ (a ++ b) ++ v
-behind v a b p q = p ∙ ap (λ xs. a ++ xs) q ∙ sym (append_assoc a b v)
-
 pub six_joined : (a b c d e f rest : List ℕ) {t u v w x y : List ℕ} → t ≡ f ++ rest → u ≡ e ++ t → v ≡ d ++ u → w ≡ c ++ v → x ≡ b ++ w → y ≡ a ++ x →
     y ≡ (a ++ b ++ c ++ d ++ e ++ f) ++ rest
-six_joined a b c d e f rest {t} {u} {v} {w} p q r s z o =
-    behind rest (a ++ b ++ c ++ d ++ e) f (behind t (a ++ b ++ c ++ d) e (behind u (a ++ b ++ c) d (behind v (a ++ b) c (behind w a b o z) s) r) q) p
+six_joined a b c d e f rest p q r s z o = rw (o, z, s, r, q, p) (simp append_assoc)
 
 -- and nothing stands after the first of them
 pub line_joined : (a b c d e f rest : List ℕ) {t u v w x y : List ℕ} → rest ≡ [] → t ≡ f ++ rest → u ≡ e ++ t → v ≡ d ++ u → w ≡ c ++ v → x ≡ b ++ w → y ≡ a ++ x →

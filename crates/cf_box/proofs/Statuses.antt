@@ -11,7 +11,7 @@ use Rattle.cf_sift.specs.Stored.{stored_history}
 use Rattle.cf_outside.specs.Faults.{Rose}
 use Rattle.cf_outside.specs.PairValue.{PairValue}
 use Rattle.cf_policylang.specs.declared.PolicyRefusal.{PolicyRefusal}
-use Rattle.cf_box.specs.Command.{Command, Check, Compare, Judge, Migrate, Packets, Review, Run, Relay, World, Sift, Learn}
+use Rattle.cf_words.specs.Command.{Command, Compare, Judge, Migrate, Packets, Review, Run, Relay, World, Sift, Learn}
 use Rattle.cf_box.specs.Ending.{Prints, Reports, end_text, status_of, stop_status, unprinted_status}
 use Rattle.cf_box.specs.Ends.{CutsCapture, CutsRun, CutsStream, Denies, EndsIdle, ExceedsCells, ExceedsRules, LacksAsset, LinkFails, Meets, RefusesCapture, RefusesPolicy}
 use Rattle.cf_box.specs.Learn.{HoldsLearned}
@@ -20,7 +20,7 @@ use Rattle.cf_box.specs.Outside.{Outside, ReadFailed, SinkValue, WriteFailed}
 use Rattle.cf_box.specs.Packets.{Lists, ListsFile}
 use Rattle.cf_box.specs.Review.{HoldsReview, ReviewHolds, WritesReview}
 use Rattle.cf_review.specs.declared.Counts.{Counts}
-use Rattle.cf_box.specs.Status.{Includes, IsStatus, JudgedClean, SiftPassesAllowed}
+use Rattle.cf_box.specs.Status.{Includes, JudgedClean, SiftPassesAllowed}
 use Rattle.cf_box.specs.declared.denial.Denial.{Denial}
 use Rattle.cf_box.specs.declared.denial.Denial.TheVariants as denial
 use Rattle.cf_box.specs.declared.ending.CaptureRefusal.{CaptureRefusal}
@@ -53,32 +53,10 @@ module _ (failed : Type 0) (status : ℕ) where
   stop_is s (inl h) = h
   stop_is s (inr h) = h.0
 
-  is_one : (r : Result Done Stop) → IsOf r failed status → IsStatus status
-  is_one (Ok d) (inl h) = inl h
-  is_one (Ok d) (inr h) = inr (inr (inr (inl h.0)))
-  is_one (Err stop.ReadFault) h = inr (inr (inl (stop_is stop.ReadFault h)))
-  is_one (Err stop.WriteFault) h = inr (inr (inr (inl (stop_is stop.WriteFault h))))
-  is_one (Err (stop.PolicyRefused r)) h = inr (inr (inr (inr (inl (stop_is (stop.PolicyRefused r) h)))))
-  is_one (Err (stop.CaptureRefused r)) h = inr (inr (inr (inr (inr (inl (stop_is (stop.CaptureRefused r) h))))))
-  is_one (Err (stop.CaptureCut place)) h = inr (inr (inr (inr (inr (inr (inl (stop_is (stop.CaptureCut place) h)))))))
-  is_one (Err (stop.RunCut place summary)) h = inr (inr (inr (inr (inr (inr (inl (stop_is (stop.RunCut place summary) h)))))))
-  is_one (Err stop.LinkFault) h = inr (inr (inr (inr (inr (inr (inr (inl (stop_is stop.LinkFault h))))))))
-  is_one (Err stop.IdleEnd) h = inr (inr (inr (inr (inr (inr (inr (inr (inl (stop_is stop.IdleEnd h)))))))))
-  is_one (Err stop.UnknownAsset) h = inr (inr (inr (inr (inr (inr (inr (inr (inr (inl (stop_is stop.UnknownAsset h))))))))))
-  is_one (Err (stop.Cut reason)) h = inr (inr (inr (inr (inr (inr (inr (inr (inr (inr (inl (stop_is (stop.Cut reason) h)))))))))))
-  is_one (Err stop.NoMemory) h = inr (inr (inr (inr (inr (inr (inr (inr (inr (inr (inr (inl (stop_is stop.NoMemory h))))))))))))
-  is_one (Err (stop.Denied why)) h = inr (inr (inr (inr (inr (inr (inr (inr (inr (inr (inr (inr (inl (stop_is (stop.Denied why) h)))))))))))))
-  is_one (Err (stop.TooManyRules name)) h = inr (inr (inr (inr (inr (inr (inr (inr (inr (inr (inr (inr (inr (inl (stop_is (stop.TooManyRules name) h))))))))))))))
-  is_one (Err (stop.TooManyCells name)) h = inr (inr (inr (inr (inr (inr (inr (inr (inr (inr (inr (inr (inr (inr (stop_is (stop.TooManyCells name) h))))))))))))))
-
   -- another ending's status is another
   other : (r : Result Done Stop) (n : ℕ) → IsOf r failed status → status ≡ n → status_of r ≢ n → unprinted_status r ≢ n → ⊥
   other r n (inl h) is printed unprinted = printed (sym h ∙ is)
   other r n (inr h) is printed unprinted = unprinted (sym h.0 ∙ is)
-
-  not_two : (r : Result Done Stop) → IsOf r failed status → status ≢ 2
-  not_two (Err stop.ReadFault) h is = other (Err stop.ReadFault) 2 h is (omega arith) (omega arith)
-  not_two r h is = other r 2 h is (omega arith) (omega arith)
 
   -- work that stopped was not done
   pub not_done : (s : Stop) → IsOf (Err s) failed status → status ≢ 0
@@ -109,16 +87,8 @@ module _ (failed : Type 0) (status : ℕ) where
     -- a run's capture that is cut is one: a line a command
     run_cut : (k : Command) (place : ℕ) → CutsRun k before place → CutsCapture k before place
     run_cut (Run policy names) place cut = cut
-    run_cut (Check policy) place cut = absurd cut
-    run_cut (Compare policy other) place cut = absurd cut
-    run_cut (Judge policy capture) place cut = absurd cut
-    run_cut (Learn policy capture out) place cut = absurd cut
-    run_cut (Review policy capture log) place cut = absurd cut
-    run_cut (Migrate policy out) place cut = absurd cut
-    run_cut (Packets capture) place cut = absurd cut
-    run_cut (Relay policy asset port idles log) place cut = absurd cut
     run_cut (World seed sessions policy names) place cut = cut
-    run_cut (Sift policy asset client names) place cut = absurd cut
+    run_cut _ place cut = absurd cut
 
     cut_from : (r : Result Done Stop) → Meets c before middle r → IsOf r failed status → status ≡ 7 → (place : ℕ) × CutsCapture c before place
     cut_from (Err (stop.CaptureCut place)) meets h is = (place, meets.0.0)
@@ -132,16 +102,7 @@ module _ (failed : Type 0) (status : ℕ) where
     -- a call on the pair failed where the command asks it
     link_of : (k : Command) (pair : PairValue) → LinkFails k before pair → Rose before.pair.faults pair.faults
     link_of (Relay policy asset port idles log) pair fails = fails
-    link_of (Check policy) pair fails = absurd fails
-    link_of (Compare policy other) pair fails = absurd fails
-    link_of (Judge policy capture) pair fails = absurd fails
-    link_of (Learn policy capture out) pair fails = absurd fails
-    link_of (Review policy capture log) pair fails = absurd fails
-    link_of (Migrate policy out) pair fails = absurd fails
-    link_of (Packets capture) pair fails = absurd fails
-    link_of (Run policy names) pair fails = absurd fails
-    link_of (World seed sessions policy names) pair fails = absurd fails
-    link_of (Sift policy asset client names) pair fails = absurd fails
+    link_of _ pair fails = absurd fails
 
     link_from : (r : Result Done Stop) → Meets c before middle r → IsOf r failed status → status ≡ 8 → Rose before.pair.faults middle.pair.faults
     link_from (Err stop.LinkFault) meets h is = link_of c middle.pair meets.0.0
@@ -217,9 +178,7 @@ module _ (failed : Type 0) (status : ℕ) where
     clean = λ e. absurd (not_done (stop.Denied (denial.Remarks counts)) h e);
     remarked = λ e. m.1.1;
   }
-  reviews_from before middle after policy capture log same (Err (stop.Denied (denial.Objects tells))) m h is = absurd m.0.0
-  reviews_from before middle after policy capture log same (Err (stop.Denied (denial.NoPartner name))) m h is = absurd m.0.0
-  reviews_from before middle after policy capture log same (Err (stop.Denied (denial.Allows name client act))) m h is = absurd m.0.0
+  reviews_from before middle after policy capture log same (Err (stop.Denied _)) m h is = absurd m.0.0
   reviews_from before middle after policy capture log same (Ok d) m h is = absurd m
   reviews_from before middle after policy capture log same (Err s) m h (inl is) = absurd (not_done s h is)
   reviews_from before middle after policy capture log same (Err s) m h (inr is) = absurd (other (Err s) 15 h is (omega arith) (omega arith))
@@ -256,13 +215,7 @@ module _ (failed : Type 0) (status : ℕ) where
     content = ap (λ f. f.content) reports.files ∙ m.content;
     pair = reports.pair ∙ m.pair;
   }
-  lists_from before middle after file (Ok (done.Sifted admitted refused)) m reports h is = cc (m.lists.answers.0)
-  lists_from before middle after file (Ok (done.Relayed admitted refused)) m reports h is = cc (m.lists.answers.0)
-  lists_from before middle after file (Ok (done.Checked assets rules)) m reports h is = cc (m.lists.answers.0)
-  lists_from before middle after file (Ok done.Included) m reports h is = cc (m.lists.answers.0)
-  lists_from before middle after file (Ok (done.Unobjected flows commands)) m reports h is = cc (m.lists.answers.0)
-  lists_from before middle after file (Ok (done.Ran summary)) m reports h is = cc (m.lists.answers.0)
-  lists_from before middle after file (Ok (done.Reviewed counts)) m reports h is = cc (m.lists.answers.0)
+  lists_from before middle after file (Ok _) m reports h is = cc (m.lists.answers.0)
   lists_from before middle after file (Err s) m reports h is = absurd (not_done s h is)
 
 module _ {c : Command} {before after : Outside} {status : ℕ} (e : Explains c before after status) where
@@ -281,12 +234,6 @@ module _ {c : Command} {before after : Outside} {status : ℕ} (e : Explains c b
 
   pub read_failed : ReadFailed before e.middle → ReadFailed before after
   read_failed rose = subst (λ f. Rose before.files.read_faults f.read_faults) (sym e.reports.files) rose
-
-  pub status_told : IsStatus status
-  status_told = is_one Unprinted status e.r explained
-
-  pub no_usage : status ≢ 2
-  no_usage = not_two Unprinted status e.r explained
 
   pub read_told : status ≡ 3 → ReadFailed before after
   read_told is = read_failed (read_from Unprinted status c before e.middle e.r e.meets explained is)

@@ -4,7 +4,7 @@ use Rattle.cf_world.specs.World.{LeavesWorld}
 use Rattle.cf_policylang.specs.declared.PolicyRefusal.{PolicyRefusal}
 use Rattle.cf_run.specs.Headline.{RunsHaveHeadline}
 use Rattle.cf_run.specs.RunCapture.{RunNamesValue}
-use Rattle.cf_box.specs.Command.{Command, World}
+use Rattle.cf_words.specs.Command.{Command, World}
 use Rattle.cf_box.specs.Ending.{Reports}
 use Rattle.cf_box.specs.Ends.{Meets, RefusesPolicy}
 use Rattle.cf_box.specs.Outside.{Outside}

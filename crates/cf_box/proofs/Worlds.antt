@@ -2,27 +2,25 @@
 use Rattle.std.proofs.Common.{◌≡◌, ◌⊎◌, ℕ, ◌≤◌, nat_lt, true, false, List, [], ◌∷◌, ◌++◌, length, take, drop, Result, Ok, Err, refl, sym, ap, ◌∙◌, subst, arith, inl, inr}
 use Rattle.std.proofs.lemmas.Bool.Decides.{nat_tests}
 use Rattle.std.proofs.lemmas.List.{take-append-drop}
-use Rattle.cf_outside.specs.Desk.{IsNoneOf}
 use Rattle.cf_outside.specs.Faults.{Rose}
-use Rattle.cf_outside.specs.Files.{Content, untold, absent, holds}
+use Rattle.cf_outside.specs.Files.{Content, untold}
+use Rattle.cf_outside.specs.Frames.{KeepsOtherFiles}
 use Rattle.cf_pcap.specs.Header.{header_of, output_header, output_octets}
 use Rattle.cf_pcapng.specs.Block.{is_section}
-use Rattle.cf_run.specs.Form.{form_of}
-use Rattle.cf_run.specs.declared.Form.TheVariants as form
+use Rattle.cf_records.specs.Form.{form_of}
+use Rattle.cf_records.specs.declared.Form.TheVariants as form
 use Rattle.cf_policylang.specs.declared.PolicyRefusal.{PolicyRefusal}
 use Rattle.cf_run.specs.RunCapture.{RunNamesValue}
-use Rattle.cf_sift.specs.Outputs.{KeepsAllBut}
 use Rattle.cf_world.specs.Document.{made_policy}
-use Rattle.cf_world.specs.World.{HoldsCapture, HoldsPolicy, LeavesWorld, MakesWorld}
-use Rattle.cf_world.specs.declared.WorldFault.{WorldFault}
-use Rattle.cf_world.specs.declared.WorldFault.TheVariants as fault
-use Rattle.cf_box.specs.Command.{Command, Run, World}
+use Rattle.cf_world.specs.World.{HoldsCapture, HoldsPolicy, LeavesWorld}
+use Rattle.cf_words.specs.Command.{Command, Run, World}
 use Rattle.cf_box.specs.Ends.{LacksAsset, Meets, PassesPolicy, RefusesPolicy, StopsFor}
 use Rattle.cf_box.specs.Outside.{Outside}
 use Rattle.cf_box.specs.PolicyFile.{IsRefusedBy}
 use Rattle.cf_box.specs.Run.{RunCuts, RunRefuses}
 use Rattle.cf_box.specs.Status.{HasTimedRecords}
-use Rattle.cf_box.specs.World.{HasMade, IsFitWorld, made_names, world_stop}
+use Rattle.cf_box.specs.World.{HasMade, made_names}
+use Rattle.cf_words.specs.Forms.{IsFitWorld}
 use Rattle.cf_box.specs.declared.ending.CaptureRefusal.{CaptureRefusal}
 use Rattle.cf_box.specs.declared.ending.Done.{Done}
 use Rattle.cf_box.specs.declared.ending.Stop.{Stop}
@@ -55,21 +53,18 @@ form_told octets first =
 
 untold_policy : (old new : Content) (r : PolicyRefusal) → HoldsPolicy old new → IsRefusedBy new r → old ≡ untold
 untold_policy untold new r h refused = refl
-untold_policy absent new r h refused = absurd (not_refused new h.text made_policy r h.in_file h.means refused)
-untold_policy (holds all) new r h refused = absurd (not_refused new h.text made_policy r h.in_file h.means refused)
+untold_policy _ new r h refused = absurd (not_refused new h.text made_policy r h.in_file h.means refused)
 
 in_form : (sessions : ℕ) (old new : Content) (h : HoldsCapture sessions old new) → HasTimedRecords h.octets
 in_form sessions old new h = (form.Classic output_header, form_told h.octets h.is_capture.header, (h.records, length h.octets, h.is_capture.timed))
 
 untold_refused : (sessions : ℕ) (old new : Content) (r : CaptureRefusal) → HoldsCapture sessions old new → RunRefuses new r → old ≡ untold
 untold_refused sessions untold new r h refused = refl
-untold_refused sessions absent new r h refused = absurd (not_refused_run h.octets (in_form sessions absent new h) r (subst (λ f. RunRefuses f r) h.in_file refused))
-untold_refused sessions (holds all) new r h refused = absurd (not_refused_run h.octets (in_form sessions (holds all) new h) r (subst (λ f. RunRefuses f r) h.in_file refused))
+untold_refused sessions old new r h refused = absurd (not_refused_run h.octets (in_form sessions old new h) r (subst (λ f. RunRefuses f r) h.in_file refused))
 
 untold_cut : (sessions : ℕ) (old new : Content) (place : ℕ) → HoldsCapture sessions old new → RunCuts new place → old ≡ untold
 untold_cut sessions untold new place h cut = refl
-untold_cut sessions absent new place h cut = absurd (not_cut_run h.octets (in_form sessions absent new h) place (subst (λ f. RunCuts f place) h.in_file cut))
-untold_cut sessions (holds all) new place h cut = absurd (not_cut_run h.octets (in_form sessions (holds all) new h) place (subst (λ f. RunCuts f place) h.in_file cut))
+untold_cut sessions old new place h cut = absurd (not_cut_run h.octets (in_form sessions old new h) place (subst (λ f. RunCuts f place) h.in_file cut))
 
 -- ---- the answer
 
@@ -81,26 +76,16 @@ module _ (seed sessions : ℕ) (policy : List ℕ) (names : RunNamesValue) where
   pub passes_own : (before : Outside) → PassesPolicy Own before
   passes_own before = record { policy = λ file e. cc e; other = λ file e. cc e; asset = λ file name e f. cc e }
 
-  -- a world that was not made
-  pub not_made : (before after : Outside) (why : WorldFault) → MakesWorld sessions (made_names policy names) before.files.content after.files.content (Err why) →
-      ((other : List ℕ) → IsNoneOf (policy ∷ names.capture ∷ []) other → after.files.content other ≡ before.files.content other) →
-      (why ≡ fault.Write → Rose before.files.write_faults after.files.write_faults) → after.sink ≡ before.sink → after.pair ≡ before.pair →
-      Meets Own before after (Err (world_stop why))
-  not_made before after fault.NoMemory leaves others rose sink pair =
-      (tt, inl (fault.NoMemory, record { leaves = leaves; others = λ other p c. others other (p, (c, tt)); sink = sink; pair = pair }, refl))
-  not_made before after fault.Write leaves others rose sink pair =
-      ((inl (rose refl), passes_own before), inl (fault.Write, record { leaves = leaves; others = λ other p c. others other (p, (c, tt)); sink = sink; pair = pair }, refl))
-
   module _ (before between after : Outside) (fit : IsFitWorld sessions policy names)
       (made : LeavesWorld sessions (made_names policy names) before.files.content between.files.content)
-      (others : (other : List ℕ) → IsNoneOf (policy ∷ names.capture ∷ []) other → between.files.content other ≡ before.files.content other)
+      (others : KeepsOtherFiles (policy ∷ names.capture ∷ []) before.files.content between.files.content)
       (reads : between.files.read_faults ≡ before.files.read_faults) (writes : before.files.write_faults ≤ between.files.write_faults)
       (sink : between.sink ≡ before.sink) (pair : between.pair ≡ before.pair) where
-    has_made : KeepsAllBut between.files.content after.files.content (names.out ∷ names.log ∷ []) → HasMade sessions policy names before after between
+    has_made : KeepsOtherFiles (names.out ∷ names.log ∷ []) between.files.content after.files.content → HasMade sessions policy names before after between
     has_made kept =
-        let same_policy : after.files.content policy ≡ between.files.content policy = kept policy fit.policy_out fit.policy_log in
+        let same_policy : after.files.content policy ≡ between.files.content policy = kept policy (fit.policy_out, (fit.policy_log, tt)) in
         let same_capture : after.files.content names.capture ≡ between.files.content names.capture =
-        kept names.capture fit.apart.capture_out fit.apart.capture_log in
+        kept names.capture (fit.apart.capture_out, (fit.apart.capture_log, tt)) in
         record {
           leaves = record {
             policy = subst (HoldsPolicy (before.files.content policy)) (sym same_policy) made.policy;
@@ -108,7 +93,7 @@ module _ (seed sessions : ℕ) (policy : List ℕ) (names : RunNamesValue) where
           };
           same_policy = same_policy;
           same_capture = same_capture;
-          others = λ other p c. others other (p, (c, tt));
+          others = others;
           sink = sink;
           pair = pair;
         }
@@ -134,14 +119,9 @@ module _ (seed sessions : ℕ) (policy : List ℕ) (names : RunNamesValue) where
     stops (stop.CaptureRefused r) h = (untold_refused sessions (before.files.content names.capture) (between.files.content names.capture) r made.capture h.0, passes_own before)
     stops (stop.CaptureCut place) h = (untold_cut sessions (before.files.content names.capture) (between.files.content names.capture) place made.capture h.0, passes_own before)
     stops (stop.RunCut place summary) h = (untold_cut sessions (before.files.content names.capture) (between.files.content names.capture) place made.capture h.0, passes_own before)
-    stops stop.LinkFault h = absurd h.0
-    stops stop.IdleEnd h = absurd h.0
     stops stop.UnknownAsset h = let cause : LacksAsset (Run policy names) between = h in cc (cause.3)
-    stops (stop.Cut reason) h = absurd h.0
-    stops (stop.Denied why) h = absurd h.0
-    stops (stop.TooManyRules name) h = absurd h.0
-    stops (stop.TooManyCells name) h = absurd h.0
     stops stop.NoMemory h = tt
+    stops _ h = absurd h.0
 
     pub world_meets : (r : Result Done Stop) → Meets (Run policy names) between after r → Meets Own before after r
     world_meets (Ok d) m = (between, has_made (keeps_from between after (Run policy names) (Ok d) m), m)

@@ -1,13 +1,13 @@
 -- Why the capture of a command is refused, and where its records end: `Refuses` and `EndsAt`.
 use Rattle.std.specs.Prelude.{◌⊎◌, ℕ, List, Ok, Err}
 use Rattle.cf_outside.specs.Files.{Content}
-use Rattle.cf_run.specs.Capture.{AtPlace, Clock, Large, LastPlace, Record, Refused, TooLong}
-use Rattle.cf_run.specs.Reader.{HasForm}
-use Rattle.cf_run.specs.declared.BlockRefusal.{BlockRefusal}
-use Rattle.cf_run.specs.declared.BlockRefusal.TheVariants as block
-use Rattle.cf_run.specs.declared.Form.{Form}
-use Rattle.cf_run.specs.declared.FormRefusal.{FormRefusal}
-use Rattle.cf_run.specs.declared.FormRefusal.TheVariants as form
+use Rattle.cf_records.specs.Capture.{AtPlace, Clock, Large, LastPlace, Record, Refused, TooLong}
+use Rattle.cf_records.specs.Reader.{HasForm}
+use Rattle.cf_records.specs.declared.BlockRefusal.{BlockRefusal}
+use Rattle.cf_records.specs.declared.BlockRefusal.TheVariants as block
+use Rattle.cf_records.specs.declared.Form.{Form}
+use Rattle.cf_records.specs.declared.FormRefusal.{FormRefusal}
+use Rattle.cf_records.specs.declared.FormRefusal.TheVariants as form
 use Rattle.cf_box.specs.declared.ending.CaptureRefusal.{CaptureRefusal}
 use Rattle.cf_box.specs.declared.ending.CaptureRefusal.TheVariants as refusal
 

@@ -1,18 +1,13 @@
 -- `check POLICY`: a policy is read, and its assets and rules are counted: `Checks`.
 use Rattle.std.specs.Prelude.{◌≡◌, ◌≢◌, ℕ, List, [], ◌∷◌, Option, None, Some, if◌then◌else◌}
 use Rattle.cf_policy.specs.declared.Policy.{Policy}
-use Rattle.cf_box.specs.Command.{Command, Check}
-use Rattle.cf_box.specs.Names.{are_names}
+use Rattle.cf_words.specs.Command.{Command, Check}
+use Rattle.cf_words.specs.Names.{are_names}
 use Rattle.cf_box.specs.Outside.{Outside}
 use Rattle.cf_box.specs.PolicyFile.{HasPolicy, counted}
 use Rattle.cf_box.specs.declared.ending.Done.{Done}
 use Rattle.cf_box.specs.declared.ending.Stop.{Stop}
 use Rattle.cf_box.specs.declared.ending.Stop.TheVariants as stop
-
--- the words after `check`: the name of a policy
-abbrev pub check_of : List (List ℕ) → Option Command
-check_of (policy ∷ []) = if are_names (policy ∷ []) then Some (Check policy) else None
-check_of _ = None
 
 -- nothing but counts of failed reads changed
 pub record ChangesNothing (before after : Outside) : Type 0 where

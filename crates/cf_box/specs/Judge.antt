@@ -11,8 +11,8 @@ use Rattle.cf_policy.specs.declared.Asset.{Asset}
 use Rattle.cf_policy.specs.declared.Policy.{Policy}
 use Rattle.cf_watch.specs.FlowValue.{FlowValue}
 use Rattle.cf_box.specs.Check.{ChangesNothing}
-use Rattle.cf_box.specs.Command.{Command, Judge}
-use Rattle.cf_box.specs.Names.{are_names}
+use Rattle.cf_words.specs.Command.{Command, Judge}
+use Rattle.cf_words.specs.Names.{are_names}
 use Rattle.cf_box.specs.Outside.{Outside}
 use Rattle.cf_box.specs.Watching.{HasWatched}
 use Rattle.cf_box.specs.declared.denial.Denial.{Denial}
@@ -24,11 +24,6 @@ use Rattle.cf_box.specs.declared.ending.Stop.TheVariants as stop
 use Rattle.cf_box.specs.declared.objection.Objected.{Objected}
 use Rattle.cf_box.specs.declared.objection.Ground.{Ground}
 use Rattle.cf_box.specs.declared.objection.Ground.TheVariants as told
-
--- the words after `judge`: the names of a policy and of a capture
-abbrev pub judge_of : List (List ℕ) → Option Command
-judge_of (policy ∷ capture ∷ []) = if are_names (policy ∷ capture ∷ []) then Some (Judge policy capture) else None
-judge_of _ = None
 
 -- ---- what is said of flows
 

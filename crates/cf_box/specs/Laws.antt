@@ -10,7 +10,7 @@ use Rattle.cf_review.specs.Fronts.{RecordsComeFirst}
 use Rattle.cf_review.specs.SynFlows.{SynFlowsAreWatched}
 use Rattle.cf_run.specs.Fixed.{RecordsFixRuns}
 use Rattle.cf_run.specs.Isolation.{RunsIsolateSessions}
-use Rattle.cf_run.specs.Records.{HaveOneTimedList}
+use Rattle.cf_records.specs.Records.{HaveOneTimedList}
 use Rattle.cf_selfjudged.specs.SelfJudged.{RunsAreUnobjected, WatchedRunsAreUnobjected}
 
 -- all laws over runs, captures and policies of which the program says something

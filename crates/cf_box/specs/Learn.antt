@@ -2,24 +2,19 @@
 -- What is watched is said in `cf_watch`, and what is learned in `cf_learn`.
 use Rattle.std.specs.Prelude.{◌≡◌, ℕ, List, [], ◌∷◌, Option, None, Some, Result, Ok, Err, if◌then◌else◌}
 use Rattle.cf_learn.specs.Assets.{AreLearned, IsFirstTooMany}
+use Rattle.cf_outside.specs.Frames.{KeepsOtherFiles}
 use Rattle.cf_policy.specs.Within.{IsWithin}
 use Rattle.cf_policy.specs.declared.Policy.{Policy}
 use Rattle.cf_watch.specs.FlowValue.{FlowValue}
 use Rattle.cf_box.specs.Check.{ChangesNothing}
-use Rattle.cf_box.specs.Command.{Command, Learn}
-use Rattle.cf_box.specs.Names.{are_names}
+use Rattle.cf_words.specs.Command.{Command, Learn}
+use Rattle.cf_words.specs.Names.{are_names}
 use Rattle.cf_box.specs.Outside.{Outside}
 use Rattle.cf_box.specs.PolicyFile.{HoldsPolicyPart, HoldsPolicyText, counted}
 use Rattle.cf_box.specs.Watching.{HasWatched}
 use Rattle.cf_box.specs.declared.ending.Done.{Done}
 use Rattle.cf_box.specs.declared.ending.Stop.{Stop}
 use Rattle.cf_box.specs.declared.ending.Stop.TheVariants as stop
-use Rattle.cf_sift.specs.Outputs.{KeepsAllBut}
-
--- the words after `learn`: the names of a policy, of a capture and of the policy that is written
-abbrev pub learn_of : List (List ℕ) → Option Command
-learn_of (policy ∷ capture ∷ out ∷ []) = if are_names (policy ∷ capture ∷ out ∷ []) then Some (Learn policy capture out) else None
-learn_of _ = None
 
 -- ---- what flows make of a policy
 
@@ -69,7 +64,7 @@ module _ (policy capture out : List ℕ) (before after : Outside) where
   pub record WritesLearned (d : Done) : Type 0 where
     pub holds : HoldsLearned
     pub counts : d ≡ counted holds.learned
-    pub others : KeepsAllBut before.files.content after.files.content (out ∷ [])
+    pub others : KeepsOtherFiles (out ∷ []) before.files.content after.files.content
     pub sink : after.sink ≡ before.sink
     pub pair : after.pair ≡ before.pair
 
@@ -78,7 +73,7 @@ module _ (policy capture out : List ℕ) (before after : Outside) where
     pub learned : Policy
     pub learns : Learns policy capture before learned
     pub part : HoldsPolicyPart learned (before.files.content out) (after.files.content out)
-    pub others : KeepsAllBut before.files.content after.files.content (out ∷ [])
+    pub others : KeepsOtherFiles (out ∷ []) before.files.content after.files.content
     pub sink : after.sink ≡ before.sink
     pub pair : after.pair ≡ before.pair
 

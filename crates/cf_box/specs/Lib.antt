@@ -1,6 +1,5 @@
 pub mod Captures
 pub mod Check
-pub mod Command
 pub mod Compare
 pub mod Denial
 pub mod Ending
@@ -10,7 +9,6 @@ pub mod Laws
 pub mod Learn
 pub mod Limits
 pub mod Migrate
-pub mod Names
 pub mod Objection
 pub mod Outside
 pub mod PacketLine
@@ -25,5 +23,4 @@ pub mod ServiceWords
 pub mod Sift
 pub mod Status
 pub mod Watching
-pub mod Words
 pub mod World

@@ -1,20 +1,15 @@
 -- `migrate POLICY OUT`: a policy is written as a document of version 2 that means the same: `KeepsMeaning`.
 use Rattle.std.specs.Prelude.{◌≡◌, ℕ, List, [], ◌∷◌, Option, None, Some, if◌then◌else◌}
+use Rattle.cf_outside.specs.Frames.{KeepsOtherFiles}
 use Rattle.cf_policy.specs.declared.Policy.{Policy}
 use Rattle.cf_box.specs.Check.{ChangesNothing}
-use Rattle.cf_box.specs.Command.{Command, Migrate}
-use Rattle.cf_box.specs.Names.{are_names}
+use Rattle.cf_words.specs.Command.{Command, Migrate}
+use Rattle.cf_words.specs.Names.{are_names}
 use Rattle.cf_box.specs.Outside.{Outside}
 use Rattle.cf_box.specs.PolicyFile.{HasPolicy, HoldsPolicyPart, HoldsPolicyText, counted}
 use Rattle.cf_box.specs.declared.ending.Done.{Done}
 use Rattle.cf_box.specs.declared.ending.Stop.{Stop}
 use Rattle.cf_box.specs.declared.ending.Stop.TheVariants as stop
-use Rattle.cf_sift.specs.Outputs.{KeepsAllBut}
-
--- the words after `migrate`: the name of a policy and that of the policy that is written
-abbrev pub migrate_of : List (List ℕ) → Option Command
-migrate_of (policy ∷ out ∷ []) = if are_names (policy ∷ out ∷ []) then Some (Migrate policy out) else None
-migrate_of _ = None
 
 module _ (policy out : List ℕ) (before after : Outside) where
   -- the one file was created and holds a text that means exactly what the other means
@@ -27,7 +22,7 @@ module _ (policy out : List ℕ) (before after : Outside) where
   pub record Migrates (d : Done) : Type 0 where
     pub keeps : KeepsMeaning
     pub counts : d ≡ counted keeps.meaning
-    pub others : KeepsAllBut before.files.content after.files.content (out ∷ [])
+    pub others : KeepsOtherFiles (out ∷ []) before.files.content after.files.content
     pub sink : after.sink ≡ before.sink
     pub pair : after.pair ≡ before.pair
 
@@ -36,7 +31,7 @@ module _ (policy out : List ℕ) (before after : Outside) where
     pub meaning : Policy
     pub has : HasPolicy (before.files.content policy) meaning
     pub part : HoldsPolicyPart meaning (before.files.content out) (after.files.content out)
-    pub others : KeepsAllBut before.files.content after.files.content (out ∷ [])
+    pub others : KeepsOtherFiles (out ∷ []) before.files.content after.files.content
     pub sink : after.sink ≡ before.sink
     pub pair : after.pair ≡ before.pair
 

@@ -3,29 +3,24 @@ use Rattle.std.specs.Prelude.{◌≡◌, ◌≢◌, ◌⊎◌, ℕ, List, [], �
 use Rattle.cf_outside.specs.Faults.{Rose}
 use Rattle.cf_outside.specs.Files.{Content}
 use Rattle.cf_outside.specs.Sink.{printed_with}
-use Rattle.cf_run.specs.Capture.{Cut, FileEnd, Large, LastPlace, Record, Refused, TooLong}
-use Rattle.cf_run.specs.Reader.{HasForm, OpensAs}
-use Rattle.cf_run.specs.declared.BlockRefusal.TheVariants as block
-use Rattle.cf_run.specs.declared.Form.{Form}
-use Rattle.cf_run.specs.declared.record_reader.OpenFault.{OpenFault}
-use Rattle.cf_run.specs.declared.record_reader.OpenFault.TheVariants as opened
+use Rattle.cf_records.specs.Capture.{Cut, FileEnd, Large, LastPlace, Record, Refused, TooLong}
+use Rattle.cf_records.specs.Reader.{HasForm, OpensAs}
+use Rattle.cf_records.specs.declared.BlockRefusal.TheVariants as block
+use Rattle.cf_records.specs.declared.Form.{Form}
+use Rattle.cf_records.specs.declared.record_reader.OpenFault.{OpenFault}
+use Rattle.cf_records.specs.declared.record_reader.OpenFault.TheVariants as opened
 use Rattle.cf_watch.specs.Watch.{HasRecords}
 use Rattle.cf_box.specs.declared.ending.CaptureRefusal.{CaptureRefusal}
 use Rattle.cf_box.specs.declared.ending.CaptureRefusal.TheVariants as refusal
 use Rattle.cf_box.specs.Captures.{EndsAt, Refuses, form_refusal}
-use Rattle.cf_box.specs.Command.{Command, Packets}
-use Rattle.cf_box.specs.Names.{are_names}
+use Rattle.cf_words.specs.Command.{Command, Packets}
+use Rattle.cf_words.specs.Names.{are_names}
 use Rattle.cf_box.specs.Outside.{Outside, SinkValue}
 use Rattle.cf_box.specs.PacketLine.{lines_from}
 use Rattle.cf_box.specs.declared.ending.Done.{Done}
 use Rattle.cf_box.specs.declared.ending.Done.TheVariants as done
 use Rattle.cf_box.specs.declared.ending.Stop.{Stop}
 use Rattle.cf_box.specs.declared.ending.Stop.TheVariants as stop
-
--- the words after `packets`: the name of a capture
-abbrev pub packets_of : List (List ℕ) → Option Command
-packets_of (capture ∷ []) = if are_names (capture ∷ []) then Some (Packets capture) else None
-packets_of _ = None
 
 -- ---- why a capture is not listed, or not to its end
 

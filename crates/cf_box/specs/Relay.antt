@@ -18,22 +18,14 @@ use Rattle.cf_relay.specs.declared.done.RelayEnd.TheVariants as ends
 use Rattle.cf_relay.specs.declared.done.RelayFault.{RelayFault}
 use Rattle.cf_relay.specs.declared.done.RelayFault.TheVariants as fault
 use Rattle.cf_box.specs.Check.{ChangesNothing}
-use Rattle.cf_box.specs.Command.{Command, Relay}
-use Rattle.cf_box.specs.Names.{are_names, printed_number_in}
+use Rattle.cf_words.specs.Command.{Command, Relay}
+use Rattle.cf_words.specs.Names.{are_names, printed_number_in}
 use Rattle.cf_box.specs.Outside.{Outside}
 use Rattle.cf_box.specs.PolicyFile.{FindsAsset, StopsPolicy, TellsAsset}
 use Rattle.cf_box.specs.declared.ending.Done.{Done}
 use Rattle.cf_box.specs.declared.ending.Done.TheVariants as done
 use Rattle.cf_box.specs.declared.ending.Stop.{Stop}
 use Rattle.cf_box.specs.declared.ending.Stop.TheVariants as stop
-
--- the port is from 1 to 65,535, and the number of idle turns from 1 to 1,000,000
-abbrev pub relay_of : List (List ℕ) → Option Command
-relay_of (policy ∷ asset ∷ port ∷ idles ∷ log ∷ []) =
-    if are_names (policy ∷ log ∷ []) then
-    option_and_then (λ p. option_map (λ n. Relay policy asset p n log) (printed_number_in 1 1000000 idles)) (printed_number_in 1 65535 port)
-    else None
-relay_of _ = None
 
 -- ---- what a relay did
 

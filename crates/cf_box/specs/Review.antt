@@ -2,6 +2,7 @@
 -- watched is said in `cf_watch`, what is objected to in `cf_review`.
 use Rattle.std.specs.Prelude.{◌≡◌, ◌≢◌, ℕ, List, [], ◌∷◌, map, Option, None, Some, Result, Ok, Err, if◌then◌else◌}
 use Rattle.cf_outside.specs.Files.{IsPartly, content_after_write}
+use Rattle.cf_outside.specs.Frames.{KeepsOtherFiles}
 use Rattle.cf_policy.specs.declared.Policy.{Policy}
 use Rattle.cf_review.specs.Counted.{counts_of}
 use Rattle.cf_review.specs.Lines.{review_text}
@@ -9,12 +10,11 @@ use Rattle.cf_review.specs.Remark.{RemarkValue, remark_value}
 use Rattle.cf_review.specs.Review.{IsReviewOf}
 use Rattle.cf_review.specs.declared.Counts.{Counts}
 use Rattle.cf_review.specs.declared.Reviewed.{Reviewed}
-use Rattle.cf_sift.specs.Outputs.{KeepsAllBut}
 use Rattle.cf_watch.specs.FlowValue.{FlowValue}
 use Rattle.cf_watch.specs.Watch.{IsRecordingOf}
 use Rattle.cf_box.specs.Check.{ChangesNothing}
-use Rattle.cf_box.specs.Command.{Command, Review}
-use Rattle.cf_box.specs.Names.{are_names}
+use Rattle.cf_words.specs.Command.{Command, Review}
+use Rattle.cf_words.specs.Names.{are_names}
 use Rattle.cf_box.specs.Outside.{Outside}
 use Rattle.cf_box.specs.PolicyFile.{HasPolicy}
 use Rattle.cf_box.specs.declared.denial.Denial.{Denial}
@@ -23,11 +23,6 @@ use Rattle.cf_box.specs.declared.ending.Done.{Done}
 use Rattle.cf_box.specs.declared.ending.Done.TheVariants as done
 use Rattle.cf_box.specs.declared.ending.Stop.{Stop}
 use Rattle.cf_box.specs.declared.ending.Stop.TheVariants as stop
-
--- the words after `review`: the names of a policy, of a capture and of a log
-abbrev pub review_of : List (List ℕ) → Option Command
-review_of (policy ∷ capture ∷ log ∷ []) = if are_names (policy ∷ capture ∷ log ∷ []) then Some (Review policy capture log) else None
-review_of _ = None
 
 -- ---- of a policy and a capture
 
@@ -77,7 +72,7 @@ module _ (policy capture log : List ℕ) (before after : Outside) where
   pub record WritesReview (counts : Counts) : Type 0 where
     pub holds : HoldsReview
     pub counted : counts ≡ counts_of holds.reviewed
-    pub others : KeepsAllBut before.files.content after.files.content (log ∷ [])
+    pub others : KeepsOtherFiles (log ∷ []) before.files.content after.files.content
     pub sink : after.sink ≡ before.sink
     pub pair : after.pair ≡ before.pair
 
@@ -93,7 +88,7 @@ module _ (policy capture log : List ℕ) (before after : Outside) where
     pub reviewed : Reviewed
     pub has : HasReview policy capture before known stamps reviewed
     pub part : IsPartly (review_text known.assets stamps (remarks_of reviewed)) (before.files.content log) (after.files.content log)
-    pub others : KeepsAllBut before.files.content after.files.content (log ∷ [])
+    pub others : KeepsOtherFiles (log ∷ []) before.files.content after.files.content
     pub sink : after.sink ≡ before.sink
     pub pair : after.pair ≡ before.pair
 

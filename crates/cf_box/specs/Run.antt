@@ -2,7 +2,8 @@
 use Rattle.std.specs.Prelude.{◌≡◌, ◌⊎◌, ℕ, List, [], ◌∷◌, Option, None, Some, Result, Ok, Err, if◌then◌else◌}
 use Rattle.cf_lane.specs.declared.limit.TheConstants.{LETTER_LIMIT}
 use Rattle.cf_outside.specs.Files.{Content}
-use Rattle.cf_run.specs.Capture.{Cut}
+use Rattle.cf_outside.specs.Frames.{KeepsOtherFiles}
+use Rattle.cf_records.specs.Capture.{Cut}
 use Rattle.cf_policy.specs.declared.Policy.{Policy}
 use Rattle.cf_run.specs.RunCapture.{HasRunRecords, RunNamesValue, RunsAs}
 use Rattle.cf_run.specs.declared.run.RunFault.{RunFault}
@@ -11,9 +12,8 @@ use Rattle.cf_run.specs.declared.run.RunRefusal.TheVariants as by
 use Rattle.cf_run.specs.declared.summary.Summary.{Summary}
 use Rattle.cf_box.specs.Captures.{EndsAt, Refuses, block_refusal, form_refusal}
 use Rattle.cf_box.specs.Check.{ChangesNothing}
-use Rattle.cf_box.specs.Command.{Command, Run}
-use Rattle.cf_box.specs.Names.{are_names}
-use Rattle.cf_sift.specs.Outputs.{KeepsAllBut}
+use Rattle.cf_words.specs.Command.{Command, Run}
+use Rattle.cf_words.specs.Names.{are_names}
 use Rattle.cf_box.specs.Outside.{Outside}
 use Rattle.cf_box.specs.PolicyFile.{HasPolicy, StopsPolicy}
 use Rattle.cf_box.specs.declared.ending.CaptureRefusal.{CaptureRefusal}
@@ -22,16 +22,6 @@ use Rattle.cf_box.specs.declared.ending.Done.{Done}
 use Rattle.cf_box.specs.declared.ending.Done.TheVariants as done
 use Rattle.cf_box.specs.declared.ending.Stop.{Stop}
 use Rattle.cf_box.specs.declared.ending.Stop.TheVariants as stop
-
--- a run of these files, where each word is the name of one
-abbrev pub run_command : (policy capture out log : List ℕ) → Option Command
-run_command policy capture out log =
-    if are_names (policy ∷ capture ∷ out ∷ log ∷ []) then Some (Run policy (record { capture = capture; out = out; log = log })) else None
-
--- the words after `run`: the names of a policy, of a capture and of two outputs
-abbrev pub run_of : List (List ℕ) → Option Command
-run_of (policy ∷ capture ∷ out ∷ log ∷ []) = run_command policy capture out log
-run_of _ = None
 
 -- ---- why a capture is no input of a run
 
@@ -63,7 +53,7 @@ module _ (policy_file : List ℕ) (names : RunNamesValue) (before after : Outsid
     pub policy : Policy
     pub has : HasPolicy (before.files.content policy_file) policy
     pub runs : RunsAs policy.assets LETTER_LIMIT names before.files.content after.files.content answer
-    pub others : KeepsAllBut before.files.content after.files.content (names.out ∷ names.log ∷ [])
+    pub others : KeepsOtherFiles (names.out ∷ names.log ∷ []) before.files.content after.files.content
     pub sink : after.sink ≡ before.sink
     pub pair : after.pair ≡ before.pair
 

@@ -1,14 +1,14 @@
 -- What holds where a run came to the end of its capture: RunHolds. It is the headline, of the files as they stand.
 use Rattle.std.specs.Prelude.{◌≡◌, ℕ, List, [], ◌∷◌}
 use Rattle.cf_lane.specs.declared.limit.TheConstants.{LETTER_LIMIT}
+use Rattle.cf_outside.specs.Frames.{KeepsOtherFiles}
 use Rattle.cf_outside.specs.Sink.{printed_with}
-use Rattle.cf_run.specs.Capture.{FileEnd}
+use Rattle.cf_records.specs.Capture.{FileEnd}
 use Rattle.cf_policy.specs.declared.Policy.{Policy}
 use Rattle.cf_run.specs.Headline.{HasHeadline}
 use Rattle.cf_run.specs.RunCapture.{RunNamesValue, RunsTo}
 use Rattle.cf_run.specs.declared.summary.Summary.{Summary}
 use Rattle.cf_box.specs.Ending.{summary_text}
-use Rattle.cf_sift.specs.Outputs.{KeepsAllBut}
 use Rattle.cf_box.specs.Outside.{Outside}
 use Rattle.cf_box.specs.PolicyFile.{HasPolicy}
 
@@ -22,6 +22,6 @@ pub record RunHolds (policy_file : List ℕ) (names : RunNamesValue) (before aft
   pub summary : Summary
   pub runs : RunsTo policy.assets LETTER_LIMIT names before.files.content after.files.content FileEnd place summary
   pub headline : HasHeadline runs.leaves.is_run.events
-  pub others : KeepsAllBut before.files.content after.files.content (names.out ∷ names.log ∷ [])
+  pub others : KeepsOtherFiles (names.out ∷ names.log ∷ []) before.files.content after.files.content
   pub printed : after.sink.text ≡ printed_with before.sink.text (summary_text summary)
   pub pair : after.pair ≡ before.pair

@@ -4,7 +4,7 @@ use Rattle.std.specs.Prelude.{Some, bytes_eq, codes, option_and_then, option_map
 use Rattle.std.specs.List.{list_any}
 use Rattle.cf_policylang.specs.Numbers.{address, split_at_mark}
 use Rattle.cf_view.specs.declared.Endpoint.{Endpoint}
-use Rattle.cf_box.specs.Names.{are_names, printed_number_in}
+use Rattle.cf_words.specs.Names.{are_names, printed_number_in}
 use Rattle.cf_box.specs.declared.service.PlaceWord.{PlaceWord as PlaceFields}
 use Rattle.cf_box.specs.declared.service.Service.{Service as ServiceFields}
 

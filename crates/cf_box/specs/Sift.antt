@@ -13,31 +13,14 @@ use Rattle.cf_sift.specs.declared.SiftDone.{SiftDone}
 use Rattle.cf_sift.specs.declared.SiftFault.{SiftFault}
 use Rattle.cf_sift.specs.declared.SiftFault.TheVariants as fault
 use Rattle.cf_box.specs.Check.{ChangesNothing}
-use Rattle.cf_box.specs.Command.{Command, Sift}
-use Rattle.cf_box.specs.Names.{are_names}
+use Rattle.cf_words.specs.Command.{Command, Sift}
+use Rattle.cf_words.specs.Names.{are_names}
 use Rattle.cf_box.specs.Outside.{Outside}
 use Rattle.cf_box.specs.PolicyFile.{FindsAsset, TellsAsset}
 use Rattle.cf_box.specs.declared.ending.Done.{Done}
 use Rattle.cf_box.specs.declared.ending.Done.TheVariants as done
 use Rattle.cf_box.specs.declared.ending.Stop.{Stop}
 use Rattle.cf_box.specs.declared.ending.Stop.TheVariants as stop
-
--- CLIENT is an address, and the names of the files differ
-abbrev pub sift_command : (policy asset client : List ℕ) → SiftNamesValue → Option Command
-sift_command policy asset client names =
-    if are_names (policy ∷ names.stream ∷ names.out ∷ names.replies ∷ names.log ∷ []) then
-    option_map (λ c. Sift policy asset c names) (address client)
-    else None
-
--- the words that name the stream and the three outputs
-abbrev pub sift_names_of : List (List ℕ) → Option SiftNamesValue
-sift_names_of (stream ∷ out ∷ replies ∷ log ∷ []) = Some (record { stream = stream; out = out; replies = replies; log = log })
-sift_names_of _ = None
-
--- the words after `sift`: a policy, an asset, the address of a client, and the four files
-abbrev pub sift_of : List (List ℕ) → Option Command
-sift_of (policy ∷ asset ∷ client ∷ files) = option_and_then (sift_command policy asset client) (sift_names_of files)
-sift_of _ = None
 
 -- why the work stops at a fault
 abbrev pub sift_stop : SiftFault → Stop

@@ -7,17 +7,17 @@ use Rattle.cf_lane.specs.Passes.{Passes}
 use Rattle.cf_lane.specs.Rates.{KeepsRates}
 use Rattle.cf_outside.specs.Files.{Content, holds, untold, IsWhole, content_after_write}
 use Rattle.cf_outside.specs.PairValue.{PairValue}
-use Rattle.cf_run.specs.Capture.{AreRecords, FileEnd, Record}
-use Rattle.cf_run.specs.Form.{first_place, form_of}
-use Rattle.cf_run.specs.Moments.{AreTimed, first_moment}
-use Rattle.cf_run.specs.declared.Form.{Form}
+use Rattle.cf_records.specs.Capture.{AreRecords, FileEnd, Record}
+use Rattle.cf_records.specs.Form.{first_place, form_of}
+use Rattle.cf_records.specs.Moments.{AreTimed, first_moment}
+use Rattle.cf_records.specs.declared.Form.{Form}
 use Rattle.cf_policy.specs.declared.Asset.{Asset}
 use Rattle.cf_policy.specs.declared.Policy.{Policy}
 use Rattle.cf_policylang.specs.Documents.{policy_meaning}
 use Rattle.cf_policylang.specs.declared.PolicyRefusal.{PolicyRefusal}
 use Rattle.cf_run.specs.RunCapture.{RunNamesValue}
-use Rattle.cf_box.specs.Command.{Command, Check, Compare, Judge, Migrate, Packets, Review, Run, Relay, World, Sift, AsksPair, asset_name}
-use Rattle.cf_box.specs.Command.{capture_file, other_file, output_files, policy_file, Learn}
+use Rattle.cf_words.specs.Command.{Command, Check, Compare, Judge, Migrate, Packets, Review, Run, Relay, World, Sift, AsksPair, asset_name}
+use Rattle.cf_words.specs.Command.{capture_file, other_file, output_files, policy_file, Learn}
 use Rattle.cf_box.specs.Compare.{IncludesAll, IsIncluded, OfPolicies, TellsNotIncluded}
 use Rattle.cf_box.specs.Ends.{CutsCapture, CutsStream, Denies, EndsIdle, ExceedsCells, LacksAsset, LinkFails, RefusesCapture, RefusesPolicy}
 use Rattle.cf_box.specs.Ends.{ExceedsRules}

@@ -3,7 +3,7 @@
 use Rattle.std.specs.Prelude.{◌≡◌, ◌≢◌, ◌⊎◌, ℕ, List}
 use Rattle.cf_outside.specs.Files.{Content, IsAtEnd, IsLongerThan}
 use Rattle.cf_policy.specs.declared.Policy.{Policy}
-use Rattle.cf_run.specs.Capture.{Cut}
+use Rattle.cf_records.specs.Capture.{Cut}
 use Rattle.cf_watch.specs.FlowValue.{FlowValue}
 use Rattle.cf_watch.specs.Watch.{EndsAt, HasFlows}
 use Rattle.cf_watch.specs.declared.WatchFault.{WatchFault}

@@ -1,37 +1,18 @@
 -- `world SEED SESSIONS POLICY CAPTURE OUT LOG`: a policy and a capture are made from a number, and run: `MakesAndRuns` and `WorldHolds`.
 use Rattle.std.specs.Prelude.{◌≡◌, ◌≢◌, ◌⊎◌, ℕ, ◌-◌, ◌^◌, ◌≤◌, List, [], ◌∷◌, Option, None, Err, if◌then◌else◌, option_and_then, option_map}
+use Rattle.cf_outside.specs.Frames.{KeepsOtherFiles}
 use Rattle.cf_run.specs.RunCapture.{AreApart, RunNamesValue}
 use Rattle.cf_world.specs.World.{LeavesWorld, MakesWorld, WorldNamesValue}
 use Rattle.cf_world.specs.declared.WorldFault.{WorldFault}
 use Rattle.cf_world.specs.declared.WorldFault.TheVariants as fault
-use Rattle.cf_box.specs.Command.{Command, World}
-use Rattle.cf_box.specs.Names.{are_names, printed_number_in}
+use Rattle.cf_words.specs.Command.{Command, World}
+use Rattle.cf_words.specs.Names.{are_names, printed_number_in}
 use Rattle.cf_box.specs.Outside.{Outside}
 use Rattle.cf_box.specs.Run.{RunLeaves, Runs}
 use Rattle.cf_box.specs.RunHolds.{RunHolds}
 use Rattle.cf_box.specs.declared.ending.Done.{Done}
 use Rattle.cf_box.specs.declared.ending.Stop.{Stop}
 use Rattle.cf_box.specs.declared.ending.Stop.TheVariants as stop
-use Rattle.cf_sift.specs.Outputs.{KeepsAllBut}
-
--- the seed has 64 bits, and the number of sessions is from 1 to 200
-abbrev pub world_of : List (List ℕ) → Option Command
-world_of (seed ∷ sessions ∷ policy ∷ capture ∷ out ∷ log ∷ []) =
-    if are_names (policy ∷ capture ∷ out ∷ log ∷ []) then
-    option_and_then (λ s. option_map (λ n. World s n policy (record { capture = capture; out = out; log = log }))
-    (printed_number_in 1 200 sessions))
-    (printed_number_in 0 (2 ^ 64 - 1) seed)
-    else None
-world_of _ = None
-
--- what the reader of the words has tested: the number of sessions, and that all four names differ
-pub record IsFitWorld (sessions : ℕ) (policy : List ℕ) (names : RunNamesValue) : Type 0 where
-  pub some : 1 ≤ sessions
-  pub few : sessions ≤ 200
-  pub apart : AreApart names
-  pub policy_capture : policy ≢ names.capture
-  pub policy_out : policy ≢ names.out
-  pub policy_log : policy ≢ names.log
 
 -- the files that are made before the run
 abbrev pub made_names : (policy : List ℕ) → RunNamesValue → WorldNamesValue
@@ -48,14 +29,14 @@ module _ (sessions : ℕ) (policy : List ℕ) (names : RunNamesValue) (before af
     pub leaves : LeavesWorld sessions (made_names policy names) before.files.content after.files.content
     pub same_policy : after.files.content policy ≡ between.files.content policy
     pub same_capture : after.files.content names.capture ≡ between.files.content names.capture
-    pub others : KeepsAllBut before.files.content between.files.content (policy ∷ names.capture ∷ [])
+    pub others : KeepsOtherFiles (policy ∷ names.capture ∷ []) before.files.content between.files.content
     pub sink : between.sink ≡ before.sink
     pub pair : between.pair ≡ before.pair
 
   -- it was not, for this fault; every file but its two is as it was
   pub record HasNotMade (why : WorldFault) : Type 0 where
     pub leaves : MakesWorld sessions (made_names policy names) before.files.content after.files.content (Err why)
-    pub others : KeepsAllBut before.files.content after.files.content (policy ∷ names.capture ∷ [])
+    pub others : KeepsOtherFiles (policy ∷ names.capture ∷ []) before.files.content after.files.content
     pub sink : after.sink ≡ before.sink
     pub pair : after.pair ≡ before.pair
 

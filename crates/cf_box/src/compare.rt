@@ -1,37 +1,19 @@
 //! `compare POLICY OTHER`: whether the first policy allows only what the second allows.
-ghost use Rattle.std.specs.Prelude.{◌≡◌, IfSome, map, option_map, string_bytes};
-ghost use Rattle.cf_box.specs.Command.{Compare};
-ghost use Rattle.cf_box.specs.Compare.{Says, compare_of};
+ghost use Rattle.std.specs.Prelude.{◌≡◌};
+ghost use Rattle.cf_words.specs.Command.{Compare};
+ghost use Rattle.cf_box.specs.Compare.{Says};
 ghost use Rattle.cf_box.specs.Ends.{Meets};
 ghost use Rattle.cf_box.specs.Outside.{FilesNeverFall, SinkValue, files_value, outside};
-ghost use Rattle.cf_box.specs.Words.{HasFitWords, command_value};
 ghost use Rattle.cf_outside.specs.PairValue.{PairValue};
 ghost use Rattle.cf_policy.specs.Within.{IsWithin};
 
-use crate::command::Command;
 use crate::denial::Denial;
 use crate::ending::{Done, Stop};
-use crate::names::are_names;
 use crate::policy_file::{load_policy, name_at};
 use cf_compare::{CompareFault, Compared, compare};
 use cf_outside::Files;
 use cf_policy::Policy;
 use std::alloc::Global;
-
-/// The words after `compare`.
-pub(crate) fn read_compare(words: &[String]) -> Option<Command<'_>>
-    ensures command { option_map command_value result ≡ compare_of (map string_bytes words.now) }
-    ensures fit { IfSome result HasFitWords }
-{
-    let [policy, other] = words else {
-        return None;
-    };
-    let (policy, other) = (policy.as_str(), other.as_str());
-    if !are_names(&[policy, other]) {
-        return None;
-    }
-    Some(Command::Compare { policy, other })
-}
 
 /// Reads both policies, and compares the first with the second. Changes no file.
 pub(crate) fn compare_files<F: Files>(

@@ -8,17 +8,18 @@ ghost use Rattle.cf_box.specs.Denial.{count_line, reviewed_text};
 ghost use Rattle.cf_policylang.specs.Keys.{refusal_text};
 
 use crate::denial::{AssetName, Denial, denial_line, push_reviewed};
-use crate::status::{
-    CAPTURE_CUT, CAPTURE_REFUSED, DENIED, DONE, IDLE_END, LINK_FAULT, NO_MEMORY, POLICY_REFUSED,
-    READ_FAULT, STREAM_CUT, TOO_MANY_CELLS, TOO_MANY_RULES, UNKNOWN_ASSET, WRITE_FAULT,
-};
 use arrayvec::ArrayString;
 use cf_audit::{CutReason, push_cut};
 use cf_outside::{Sink, WriteAnswer};
 use cf_policylang::{PolicyRefusal, push_refusal};
+use cf_records::{BlockRefusal, FormRefusal};
 use cf_review::Counts;
-use cf_run::{BlockRefusal, FormRefusal, Summary};
+use cf_run::Summary;
 use cf_view::push_number;
+use cf_words::status::{
+    CAPTURE_CUT, CAPTURE_REFUSED, DENIED, DONE, IDLE_END, LINK_FAULT, NO_MEMORY, POLICY_REFUSED,
+    READ_FAULT, STREAM_CUT, TOO_MANY_CELLS, TOO_MANY_RULES, UNKNOWN_ASSET, WRITE_FAULT,
+};
 
 /// Work that was done.
 #[derive(Clone, Copy)]

@@ -1,11 +1,10 @@
 //! `judge POLICY CAPTURE`: whether what clients sent in a capture keeps a policy.
-ghost use Rattle.std.specs.Prelude.{[], ◌≡◌, ◌≤◌, All, IfSome, Some, length, map, option_map, slice_get, string_bytes};
+ghost use Rattle.std.specs.Prelude.{[], ◌≡◌, ◌≤◌, All, Some, length, map, slice_get};
 ghost use Rattle.std.specs.Option.{option_map_or};
-ghost use Rattle.cf_box.specs.Command.{Judge};
+ghost use Rattle.cf_words.specs.Command.{Judge};
 ghost use Rattle.cf_box.specs.Ends.{Meets};
-ghost use Rattle.cf_box.specs.Judge.{IsTold, IsToldAs, SaysOfFlows, judge_of};
+ghost use Rattle.cf_box.specs.Judge.{IsTold, IsToldAs, SaysOfFlows};
 ghost use Rattle.cf_box.specs.Outside.{FilesNeverFall, SinkValue, files_value, outside};
-ghost use Rattle.cf_box.specs.Words.{HasFitWords, command_value};
 ghost use Rattle.cf_outside.specs.PairValue.{PairValue};
 ghost use Rattle.cf_policy.specs.Names.{name_of};
 ghost use Rattle.cf_policy.specs.Within.{IsWithin};
@@ -13,10 +12,8 @@ ghost use Rattle.cf_policy.specs.declared.Asset.{Asset as AssetOf};
 ghost use Rattle.cf_policy.specs.declared.limits.TheConstants.{LONGEST_NAME};
 ghost use Rattle.cf_watch.specs.FlowValue.{IsForAsset, flow_value};
 
-use crate::command::Command;
 use crate::denial::{AssetName, Denial};
 use crate::ending::{Done, Stop};
-use crate::names::are_names;
 use crate::objection::{Ground, Objected};
 use crate::policy_file::load_policy;
 use cf_judge::{Complaint, Objection, judge};
@@ -24,21 +21,6 @@ use cf_outside::Files;
 use cf_policy::{Asset, Decider, Policy, Rule};
 use cf_watch::{Flow, watch};
 use std::alloc::Global;
-
-/// The words after `judge`.
-pub(crate) fn read_judge(words: &[String]) -> Option<Command<'_>>
-    ensures command { option_map command_value result ≡ judge_of (map string_bytes words.now) }
-    ensures fit { IfSome result HasFitWords }
-{
-    let [policy, capture] = words else {
-        return None;
-    };
-    let (policy, capture) = (policy.as_str(), capture.as_str());
-    if !are_names(&[policy, capture]) {
-        return None;
-    }
-    Some(Command::Judge { policy, capture })
-}
 
 /// Reads the policy and the capture, and judges its flows. Changes no file.
 pub(crate) fn judge_capture<F: Files>(

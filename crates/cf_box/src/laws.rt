@@ -7,11 +7,12 @@ use cf_isolation::{
 };
 use cf_pcapng::{calls_give_blocks, files_have_one_list_of_blocks};
 use cf_readback::runs_are_read_back;
+use cf_records::octets_have_one_list_of_records;
 use cf_refusals::refused_commands_are_told;
 use cf_review::{
     bytes_come_in_order, judge_tells_the_first, records_come_first, syn_flows_are_watched,
 };
-use cf_run::{octets_have_one_list_of_records, records_fix_runs, runs_isolate_sessions};
+use cf_run::{records_fix_runs, runs_isolate_sessions};
 use cf_selfjudged::runs_are_unobjected;
 
 /// The laws of the layers below that speak of whole runs and whole captures.

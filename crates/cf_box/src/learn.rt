@@ -1,42 +1,20 @@
 //! `learn POLICY CAPTURE OUT`: a policy is written that allows exactly what a capture shows.
-ghost use Rattle.std.specs.Prelude.{◌≡◌, IfSome, map, option_map, string_bytes};
-ghost use Rattle.cf_box.specs.Command.{Learn};
+ghost use Rattle.std.specs.Prelude.{◌≡◌, map};
+ghost use Rattle.cf_words.specs.Command.{Learn};
 ghost use Rattle.cf_box.specs.Ends.{Meets};
-ghost use Rattle.cf_box.specs.Learn.{LearnsAs, learn_of};
+ghost use Rattle.cf_box.specs.Learn.{LearnsAs};
 ghost use Rattle.cf_box.specs.Outside.{FilesNeverFall, SinkValue, files_value, outside};
-ghost use Rattle.cf_box.specs.Words.{HasFitWords, command_value};
 ghost use Rattle.cf_outside.specs.PairValue.{PairValue};
 ghost use Rattle.cf_policy.specs.Within.{IsWithin};
 ghost use Rattle.cf_watch.specs.FlowValue.{flow_value};
 
-use crate::command::Command;
 use crate::ending::{Done, Stop};
-use crate::names::are_names;
 use crate::policy_file::{load_policy, name_at, write_policy};
 use cf_learn::{LearnFault, learn};
 use cf_outside::Files;
 use cf_policy::Policy;
 use cf_watch::{Flow, watch};
 use std::alloc::Global;
-
-/// The words after `learn`.
-pub(crate) fn read_learn(words: &[String]) -> Option<Command<'_>>
-    ensures command { option_map command_value result ≡ learn_of (map string_bytes words.now) }
-    ensures fit { IfSome result HasFitWords }
-{
-    let [policy, capture, out] = words else {
-        return None;
-    };
-    let (policy, capture, out) = (policy.as_str(), capture.as_str(), out.as_str());
-    if !are_names(&[policy, capture, out]) {
-        return None;
-    }
-    Some(Command::Learn {
-        policy,
-        capture,
-        out,
-    })
-}
 
 /// Reads a policy and a capture, learns the policy that allows exactly what the capture shows, and writes it to a file that is created
 /// last.

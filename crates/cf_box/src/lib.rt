@@ -1,8 +1,7 @@
-//! The program: the words that it takes, what it does for each command, and the status that it ends with.
+//! The program: what it does for each command, and the status that it ends with.
 #![tactic(auto)]
 
 mod check;
-mod command;
 mod compare;
 mod denial;
 mod ending;
@@ -11,7 +10,6 @@ mod laws;
 mod learn;
 mod limits;
 mod migrate;
-mod names;
 mod objection;
 mod packet_line;
 mod packets;
@@ -23,13 +21,11 @@ mod serve;
 mod service;
 mod sift;
 mod spell;
-pub mod status;
 mod top;
 mod watching;
 mod world;
 
 pub use cf_sift::{SiftDone, SiftFault, SiftNames, sift_stream};
-pub use command::{Command, read_words};
 pub use denial::{AssetName, Denial};
 pub use ending::{CaptureRefusal, Done, Stop};
 pub use objection::{Ground, Objected};

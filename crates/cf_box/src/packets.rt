@@ -1,25 +1,22 @@
 //! `packets CAPTURE`: the packets of a capture are listed line by line.
-ghost use Rattle.std.specs.Prelude.{◌≡◌, ◌+◌, ◌≤◌, ◌⊎◌, ◌++◌, ℕ, List, IfSome, IsErrOf, Err, Ok, map, option_map, string_bytes, take};
+ghost use Rattle.std.specs.Prelude.{◌≡◌, ◌+◌, ◌≤◌, ◌⊎◌, ◌++◌, ℕ, List, IsErrOf, Err, Ok, take};
 ghost use Rattle.arrayvec.specs.ArrayVec.{array_vec_len};
-ghost use Rattle.cf_box.specs.Command.{Packets};
+ghost use Rattle.cf_words.specs.Command.{Packets};
 ghost use Rattle.cf_box.specs.Ends.{Meets};
 ghost use Rattle.cf_box.specs.Outside.{FilesNeverFall, files_value, outside, sink_value};
 ghost use Rattle.cf_box.specs.PacketLine.{record_line};
-ghost use Rattle.cf_box.specs.Packets.{ListsFile, packets_of};
-ghost use Rattle.cf_box.specs.Words.{HasFitWords, command_value};
+ghost use Rattle.cf_box.specs.Packets.{ListsFile};
 ghost use Rattle.cf_outside.specs.Faults.{HasCause, Rose};
 ghost use Rattle.cf_outside.specs.PairValue.{PairValue};
 ghost use Rattle.cf_outside.specs.Sink.{Puts, printed_with};
-ghost use Rattle.cf_run.specs.Form.{first_place};
-ghost use Rattle.cf_run.specs.Reader.{HasForm};
+ghost use Rattle.cf_records.specs.Form.{first_place};
+ghost use Rattle.cf_records.specs.Reader.{HasForm};
 
-use crate::command::Command;
 use crate::ending::{CaptureRefusal, Done, Stop};
-use crate::names::are_names;
 use crate::packet_line::{LONGEST_LINE, spell_line};
 use arrayvec::ArrayVec;
 use cf_outside::{Files, Sink, WriteAnswer};
-use cf_run::{NextRecord, OpenFault, RecordReader};
+use cf_records::{NextRecord, OpenFault, RecordReader};
 use cf_view::LinkKind;
 use std::alloc::Global;
 
@@ -41,21 +38,6 @@ impl From<OpenFault> for Stop {
     }
 }
 
-/// The word after `packets`.
-pub(crate) fn read_packets(words: &[String]) -> Option<Command<'_>>
-    ensures command { option_map command_value result ≡ packets_of (map string_bytes words.now) }
-    ensures fit { IfSome result HasFitWords }
-{
-    let [capture] = words else {
-        return None;
-    };
-    let capture = capture.as_str();
-    if !are_names(&[capture]) {
-        return None;
-    }
-    Some(Command::Packets { capture })
-}
-
 /// Reads a capture record by record, and puts a line for each. Changes no file. This project's own.
 ///
 /// The lines are gathered, and put before the buffer is full and at the end, so that what was put before a stop is the lines
@@ -72,7 +54,7 @@ pub(crate) fn packets<F: Files, O: Sink>(
     ensures later { FilesNeverFall (files_value F.Files files.old) (files_value F.Files files.new) }
     ensures puts { O.faults out.old ≤ O.faults out.new }
 {
-    match RecordReader::open(alloc, files, name) {
+    match RecordReader::open(alloc, name, files) {
         Ok(mut reader) => list_records(name, &mut reader, files, out),
         Err(fault) => Err(Stop::from(fault)),
     }
@@ -96,7 +78,7 @@ fn list_records<F: Files, O: Sink>(
     let mut lines = Lines::new();
     let mut number = 1;
     'records: loop {
-        match reader.next(files, name) {
+        match reader.next(name, files) {
             NextRecord::Whole(stamp) => {
                 match make_room(&mut lines, out) {
                     WriteAnswer::Failed => return Err(Stop::WriteFault),

@@ -1,18 +1,17 @@
 //! The policy that a file holds.
-ghost use Rattle.std.specs.Prelude.{◌≡◌, ◌≢◌, Err, IfErr, IfOk, IfSome, IsErr, OnErr, OnOk, Some, bytes_eq, find, option_map, slice_get};
-ghost use Rattle.cf_box.specs.Command.{Command, policy_file};
+ghost use Rattle.std.specs.Prelude.{◌≡◌, ◌≢◌, ◌∷◌, [], Err, IfErr, IfOk, IfSome, Some, bytes_eq, find, option_map, slice_get};
+ghost use Rattle.cf_words.specs.Command.{Command, policy_file};
 ghost use Rattle.cf_box.specs.Ends.{StopsFor};
 ghost use Rattle.cf_box.specs.Outside.{ReadsOnly, SinkValue, files_value, outside};
 ghost use Rattle.cf_box.specs.PolicyFile.{HasPolicy, StopsPolicy, WritesPolicy, asset_named, counted, rule_count};
-ghost use Rattle.cf_outside.specs.Faults.{HasCause};
-ghost use Rattle.cf_outside.specs.Files.{IsPartly, KeepsOthers, content_after_write};
+ghost use Rattle.cf_outside.specs.Frames.{OnlyWrites};
 ghost use Rattle.cf_outside.specs.PairValue.{PairValue};
 ghost use Rattle.cf_policy.specs.Within.{AreAssetsWithin, IsAssetWithin, IsWithin};
 ghost use Rattle.cf_policy.specs.declared.Asset.{Asset};
 
 use crate::denial::AssetName;
 use crate::ending::{Done, Stop};
-use cf_outside::{Files, WholeFault, WriteAnswer, append_all, read_whole};
+use cf_outside::{Files, WholeFault, read_whole, write_whole};
 use cf_policy::{Asset, Policy};
 use cf_policylang::{Cause, Key, PolicyFault, PolicyRefusal, migrated_text, read_policy};
 use cf_view::WriteFault;
@@ -43,7 +42,7 @@ pub(crate) fn load_policy<F: Files>(
     ensures early { IfErr result StopsPolicy }
     ensures only { ReadsOnly (files_value F.Files files.old) (files_value F.Files files.new) }
 {
-    let bytes = match read_whole(alloc, files, name, POLICY_LIMIT) {
+    let bytes = match read_whole(alloc, name, POLICY_LIMIT, files) {
         Ok(bytes) => bytes,
         Err(WholeFault::Read) => return Err(Stop::ReadFault),
         Err(WholeFault::TooLong) => return Err(Stop::PolicyRefused(TOO_LONG)),
@@ -93,31 +92,15 @@ pub(crate) fn write_policy<F: Files>(
 ) -> Result<Done, Stop>
     requires { IsWithin policy.now }
     ensures writes { WritesPolicy policy.now (F.content files.old out.now) (F.content files.new out.now) result }
-    ensures others { KeepsOthers out.now (F.content files.old) (F.content files.new) }
     ensures unwritten { result ≡ Err Stop.NoMemory → F.content files.new ≡ F.content files.old }
-    ensures cause { HasCause (F.write_faults files.old) (F.write_faults files.new) (result ≡ Err Stop.WriteFault) }
-    ensures reads { F.read_faults files.new ≡ F.read_faults files.old }
+    ensures only { OnlyWrites (out.now ∷ []) F.content F.read_faults F.write_faults files.old files.new (result ≡ Err Stop.WriteFault) }
 {
     match migrated_text(alloc, policy) {
-        Ok(text) => match write_file(files, out, text.as_bytes()) {
+        Ok(text) => match write_whole(out, text.as_bytes(), files) {
             Ok(()) => Ok(counted(policy)),
             Err(WriteFault) => Err(Stop::WriteFault),
         },
         Err(_) => Err(Stop::NoMemory),
-    }
-}
-
-/// Creates a file, and writes its octets.
-fn write_file<F: Files>(files: &mut F, name: &str, octets: &[u8]) -> Result<(), WriteFault>
-    ensures done { OnOk result (F.content files.new name.now ≡ content_after_write (F.content files.old name.now) octets.now) }
-    ensures partly { OnErr result (IsPartly octets.now (F.content files.old name.now) (F.content files.new name.now)) }
-    ensures others { KeepsOthers name.now (F.content files.old) (F.content files.new) }
-    ensures cause { HasCause (F.write_faults files.old) (F.write_faults files.new) (IsErr result) }
-    ensures reads { F.read_faults files.new ≡ F.read_faults files.old }
-{
-    match files.create(name) {
-        WriteAnswer::Done => append_all(files, name, octets),
-        WriteAnswer::Failed => Err(WriteFault),
     }
 }
 

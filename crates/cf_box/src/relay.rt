@@ -1,42 +1,16 @@
 //! `relay POLICY ASSET PORT IDLES LOG`: a policy between two streams.
-ghost use Rattle.std.specs.Prelude.{◌≡◌, ◌≤◌, IfSome, map, option_map, string_bytes};
-ghost use Rattle.cf_box.specs.Command.{Relay};
+ghost use Rattle.std.specs.Prelude.{◌≡◌, ◌≤◌};
+ghost use Rattle.cf_words.specs.Command.{Relay};
 ghost use Rattle.cf_box.specs.Ends.{Meets};
 ghost use Rattle.cf_box.specs.Outside.{FilesNeverFall, SinkValue, files_value, outside};
-ghost use Rattle.cf_box.specs.Relay.{relay_answer, relay_of};
-ghost use Rattle.cf_box.specs.Words.{HasFitWords, command_value};
+ghost use Rattle.cf_box.specs.Relay.{relay_answer};
 ghost use Rattle.cf_outside.specs.PairValue.{pair_value};
 
-use crate::command::Command;
 use crate::ending::{Done, Stop};
-use crate::names::{are_names, printed_number_in};
 use crate::policy_file::{find_asset, load_policy};
 use cf_outside::{Files, Pair};
 use cf_relay::{RelayDone, RelayEnd, RelayFault};
 use std::alloc::Global;
-
-/// The words after `relay`.
-pub(crate) fn read_relay(words: &[String]) -> Option<Command<'_>>
-    ensures command { option_map command_value result ≡ relay_of (map string_bytes words.now) }
-    ensures fit { IfSome result HasFitWords }
-{
-    let [policy, asset, port, idles, log] = words else {
-        return None;
-    };
-    let (policy, log) = (policy.as_str(), log.as_str());
-    if !are_names(&[policy, log]) {
-        return None;
-    }
-    let port = printed_number_in(1, 65_535, port.as_str())?;
-    let idles = printed_number_in(1, 1_000_000, idles.as_str())?;
-    Some(Command::Relay {
-        policy,
-        asset: asset.as_str(),
-        port,
-        idles,
-        log,
-    })
-}
 
 /// The answer of the command. A relay that a cut or the idle answers ended has stopped.
 fn answer_of(ended: Result<RelayDone, RelayFault>) -> Result<Done, Stop>

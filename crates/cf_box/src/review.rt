@@ -1,40 +1,18 @@
 //! `review POLICY CAPTURE LOG`: all that a policy objects to in what clients sent in a capture is written, a line each.
-ghost use Rattle.std.specs.Prelude.{◌≡◌, IfSome, map, option_map, string_bytes};
-ghost use Rattle.cf_box.specs.Command.{Review};
+ghost use Rattle.std.specs.Prelude.{◌≡◌};
+ghost use Rattle.cf_words.specs.Command.{Review};
 ghost use Rattle.cf_box.specs.Ends.{Meets};
 ghost use Rattle.cf_box.specs.Outside.{FilesNeverFall, SinkValue, files_value, outside};
-ghost use Rattle.cf_box.specs.Review.{AnswersBy, review_of};
-ghost use Rattle.cf_box.specs.Words.{HasFitWords, command_value};
+ghost use Rattle.cf_box.specs.Review.{AnswersBy};
 ghost use Rattle.cf_outside.specs.PairValue.{PairValue};
 
-use crate::command::Command;
 use crate::denial::Denial;
 use crate::ending::{Done, Stop};
-use crate::names::are_names;
 use crate::policy_file::load_policy;
 use cf_outside::Files;
 use cf_review::{Reviewed, count, review, write_lines};
 use cf_watch::watch_recording;
 use std::alloc::Global;
-
-/// The words after `review`.
-pub(crate) fn read_review(words: &[String]) -> Option<Command<'_>>
-    ensures command { option_map command_value result ≡ review_of (map string_bytes words.now) }
-    ensures fit { IfSome result HasFitWords }
-{
-    let [policy, capture, log] = words else {
-        return None;
-    };
-    let (policy, capture, log) = (policy.as_str(), capture.as_str(), log.as_str());
-    if !are_names(&[policy, capture, log]) {
-        return None;
-    }
-    Some(Command::Review {
-        policy,
-        capture,
-        log,
-    })
-}
 
 /// Reads the policy and the capture, reviews its flows, and writes the lines of all remarks into the log, which is created last.
 pub(crate) fn review_capture<F: Files>(

@@ -1,16 +1,12 @@
 //! `run POLICY CAPTURE OUT LOG`: a policy is run over a capture.
-ghost use Rattle.std.specs.Prelude.{◌≡◌, IfSome, map, option_map, string_bytes};
-ghost use Rattle.cf_box.specs.Command.{Run};
+ghost use Rattle.std.specs.Prelude.{◌≡◌};
+ghost use Rattle.cf_words.specs.Command.{Run};
 ghost use Rattle.cf_box.specs.Ends.{Meets};
 ghost use Rattle.cf_box.specs.Outside.{FilesNeverFall, SinkValue, files_value, outside};
-ghost use Rattle.cf_box.specs.Run.{run_command, run_of};
-ghost use Rattle.cf_box.specs.Words.{HasFitWords, command_value};
 ghost use Rattle.cf_outside.specs.PairValue.{PairValue};
 ghost use Rattle.cf_run.specs.RunCapture.{AreApart, run_names_value};
 
-use crate::command::Command;
 use crate::ending::{CaptureRefusal, Done, Stop};
-use crate::names::are_names;
 use crate::policy_file::load_policy;
 use cf_outside::Files;
 use cf_run::{RunFault, RunNames, RunRefusal, run_capture};
@@ -37,42 +33,6 @@ impl From<RunFault> for Stop {
             RunFault::Cut { at, summary } => Stop::RunCut(at, summary),
         }
     }
-}
-
-/// The words after `run`.
-pub(crate) fn read_run(words: &[String]) -> Option<Command<'_>>
-    ensures command { option_map command_value result ≡ run_of (map string_bytes words.now) }
-    ensures fit { IfSome result HasFitWords }
-{
-    let [policy, capture, out, log] = words else {
-        return None;
-    };
-    read_with_names(
-        policy.as_str(),
-        capture.as_str(),
-        out.as_str(),
-        log.as_str(),
-    )
-}
-
-/// The command, where the names of the files differ.
-#[tactic(auto, using(crate::proofs::FileNames::run_apart))]
-fn read_with_names<'a>(
-    policy: &'a str,
-    capture: &'a str,
-    out: &'a str,
-    log: &'a str,
-) -> Option<Command<'a>>
-    ensures command { option_map command_value result ≡ run_command policy.now capture.now out.now log.now }
-    ensures fit { IfSome result HasFitWords }
-{
-    if !are_names(&[policy, capture, out, log]) {
-        return None;
-    }
-    Some(Command::Run {
-        policy,
-        names: RunNames { capture, out, log },
-    })
 }
 
 /// Reads the policy, and runs it over the capture.

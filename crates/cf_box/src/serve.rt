@@ -13,11 +13,11 @@ ghost use Rattle.cf_serve.specs.declared.table.Place.{Place as PlaceOf};
 use crate::ending::{Stop, put_text, report};
 use crate::policy_file::{find_asset, load_policy};
 use crate::service::{PlaceWord, Service, read_service};
-use crate::status::{DONE, NO_MEMORY, USAGE};
 use cf_links::Service as Links;
 use cf_outside::{Files, Sink};
 use cf_policy::Policy;
 use cf_serve::{Place, ServeFault, sessions_are_isolated};
+use cf_words::status::{DONE, NO_MEMORY, USAGE};
 use std::alloc::Global;
 
 /// Adds the asset of each place, and where its clients come.

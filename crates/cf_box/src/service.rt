@@ -6,9 +6,9 @@ ghost use Rattle.cf_policylang.specs.Numbers.{split_at_mark};
 ghost use Rattle.cf_box.specs.ServiceWords.{IsFitService, are_apart, is_same_place, place_word, place_word_value, place_words, places_of};
 ghost use Rattle.cf_box.specs.ServiceWords.{service_of, service_value};
 
-use crate::names::{are_names, printed_number_in};
 use cf_policylang::address;
 use cf_view::{Endpoint, NoMemory};
+use cf_words::{are_names, printed_number_in};
 use std::alloc::Global;
 
 /// The most places of a service. This project's own choice.

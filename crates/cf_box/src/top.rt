@@ -1,6 +1,6 @@
 //! The top call.
 ghost use Rattle.std.specs.Prelude.{◌≡◌, ◌≤◌, ◌⊎◌, ◌↔◌, IsNone, List, Some, map, string_bytes, ℕ};
-ghost use Rattle.cf_box.specs.Command.{AsksPair, Compare, Judge, Migrate, Packets, Review, Run, Sift, World, Learn};
+ghost use Rattle.cf_words.specs.Command.{AsksPair, Compare, Judge, Migrate, Packets, Review, Run, Sift, World, Learn};
 ghost use Rattle.cf_box.specs.Ends.{Ends, Meets};
 ghost use Rattle.cf_box.specs.Laws.{HasLaws};
 ghost use Rattle.cf_box.specs.Learn.{HoldsLearned};
@@ -14,15 +14,14 @@ ghost use Rattle.cf_box.specs.Status.{AsksItsPair, CutsItsCapture, CutsItsStream
 ghost use Rattle.cf_box.specs.Status.{Includes, IsComplete, IsExactly, IsStatus, JudgedClean, LacksItsAsset, RefusesItsCapture};
 ghost use Rattle.cf_box.specs.Status.{RefusesItsPolicy, SiftPassesAllowed, TakesItsOwn, TellsItsOwn, WritesNothing, outputs_of};
 ghost use Rattle.cf_box.specs.Status.{ExceedsItsRules};
-ghost use Rattle.cf_box.specs.Words.{HasFitWords, command_of, command_value};
+ghost use Rattle.cf_words.specs.Words.{HasFitWords, command_of, command_value};
 ghost use Rattle.cf_box.specs.World.{WorldHolds};
 ghost use Rattle.cf_outside.specs.Faults.{Rose};
+ghost use Rattle.cf_outside.specs.Frames.{KeepsOtherFiles};
 ghost use Rattle.cf_run.specs.RunCapture.{RunNamesValue};
 ghost use Rattle.cf_sift.specs.Names.{SiftNamesValue};
-ghost use Rattle.cf_sift.specs.Outputs.{KeepsAllBut};
 
 use crate::check::check;
-use crate::command::{Command, read_words};
 use crate::compare::compare_files;
 use crate::ending::{Done, Stop, put_text, report};
 use crate::judge::judge_capture;
@@ -35,12 +34,13 @@ use crate::relay::relay;
 use crate::review::review_capture;
 use crate::run::run;
 use crate::sift::sift;
-use crate::status::USAGE;
 use crate::world::world;
 use cf_lane::{has_one_judgement, lane_passes_allowed, rates_hold};
 use cf_outside::{Files, Pair, Sink};
 use cf_run::runs_have_headline;
 use cf_sift::has_one_cut;
+use cf_words::status::USAGE;
+use cf_words::{Command, read_words};
 use std::alloc::Global;
 
 /// Does what a command asks for. `relay` alone asks the pair for something.
@@ -204,7 +204,7 @@ pub fn box_main<F: Files, O: Sink, P: Pair>(
 
     // No file is written but the outputs of the command, and none at all where the words, the policy or the asset are at fault;
     // and nothing is asked of the pair but by a relay.
-    ensures kept { KeepsAllBut (F.content files.old) (F.content files.new) (outputs_of (command_of (map string_bytes words.now))) }
+    ensures kept { KeepsOtherFiles (outputs_of (command_of (map string_bytes words.now))) (F.content files.old) (F.content files.new) }
     ensures unwritten { WritesNothing result →
         TellsItsOwn (command_of (map string_bytes words.now)) (outside_value F.Files O.Sink P.Pair files.old out.old pair.old) →
         F.content files.new ≡ F.content files.old }

@@ -1,17 +1,14 @@
 //! `world SEED SESSIONS POLICY CAPTURE OUT LOG`: a policy and a capture are made from a number, and the policy is run over the
 //! capture.
-ghost use Rattle.std.specs.Prelude.{◌≡◌, IfSome, map, option_map, string_bytes};
-ghost use Rattle.cf_box.specs.Command.{World};
+ghost use Rattle.std.specs.Prelude.{◌≡◌};
+ghost use Rattle.cf_words.specs.Command.{World};
 ghost use Rattle.cf_box.specs.Ends.{Meets};
 ghost use Rattle.cf_box.specs.Outside.{FilesNeverFall, SinkValue, files_value, outside};
-ghost use Rattle.cf_box.specs.Words.{HasFitWords, command_value};
-ghost use Rattle.cf_box.specs.World.{IsFitWorld, world_of};
+ghost use Rattle.cf_words.specs.Forms.{IsFitWorld};
 ghost use Rattle.cf_outside.specs.PairValue.{PairValue};
 ghost use Rattle.cf_run.specs.RunCapture.{run_names_value};
 
-use crate::command::Command;
 use crate::ending::{Done, Stop};
-use crate::names::{are_names, printed_number_in};
 use crate::run::run;
 use cf_outside::Files;
 use cf_run::RunNames;
@@ -30,30 +27,6 @@ impl From<WorldFault> for Stop {
             WorldFault::Write => Stop::WriteFault,
         }
     }
-}
-
-/// The words after `world`.
-#[tactic(auto, using(crate::proofs::FileNames::world_fit))]
-pub(crate) fn read_world(words: &[String]) -> Option<Command<'_>>
-    ensures command { option_map command_value result ≡ world_of (map string_bytes words.now) }
-    ensures fit { IfSome result HasFitWords }
-{
-    let [seed, sessions, policy, capture, out, log] = words else {
-        return None;
-    };
-    let (policy, capture) = (policy.as_str(), capture.as_str());
-    let (out, log) = (out.as_str(), log.as_str());
-    if !are_names(&[policy, capture, out, log]) {
-        return None;
-    }
-    let seed = printed_number_in(0, u64::MAX, seed.as_str())?;
-    let sessions = printed_number_in(1, 200, sessions.as_str())?;
-    Some(Command::World {
-        seed,
-        sessions,
-        policy,
-        names: RunNames { capture, out, log },
-    })
 }
 
 /// Makes the policy and the capture, and runs the one over the other as `run` does.

@@ -2,12 +2,10 @@
 ghost use Rattle.std.specs.Prelude.{◌≡◌, ◌↔◌, ℕ, List, IfOk, Ok, drop, slice_index};
 ghost use Rattle.cf_dnpobj.specs.Fragment.{FragmentValue, SpellsRequest, fragment_answer, read_octets, takes_headers};
 
+use crate::function::{CONFIRM, SINGLE};
 use crate::header::count_headers;
 use crate::object::{is_command, is_function, is_write};
 use cf_view::View;
-
-/// The least first octet with FIR and FIN.
-const SINGLE: u8 = 0xC0;
 
 /// A request of one fragment. IEEE 1815-2012, section 4.2.
 #[derive(Drop)]
@@ -76,7 +74,7 @@ pub fn requests_are_spelled()
 fn takes_headers(code: u8, count: usize) -> bool
     ensures { result ≡ takes_headers code count }
 {
-    if code == 0 {
+    if code == CONFIRM {
         return count == 0;
     }
     if is_command(code) || is_write(code) {

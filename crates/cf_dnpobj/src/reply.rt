@@ -9,15 +9,15 @@ ghost use Rattle.cf_dnpobj.specs.Reply.{reply, body, indication_of, answers_obje
 
 use crate::acts::each;
 use crate::fragment::{Fragment, read_fragment};
+use crate::function::{
+    CONFIRM, DIRECT_OPERATE_UNANSWERED, FREEZE_CLEAR_UNANSWERED, FREEZE_UNANSWERED, RESPONSE,
+    SINGLE,
+};
 use crate::header::first_header;
 use crate::object::range_size;
 use arrayvec::ArrayVec;
 use cf_view::{Reason, View};
 
-/// FIR and FIN of a response.
-const SINGLE: u8 = 0xC0;
-/// The function code of a response. IEEE 1815-2012, section 4.4.
-const RESPONSE: u8 = 0x81;
 /// The status of a control that is not authorized. IEEE 1815-2012, annex A, group 12.
 const NOT_AUTHORIZED: u8 = 9;
 
@@ -25,7 +25,10 @@ const NOT_AUTHORIZED: u8 = 9;
 pub fn wants_reply(code: u8) -> bool
     ensures { result ≡ wants_reply code }
 {
-    !(code == 0 || code == 6 || code == 8 || code == 10)
+    !(code == CONFIRM
+        || code == DIRECT_OPERATE_UNANSWERED
+        || code == FREEZE_UNANSWERED
+        || code == FREEZE_CLEAR_UNANSWERED)
 }
 
 /// Replaces the contents of `out` by the reply to a refused request of 2 to 2,048 octets: a response with its sequence. Where a

@@ -3,15 +3,15 @@
 use crate::link::link_name;
 use crate::page::Page;
 use cf_outside::Files;
-use cf_run::{BlockRefusal, RecordReader};
+use cf_records::{BlockRefusal, RecordReader};
 
 /// Says why the block at the place of a reader is refused, and what to do.
 pub(crate) fn push_refused<F: Files>(
     out: &mut Page,
     reader: &RecordReader,
-    files: &mut F,
     file: &str,
     refusal: BlockRefusal,
+    files: &mut F,
 ) {
     match refusal {
         BlockRefusal::Block => out.push(
@@ -20,7 +20,7 @@ pub(crate) fn push_refused<F: Files>(
         BlockRefusal::Section => out.push(
             ", begins a section whose byte order is not known, or whose version is not 1",
         ),
-        BlockRefusal::Interface => match packet_interface(reader.place(), files, file) {
+        BlockRefusal::Interface => match packet_interface(reader.place(), file, files) {
             Some(number) => push_interface(out, reader, number),
             None => out.push(", describes one interface more than 64, which a section has at most"),
         },
@@ -50,7 +50,7 @@ fn push_interface(out: &mut Page, reader: &RecordReader, number: u32) {
 
 /// The number of the interface of the enhanced packet at a place of a file, in the byte order in which its type stands; none where
 /// another block stands there.
-fn packet_interface<F: Files>(place: u64, files: &mut F, file: &str) -> Option<u32> {
+fn packet_interface<F: Files>(place: u64, file: &str, files: &mut F) -> Option<u32> {
     let mut head = [0u8; 12];
     files.read_at(file, place, &mut head);
     let [a, b, c, d, _, _, _, _, e, f, g, h] = head;

@@ -7,7 +7,7 @@ use crate::page::Page;
 use cf_outside::{Files, ReadAnswer};
 use cf_pcap::{CAPTURED_LIMIT, u32_at};
 use cf_pcapng::is_section;
-use cf_run::{FormRefusal, MOMENT_LIMIT, NextRecord, OpenFault, RecordReader};
+use cf_records::{FormRefusal, MOMENT_LIMIT, NextRecord, OpenFault, RecordReader};
 use cf_view::View;
 use std::alloc::{AllocError, Global};
 
@@ -31,31 +31,31 @@ enum Last {
 /// where it cannot be read again, as a pipe.
 pub fn capture_message<F: Files>(
     alloc: Global,
-    files: &mut F,
     file: &str,
     has_moments: bool,
+    files: &mut F,
 ) -> Result<Option<String>, AllocError> {
     let mut out = Page::new(alloc);
     out.push_all(&[file, ": "]);
-    let is_told = push_why(&mut out, files, file, has_moments);
+    let is_told = push_why(&mut out, file, has_moments, files);
     let text = out.finish()?;
     Ok(if is_told { Some(text) } else { None })
 }
 
 /// Says why a capture is refused or where it is cut, if it is, and whether it did.
-fn push_why<F: Files>(out: &mut Page, files: &mut F, file: &str, has_moments: bool) -> bool {
-    let first = first_octets(files, file);
-    match RecordReader::open(out.alloc, files, file) {
+fn push_why<F: Files>(out: &mut Page, file: &str, has_moments: bool, files: &mut F) -> bool {
+    let first = first_octets(file, files);
+    match RecordReader::open(out.alloc, file, files) {
         Err(OpenFault::Refused(refusal)) => {
             push_header(out, refusal, &first);
             true
         }
         Err(OpenFault::Read | OpenFault::NoMemory) => false,
         Ok(mut reader) => {
-            let (number, place, last) = last_record(&mut reader, files, file, has_moments);
+            let (number, place, last) = last_record(&mut reader, file, has_moments, files);
             if let Last::Found(NextRecord::Refused(refusal)) = last {
                 push_block(out, number, place);
-                push_refused(out, &reader, files, file, refusal);
+                push_refused(out, &reader, file, refusal, files);
                 push_before(out, number);
                 return true;
             }
@@ -65,7 +65,7 @@ fn push_why<F: Files>(out: &mut Page, files: &mut F, file: &str, has_moments: bo
 }
 
 /// The first octets of a file; zeros where it cannot be read again.
-fn first_octets<F: Files>(files: &mut F, file: &str) -> [u8; HEADER_OCTETS] {
+fn first_octets<F: Files>(file: &str, files: &mut F) -> [u8; HEADER_OCTETS] {
     let mut first = [0u8; HEADER_OCTETS];
     match files.read_at(file, 0, &mut first) {
         ReadAnswer::Got(_) => first,
@@ -117,9 +117,9 @@ fn push_link(out: &mut Page, first: &[u8; HEADER_OCTETS]) {
 /// is the place of the record, or of a pcapng file the place where its block ends.
 fn last_record<F: Files>(
     reader: &mut RecordReader,
-    files: &mut F,
     file: &str,
     has_moments: bool,
+    files: &mut F,
 ) -> (u64, u64, Last)
     requires near { reader.old.place ≤ 2 ^ 40 }
 {
@@ -128,7 +128,7 @@ fn last_record<F: Files>(
     let mut least = 2u64;
     'records: loop {
         let place = reader.place();
-        match reader.next(files, file) {
+        match reader.next(file, files) {
             NextRecord::Whole(stamp) => {
                 let moment = stamp.max(least);
                 if has_moments && moment >= MOMENT_LIMIT {

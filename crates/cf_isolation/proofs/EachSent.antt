@@ -2,16 +2,17 @@
 use Rattle.std.proofs.Common.{◌≡◌, ℕ, ◌+◌, ◌&&◌, Bool, true, false, List, ◌∷◌, ◌++◌, cond, map, refl, ap, ◌∙◌, subst, append-nil, arith}
 use Rattle.std.specs.Prelude.{filter}
 use Rattle.std.specs.List.{AllByRecursion, flat_map}
+use Rattle.cf_policy.specs.AtEndpoint.{has_asset_at}
 use Rattle.cf_policy.specs.declared.Asset.{Asset}
 use Rattle.cf_readback.proofs.Legs.{each_back}
 use Rattle.cf_readback.specs.ReadBack.{RunsAreReadBack, record_by}
 use Rattle.cf_session.specs.Sent.{Sent, sent_first, sent_second}
 use Rattle.cf_session.specs.Session.{client_of}
 use Rattle.cf_view.specs.declared.Endpoint.{Endpoint}
-use Rattle.cf_run.specs.Records.{HaveOneList}
+use Rattle.cf_records.specs.Records.{HaveOneList}
 use Rattle.cf_run.specs.Selected.{Rises}
 use Rattle.cf_run.specs.Sessions.{Each, SessionsAreRight, sessions_of}
-use Rattle.cf_run.specs.Table.{Session, has_asset_at, is_between}
+use Rattle.cf_run.specs.Table.{Session, is_between}
 use Rattle.cf_run.specs.Trace.{AreRunEvents, RunEvent, sent, sent_in_first, sent_in_second, sent_received, tick_of}
 use Rattle.cf_isolation.specs.Lives.{EachHasALife, EachHasRecords, EachSent, HasLife, born_at, is_in_life, own_sent}
 use Rattle.cf_isolation.specs.Records.{goes_between}

@@ -5,8 +5,8 @@ use Rattle.std.specs.List.{AllByRecursion}
 use Rattle.cf_packet.specs.Packet.{read_record}
 use Rattle.cf_policy.specs.declared.Asset.{Asset}
 use Rattle.cf_readback.specs.ReadBack.{IsReadAgain, RunsAreReadBack, output_form, record_by}
-use Rattle.cf_run.specs.Capture.{Record}
-use Rattle.cf_run.specs.Records.{HaveOneList}
+use Rattle.cf_records.specs.Capture.{Record}
+use Rattle.cf_records.specs.Records.{HaveOneList}
 use Rattle.cf_run.specs.Run.{IsRun}
 use Rattle.cf_run.specs.Trace.{Input, sent, tick_of}
 use Rattle.cf_run.specs.declared.summary.Summary.{Summary}

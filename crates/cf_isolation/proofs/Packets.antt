@@ -6,6 +6,7 @@ use Rattle.std.proofs.Math.Bool.{and_comm, or-false}
 use Rattle.std.proofs.lemmas.Bool.{false_from_ne_true, true≢false}
 use Rattle.std.proofs.lemmas.List.{append-nil}
 use Rattle.std.proofs.lemmas.List.Elements.{filter-append}
+use Rattle.cf_policy.specs.AtEndpoint.{has_asset_at}
 use Rattle.cf_leg.specs.Event.{LegEvent, greeted_by, said_by}
 use Rattle.cf_packet.specs.Packet.{PacketValue}
 use Rattle.cf_packet.specs.declared.packet.PacketRefusal.{PacketRefusal}
@@ -19,7 +20,7 @@ use Rattle.cf_view.specs.declared.Endpoint.{Endpoint}
 use Rattle.cf_view.specs.declared.Side.{Side}
 use Rattle.cf_run.specs.Isolation.{begins_theirs, goes_to_theirs, is_flow_of, is_theirs, ticks_of}
 use Rattle.cf_run.specs.Sessions.{Each, HasEvents, HasRightEvents as IsRightSession}
-use Rattle.cf_run.specs.Table.{Session, has_asset_at, is_between}
+use Rattle.cf_run.specs.Table.{Session, is_between}
 use Rattle.cf_view.specs.Endpoints.{same_endpoint}
 use Rattle.cf_run.specs.Trace.{AreTicks, Begun, Dropped, GoesOnAt, GoesOnWith, NoRoom, NoSession, Received, ReceivesRecord, Went, kept, sent_received, stays, ticked, with_events}
 use Rattle.cf_isolation.specs.Records.{goes_between}

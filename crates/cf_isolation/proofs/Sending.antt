@@ -4,6 +4,7 @@ use Rattle.std.specs.Prelude.{filter}
 use Rattle.std.specs.List.{AllByRecursion, flat_map}
 use Rattle.std.proofs.lemmas.List.{append-nil}
 use Rattle.std.proofs.lemmas.List.Elements.{filter-append}
+use Rattle.cf_policy.specs.AtEndpoint.{has_asset_at}
 use Rattle.cf_leg.specs.Event.{moment}
 use Rattle.cf_packet.specs.Packet.{PacketValue}
 use Rattle.cf_packet.specs.declared.packet.PacketRefusal.{PacketRefusal}
@@ -16,7 +17,7 @@ use Rattle.cf_run.specs.Isolation.{HasSession, NoneBegins, begins_theirs, goes_t
 use Rattle.cf_run.specs.Selected.{Rises, last_moment}
 use Rattle.cf_run.specs.Sessions.{Each, HasRightEvents as IsRightSession, SessionsAreRight, gone_after}
 use Rattle.cf_run.specs.Summary.{found}
-use Rattle.cf_run.specs.Table.{Session, has_asset_at}
+use Rattle.cf_run.specs.Table.{Session}
 use Rattle.cf_run.specs.Trace.{AreRunEvents, AreTicks, Begun, RunEvent, Received, ReceivesRecord, kept, sent, sent_in_first, sent_in_second, sent_received, table_after, tick_of}
 use Rattle.cf_isolation.specs.Isolated.{NextEvent, SentIsOfSessions, SentToTheNext}
 use Rattle.cf_isolation.specs.Records.{goes_between, is_during, sent_between}

@@ -4,6 +4,8 @@ use Rattle.std.specs.Prelude.{filter, slice_get}
 use Rattle.std.specs.List.{remove}
 use Rattle.std.proofs.lemmas.Bool.{true≢false}
 use Rattle.std.proofs.lemmas.Bool.Decides.{nat_tests}
+use Rattle.cf_leg.specs.Segment.{is_opening}
+use Rattle.cf_policy.specs.AtEndpoint.{asset_at, has_asset_at}
 use Rattle.cf_packet.specs.Packet.{PacketValue}
 use Rattle.cf_packet.specs.declared.packet.PacketRefusal.{PacketRefusal}
 use Rattle.cf_policy.specs.declared.Asset.{Asset}
@@ -12,7 +14,7 @@ use Rattle.cf_session.specs.Session.{Flow, SessionEvent, client_of, is_expired}
 use Rattle.cf_view.specs.declared.Endpoint.{Endpoint}
 use Rattle.cf_view.specs.declared.Side.{Side}
 use Rattle.cf_run.specs.Sessions.{Each, gone_after, leaves, left_by_packet, left_in, session_at, sessions_of}
-use Rattle.cf_run.specs.Table.{Begins, Full, Goes, Match, Session, asset_at, begins, begins_or_full, goes, goes_from_client, has_asset_at, is_opening, match_of, may_begin, place_of, without}
+use Rattle.cf_run.specs.Table.{Begins, Full, Goes, Match, Session, begins, begins_or_full, goes, goes_from_client, match_of, may_begin, place_of, without}
 use Rattle.cf_view.specs.Endpoints.{same_endpoint}
 use Rattle.cf_run.specs.Trace.{AreRunEvents, Begun, Dropped, RunEvent, GoesOnAt, NoRoom, NoSession, Received, Receives, ReceivesRecord, Went, after_received, kept, stays, table_after, tick_of, ticked, with_event_at, with_events}
 

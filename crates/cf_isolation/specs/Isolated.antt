@@ -10,7 +10,7 @@ use Rattle.std.specs.List.{AllByRecursion, flat_map}
 use Rattle.cf_view.specs.Moment.{moment_limit}
 use Rattle.cf_policy.specs.declared.Asset.{Asset}
 use Rattle.cf_readback.specs.ReadBack.{output_form, record_by}
-use Rattle.cf_run.specs.Capture.{AreRecords, LastPlace, Record}
+use Rattle.cf_records.specs.Capture.{AreRecords, LastPlace, Record}
 use Rattle.cf_run.specs.Isolation.{AreMatchedAlike, HasSession, moments_of, session_sent, ticks_of}
 use Rattle.cf_run.specs.Run.{IsRun}
 use Rattle.cf_run.specs.Selected.{last_moment}

@@ -10,7 +10,7 @@ use Rattle.cf_packet.specs.Packet.{read_record}
 use Rattle.cf_policy.specs.Within.{AreAssetsWithin}
 use Rattle.cf_policy.specs.declared.Asset.{Asset}
 use Rattle.cf_readback.specs.ReadBack.{record_by}
-use Rattle.cf_run.specs.Capture.{Record}
+use Rattle.cf_records.specs.Capture.{Record}
 use Rattle.cf_run.specs.Run.{IsRun}
 use Rattle.cf_run.specs.Sessions.{AreAlike, sessions_of}
 use Rattle.cf_run.specs.Table.{Session, is_between}

@@ -3,7 +3,7 @@
 use Rattle.std.specs.Prelude.{ℕ, nat_le, Bool, false, ◌&&◌, ◌||◌, List, filter, Result, Ok, Err}
 use Rattle.cf_packet.specs.Packet.{PacketValue, read_record}
 use Rattle.cf_packet.specs.declared.packet.PacketRefusal.{PacketRefusal}
-use Rattle.cf_run.specs.Capture.{Record}
+use Rattle.cf_records.specs.Capture.{Record}
 use Rattle.cf_view.specs.Endpoints.{same_endpoint}
 use Rattle.cf_session.specs.Sent.{Sent}
 use Rattle.cf_view.specs.declared.Endpoint.{Endpoint}

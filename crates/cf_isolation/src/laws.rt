@@ -5,7 +5,8 @@ ghost use Rattle.cf_isolation.specs.Lives.{AlikeInLines, AlikeInRecords, EachHas
 ghost use Rattle.cf_isolation.specs.Logged.{LogsAreIsolated, LogsHoldSessions, LogsHoldToTheNext};
 
 use cf_readback::runs_are_read_back;
-use cf_run::{octets_have_one_list_of_records, runs_isolate_sessions, sessions_are_right};
+use cf_records::octets_have_one_list_of_records;
+use cf_run::{runs_isolate_sessions, sessions_are_right};
 use cf_session::{events_are_fixed, work_is_of_what_was_taken};
 
 /// What a run sent between the two endpoints of a session, in the session's time, is what the session's own events sent, in their

@@ -17,10 +17,6 @@ use Rattle.cf_view.specs.declared.Break.{Break}
 use Rattle.cf_lane.specs.declared.fate.Fate.TheVariants as fate
 use Rattle.cf_view.specs.declared.Side.TheVariants as side
 
--- a frame as a unit
-abbrev pub frame_unit : FrameValue → UnitValue
-frame_unit x = Frame x
-
 -- the fate of an APDU whose numbers are not judged
 abbrev pub fate_by_asdu : Asset → ℕ → ApduValue → Fate
 fate_by_asdu asset client (Info send receive asdu) = fate_of_asdu asset (verdict_of asset client) asdu

@@ -5,7 +5,7 @@ ghost use Rattle.cf_modbus.specs.Adu.{SpellsAdu};
 ghost use Rattle.cf_dnplink.specs.LinkFrame.{IsFrame, SpellsFrame, frame_value};
 ghost use Rattle.cf_lane.specs.Judged.{Judged};
 ghost use Rattle.cf_lane.specs.Log.{command_octets};
-ghost use Rattle.cf_lane.specs.Unit.{SpellsUnit, UnitValue};
+ghost use Rattle.cf_lane.specs.Unit.{SpellsUnit, UnitValue, frame_unit};
 ghost use Rattle.cf_policy.specs.Index.{IsIndexOf};
 ghost use Rattle.cf_policy.specs.Within.{IsAssetWithin};
 ghost use Rattle.cf_view.specs.Framing.{BreaksAt, IsPartial};
@@ -15,18 +15,19 @@ ghost use Rattle.cf_lane.specs.declared.fate.Refusal.{Refusal};
 ghost use Rattle.cf_view.specs.declared.Side.TheVariants as side;
 ghost use Rattle.cf_judge.specs.Ruling.{ruling_of};
 ghost use Rattle.cf_judge.specs.Front.{HasWhole, IsFrontOf, IsReaderOf};
-ghost use Rattle.cf_judge.specs.Plain.{HasPlainFate, completed_in, frame_fate, frame_unit};
+ghost use Rattle.cf_judge.specs.Plain.{HasPlainFate, completed_in, frame_fate};
 
-use crate::dnp3::{drop_why, is_data, judge_whole, stray_of, take_segment};
+use crate::dnp3::judge_whole;
 use crate::iec104::{all, judge_apdu};
 use crate::modbus::judge_adu;
 use crate::ruling::Ruling;
 use cf_apci::next_apdu;
 use cf_dnplink::{Frame, next_frame};
 use cf_dnptrans::{Assembly, SegmentAnswer};
+use cf_lane::{drop_why, is_data, stray_of, take_segment};
 use cf_modbus::next_adu;
 use cf_policy::{Asset, CodeIndex, Protocol};
-use cf_view::{Break, Framed, NoMemory, View};
+use cf_view::{Break, Framed, NoMemory, Side, View};
 use std::alloc::Global;
 
 /// What stands at the front of bytes.
@@ -115,7 +116,7 @@ impl Reader {
         ensures goes_on { (client : ℕ) (earlier : List Judged) (number : ℕ) (f : Fate) → IsReaderOf asset.now client earlier self.old
             → IsReaderOf asset.now client (earlier ++ completed_in number (frame_unit (frame_value frame.now)) f ∷ []) self.new }
     {
-        if let Some(why) = stray_of(asset, frame) {
+        if let Some(why) = stray_of(asset, Side::Client, frame) {
             return Ruling::Stray(why);
         }
         if !is_data(frame) {

@@ -9,12 +9,10 @@ ghost use Rattle.cf_judge.specs.Plain.{fate_by_asdu};
 
 use crate::ruling::{Ruling, judge_acts, refused};
 use cf_apci::Apdu;
-use cf_asdu::{AsduRefusal, act_at, act_count, read_asdu, station_of};
+use cf_asdu::{AsduRefusal, SHORTEST, act_at, act_count, read_asdu, station_of};
+use cf_lane::kind_of;
 use cf_policy::{Asset, CodeIndex, Decider};
 use cf_view::{Reason, View};
-
-/// The fewest octets of an ASDU with an information object. IEC 60870-5-101, section 7.2.
-const SHORTEST: usize = 9;
 
 pub(crate) fn judge_apdu(asset: &Asset, index: &CodeIndex, apdu: &Apdu<'_>) -> Ruling
     requires fits { Fits (apdu_value apdu.now) }
@@ -54,17 +52,6 @@ fn judge_asdu(asset: &Asset, index: &CodeIndex, octets: &View<'_>) -> Ruling
     match read_asdu(all(octets)) {
         Err(refusal) => refused(Decider::Form, refusal.reason(), kind_of(octets), 0),
         Ok(asdu) => judge_acts(asset, index, act_count(&asdu), |i| act_at(&asdu, i)),
-    }
-}
-
-/// The type of an ASDU; 0 where it has no octet.
-fn kind_of(octets: &View<'_>) -> u16
-    ensures { result ≡ slice_index octets.now.bytes 0 }
-{
-    if octets.is_empty() {
-        0
-    } else {
-        u16::from(octets.at(0))
     }
 }
 

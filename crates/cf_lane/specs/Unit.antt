@@ -25,6 +25,13 @@ pub data UnitValue : Type 0 where
   Frame : FrameValue → UnitValue
   Apdu : ApduValue → UnitValue
 
+-- a frame and an APDU as units
+abbrev pub frame_unit : FrameValue → UnitValue
+frame_unit f = Frame f
+
+abbrev pub apdu_unit : ApduValue → UnitValue
+apdu_unit a = Apdu a
+
 -- its octets
 abbrev pub unit_spelling : UnitValue → List ℕ
 unit_spelling (Adu a) = spelling a

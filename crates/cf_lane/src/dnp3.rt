@@ -23,6 +23,9 @@ use cf_outq::Outq;
 use cf_outside::Desk;
 use cf_policy::{Asset, Protocol};
 use cf_view::{Endpoint, Framed, Side, View, WriteFault};
+pub use fragments::{drop_why, take_segment};
+pub use judge::form_reason;
+pub use served::{is_data, stray_of};
 
 impl Fragments {
     /// Takes the frame at the front of a side's bytes by its fate.

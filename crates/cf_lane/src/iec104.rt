@@ -25,6 +25,7 @@ use cf_outside::Desk;
 use cf_policy::{Asset, Protocol};
 use cf_renumber::Numbers;
 use cf_view::{Endpoint, Framed, Side, View, WriteFault};
+pub use judge::kind_of;
 
 /// Takes an APDU of a side by its format.
 fn take_apdu<D: Desk>(

@@ -15,7 +15,9 @@ mod rules;
 mod run;
 mod wire;
 
+pub use dnp3::{drop_why, form_reason, is_data, stray_of, take_segment};
 pub use fate::{Fate, Refusal};
+pub use iec104::kind_of;
 pub use lane::{Fed, Lane};
 pub use laws::{
     grows_little, has_one_judgement, judgements_go_on, lane_passes_allowed, pieces_join,

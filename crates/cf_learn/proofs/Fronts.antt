@@ -12,7 +12,7 @@ use Rattle.cf_dnptrans.specs.Transport.{answer_to, last_fragment}
 use Rattle.cf_dnptrans.specs.declared.SegmentAnswer.TheVariants as answers
 use Rattle.cf_dnplink.specs.LinkFrame.{FrameValue}
 use Rattle.cf_lane.proofs.Units.{IsGrammarOf, begins_by, breaks_by, free_unit, nothing_unit, partial_by}
-use Rattle.cf_lane.specs.Unit.{Adu, Apdu, AreUnits, Frame, Left, SpellsUnit, Tail, UnitValue, Wrong, unit_break}
+use Rattle.cf_lane.specs.Unit.{Adu, Apdu, AreUnits, Frame, Left, SpellsUnit, Tail, UnitValue, Wrong, unit_break, frame_unit}
 use Rattle.cf_policy.specs.declared.Asset.{Asset}
 use Rattle.cf_policy.specs.declared.Protocol.{Protocol}
 use Rattle.cf_policy.specs.declared.Protocol.TheVariants.{Dnp3}
@@ -22,7 +22,7 @@ use Rattle.cf_view.specs.declared.Break.{Break}
 use Rattle.cf_view.specs.Units.{BeginsWithUnits}
 use Rattle.cf_view.specs.declared.Act.{Act}
 use Rattle.cf_learn.specs.Reading.{Adds, TakesFront, TakesNone, TakesUnit, made_whole, new_messages}
-use Rattle.cf_learn.specs.Shown.{Fragment, HasAct, HaveAct, IsShown, frame_unit, is_segment, message_in, messages, segment_of}
+use Rattle.cf_learn.specs.Shown.{Fragment, HasAct, HaveAct, IsShown, is_segment, message_in, messages, segment_of}
 use Rattle.cf_learn.specs.declared.seen.Seen.{Seen}
 use Rattle.cf_learn.proofs.Adding.{adds_both, adds_none, adds_same, have_one}
 use Rattle.cf_learn.proofs.Elements.{apart, nothing, together_first, together_second}

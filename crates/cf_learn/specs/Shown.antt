@@ -2,7 +2,7 @@
 -- frames, segments and fragments of DNP3 are put together as the filter does it. Read from the end.
 use Rattle.std.specs.Prelude.{◌≡◌, ◌≢◌, ℕ, Bool, ◌&&◌, List, [], ◌∷◌, ◌++◌, map, Ok, Contains}
 use Rattle.std.specs.List.{flat_map}
-use Rattle.cf_apci.specs.Apdu.{Ack, ApduValue, Control, Info}
+use Rattle.cf_apci.specs.Apdu.{Ack, Control, Info}
 use Rattle.cf_asdu.specs.Asdu.{AsduValue}
 use Rattle.cf_asdu.specs.Asdu as asdus
 use Rattle.cf_asdu.specs.Acts as asdu_acts
@@ -35,13 +35,6 @@ message_in (Frame x) = []
 message_in (Apdu (Info send receive octets)) = Asdu octets ∷ []
 message_in (Apdu (Ack receive)) = []
 message_in (Apdu (Control code)) = []
-
--- a frame and an APDU as units
-abbrev pub frame_unit : FrameValue → UnitValue
-frame_unit f = Frame f
-
-abbrev pub apdu_unit : ApduValue → UnitValue
-apdu_unit a = Apdu a
 
 -- a client's frame that is served, with data
 abbrev pub is_segment : Asset → FrameValue → Bool

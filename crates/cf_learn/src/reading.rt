@@ -9,33 +9,28 @@ ghost use Rattle.cf_dnpobj.specs.Fragment.{fragment_value};
 ghost use Rattle.cf_dnptrans.specs.AssemblyValue.{AssemblyValue, IsAssemblyOf};
 ghost use Rattle.cf_dnptrans.specs.Transport.{answer_to};
 ghost use Rattle.cf_lane.specs.Acts.{GivesActs};
+ghost use Rattle.cf_lane.specs.Unit.{apdu_unit, frame_unit};
 ghost use Rattle.cf_modbus.specs.Adu.{adu_value};
 ghost use Rattle.cf_view.specs.Octets.{IsOctets};
 ghost use Rattle.cf_watch.specs.FlowValue.{flow_value};
 ghost use Rattle.cf_learn.specs.Assets.{AreSeen};
 ghost use Rattle.cf_learn.specs.Reading.{Adds, TakesFront, new_messages};
 ghost use Rattle.cf_learn.specs.Seen.{seen_of};
-ghost use Rattle.cf_learn.specs.Shown.{Asdu, Fragment, HasAct, HaveAct, IsShown, Request, apdu_unit, frame_unit, is_segment, message_in};
+ghost use Rattle.cf_learn.specs.Shown.{Asdu, Fragment, HasAct, HaveAct, IsShown, Request, is_segment, message_in};
 ghost use Rattle.cf_learn.specs.Shown.{segment_of};
 
 use crate::seen::Seen;
 use cf_apci::{Apdu, next_apdu};
 use cf_asdu::{act_at as asdu_act, act_count as asdu_acts, read_asdu};
-use cf_dnplink::{Frame, copy_user, next_frame, user_len};
-use cf_dnpobj::{act_at as fragment_act, act_count as fragment_acts, read_fragment};
+use cf_dnplink::{Frame, next_frame};
+use cf_dnpobj::{CONFIRM, act_at as fragment_act, act_count as fragment_acts, read_fragment};
 use cf_dnptrans::{Assembly, SegmentAnswer};
+use cf_lane::{is_data, stray_of, take_segment};
 use cf_modbus::{Adu, act_at, act_count, next_adu, read_request};
 use cf_policy::{Asset, Protocol};
-use cf_view::{Act, Framed, View};
+use cf_view::{Act, Framed, Side, View};
 use cf_watch::Flow;
 use std::alloc::{AllocError, Global};
-
-/// DIR of a link control octet: towards the asset. IEEE 1815-2012, section 9.2.4.1.
-const DIRECTION: u8 = 0x80;
-/// PRM of a link control octet.
-const PRIMARY: u8 = 0x40;
-/// The link function code of unconfirmed user data, where PRM is set.
-const DATA: u8 = 4;
 
 /// What the flows show of the asset at this place.
 pub(crate) fn seen_in(
@@ -189,28 +184,10 @@ fn push_frame(
 
 /// Whether a frame of a client carries data for the asset. IEEE 1815-2012, section 9.2.
 fn is_segment(asset: &Asset, frame: &Frame<'_>) -> bool
+    requires { IsFrame (frame_value frame.now) }
     ensures { result ≡ is_segment asset.now (frame_value frame.now) }
 {
-    frame.dest == asset.station
-        && frame.source == asset.master
-        && frame.control / DIRECTION % 2 == 1
-        && frame.control / PRIMARY % 2 == 1
-        && frame.control % 16 == DATA
-}
-
-/// Puts the user octets of a frame to the fragment.
-fn take_segment(assembly: &mut Assembly, frame: &Frame<'_>) -> SegmentAnswer
-    requires { IsFrame (frame_value frame.now) }
-    ensures answer { (earlier : List (List ℕ)) → IsAssemblyOf assembly.old earlier
-        → result ≡ answer_to earlier (user_of frame.now.blocks.bytes) }
-    ensures stands { (earlier : List (List ℕ)) → IsAssemblyOf assembly.old earlier
-        → IsAssemblyOf assembly.new (user_of frame.now.blocks.bytes ∷ earlier) }
-    ensures whole { result ≡ SegmentAnswer.Whole → assembly.new.whole ≡ true }
-{
-    let mut user = [0u8; 250];
-    let len = user_len(frame);
-    copy_user(frame, &mut user[..len]);
-    assembly.segment(View::one(&user[..len]))
+    stray_of(asset, Side::Client, frame).is_none() && is_data(frame)
 }
 
 /// Adds the acts of a fragment, if it is a command. A confirmation is none.
@@ -225,7 +202,7 @@ fn push_fragment(
 {
     match read_fragment(all(octets)) {
         Ok(fragment) => {
-            if fragment.code == 0 {
+            if fragment.code == CONFIRM {
                 return Ok(());
             }
             push_acts(

@@ -25,16 +25,20 @@ use cf_view::WriteFault;
 
 /// Emits a packet.
 #[tactic(auto, unfolding(crate::specs::Emitted::spelled))]
-pub(crate) fn send<D: Desk>(desk: &mut D, now: u64, packet: &Packet<'_>) -> Result<(), WriteFault>
+pub(crate) fn send<D: Desk>(
+    moment: u64,
+    packet: &Packet<'_>,
+    desk: &mut D,
+) -> Result<(), WriteFault>
     requires whole { DeskValue.whole (D.value desk.old) ≡ true }
-    requires moment { now < moment_limit }
+    requires moment { moment < moment_limit }
     requires writable { IsWritable (packet_value packet.now) }
-    ensures gets { GetsSegments (is_err result) now (packet_value packet.now ∷ []) (D.value desk.old) (D.value desk.new) }
+    ensures gets { GetsSegments (is_err result) moment (packet_value packet.now ∷ []) (D.value desk.old) (D.value desk.new) }
     ensures frame { OnlyEmits (D.value desk.old) (D.value desk.new) (is_err result) }
 {
     let mut octets = ArrayVec::new();
     write_packet(packet, &mut octets);
-    match desk.emit(now, octets.as_slice()) {
+    match desk.emit(moment, octets.as_slice()) {
         WriteAnswer::Done => Ok(()),
         WriteAnswer::Failed => Err(WriteFault),
     }
@@ -70,18 +74,18 @@ fn segment<'a>(way: Way, told: Advertised, number: u32, text: &'a [u8], end: boo
 /// Sends a segment without letters.
 pub(crate) fn send_empty<D: Desk>(
     way: Way,
+    moment: u64,
     told: Advertised,
     number: u32,
-    now: u64,
     desk: &mut D,
 ) -> Result<(), WriteFault>
     requires told { (told.base ≤ told.edge) × (told.edge - told.base < 65536) × (told.base ≤ 2 ^ 31) }
     requires whole { DeskValue.whole (D.value desk.old) ≡ true }
-    requires moment { now < moment_limit }
-    ensures gets { GetsSegments (is_err result) now (segment way told number no_letters ∷ []) (D.value desk.old) (D.value desk.new) }
+    requires moment { moment < moment_limit }
+    ensures gets { GetsSegments (is_err result) moment (segment way told number no_letters ∷ []) (D.value desk.old) (D.value desk.new) }
     ensures frame { OnlyEmits (D.value desk.old) (D.value desk.new) (is_err result) }
 {
-    send(desk, now, &segment(way, told, number, &[], false))
+    send(moment, &segment(way, told, number, &[], false), desk)
 }
 
 /// A place as a number.
@@ -103,10 +107,10 @@ fn place_of(piece: Piece) -> u64
 /// Sends the letters of a piece.
 pub(crate) fn send_piece<D: Desk>(
     way: Way,
+    moment: u64,
     told: Advertised,
-    queue: &Outq,
     piece: Piece,
-    now: u64,
+    queue: &Outq,
     desk: &mut D,
 ) -> Result<(), WriteFault>
     requires told { (told.base ≤ told.edge) × (told.edge - told.base < 65536) × (told.base ≤ 2 ^ 31) }
@@ -114,42 +118,42 @@ pub(crate) fn send_piece<D: Desk>(
     requires small { piece.len ≤ 1460 }
     requires place { place_or_zero piece.at ≤ 2 ^ 31 }
     requires whole { DeskValue.whole (D.value desk.old) ≡ true }
-    requires moment { now < moment_limit }
-    ensures sends { SendsPiece way told queue.now piece now (D.value desk.old) (D.value desk.new) (is_err result) }
+    requires moment { moment < moment_limit }
+    ensures sends { SendsPiece way told queue.now piece moment (D.value desk.old) (D.value desk.new) (is_err result) }
     ensures frame { OnlyEmits (D.value desk.old) (D.value desk.new) (is_err result) }
 {
     let mut buffer = [0; 1460];
     let text = &mut buffer[..piece.len];
     queue.copy(piece, text);
     let number = sequence_number(way.own, place_of(piece));
-    send(desk, now, &segment(way, told, number, text, piece.end))
+    send(moment, &segment(way, told, number, text, piece.end), desk)
 }
 
 /// Sends every letter that was not sent and that the peer lets in. Answers whether there was one.
 pub(crate) fn send_new<D: Desk>(
     way: Way,
+    moment: u64,
     told: Advertised,
     mss: usize,
     queue: &mut Outq,
-    now: u64,
     desk: &mut D,
 ) -> Result<bool, WriteFault>
     requires told { (told.base ≤ told.edge) × (told.edge - told.base < 65536) × (told.base ≤ 2 ^ 31) }
     requires mss { (0 < mss) × (mss ≤ 1460) }
     requires whole { DeskValue.whole (D.value desk.old) ≡ true }
-    requires moment { now < moment_limit }
+    requires moment { moment < moment_limit }
     ensures some { IfOk result (λ some. some ≡ nat_lt queue.old.sent (min queue.old.shown (queue_length queue.old))) }
-    ensures pieces { OnOk result (SendsNew way told mss queue.old now (D.value desk.old) (D.value desk.new) false) }
+    ensures pieces { OnOk result (SendsNew way told mss queue.old moment (D.value desk.old) (D.value desk.new) false) }
     ensures new { OnOk result (queue.new ≡ record queue.old { sent = max queue.old.sent (min queue.old.shown (queue_length queue.old)) }) }
     ensures stands { (whole : Stream) → IsQueueOf queue.old whole → IsQueueOf queue.new whole }
-    ensures broken { OnErr result (SendsNew way told mss queue.old now (D.value desk.old) (D.value desk.new) true) }
+    ensures broken { OnErr result (SendsNew way told mss queue.old moment (D.value desk.old) (D.value desk.new) true) }
     ensures frame { OnlyEmits (D.value desk.old) (D.value desk.new) (is_err result) }
 {
     let mut some = false;
     // The fact: the place of a piece is one of the queue's, which are at most 2^31.
     let _sent = queue.sent();
     while let Some(piece) = queue.next_piece(mss) {
-        send_piece(way, told, queue, piece, now, desk)?;
+        send_piece(way, moment, told, piece, queue, desk)?;
         some = true;
     }
     Ok(some)
@@ -157,22 +161,22 @@ pub(crate) fn send_new<D: Desk>(
 
 /// Sends a segment without letters, or nothing.
 fn acknowledge<D: Desk>(
-    is_due: bool,
     way: Way,
+    moment: u64,
     told: Advertised,
     number: u32,
-    now: u64,
+    is_due: bool,
     desk: &mut D,
 ) -> Result<(), WriteFault>
     requires told { (told.base ≤ told.edge) × (told.edge - told.base < 65536) × (told.base ≤ 2 ^ 31) }
     requires whole { DeskValue.whole (D.value desk.old) ≡ true }
-    requires moment { now < moment_limit }
-    ensures gets { GetsSegments (is_err result) now (if is_due then segment way told number no_letters ∷ [] else []) (D.value desk.old)
+    requires moment { moment < moment_limit }
+    ensures gets { GetsSegments (is_err result) moment (if is_due then segment way told number no_letters ∷ [] else []) (D.value desk.old)
         (D.value desk.new) }
     ensures frame { OnlyEmits (D.value desk.old) (D.value desk.new) (is_err result) }
 {
     if is_due {
-        send_empty(way, told, number, now, desk)
+        send_empty(way, moment, told, number, desk)
     } else {
         Ok(())
     }
@@ -204,26 +208,26 @@ pub(crate) fn next_number(own: u32, queue: &Outq) -> u32
 /// is due.
 pub(crate) fn say<D: Desk>(
     way: Way,
+    moment: u64,
     told: Advertised,
     mss: usize,
     is_due: bool,
     queue: &mut Outq,
-    now: u64,
     desk: &mut D,
 ) -> Result<(), WriteFault>
     requires told { (told.base ≤ told.edge) × (told.edge - told.base < 65536) × (told.base ≤ 2 ^ 31) }
     requires mss { (0 < mss) × (mss ≤ 1460) }
     requires whole { DeskValue.whole (D.value desk.old) ≡ true }
-    requires moment { now < moment_limit }
-    ensures says { OnOk result (SaysTo way told mss is_due queue.old now (D.value desk.old) (D.value desk.new) false) }
+    requires moment { moment < moment_limit }
+    ensures says { OnOk result (SaysTo way told mss is_due queue.old moment (D.value desk.old) (D.value desk.new) false) }
     ensures new { OnOk result (queue.new ≡ record queue.old { sent = max queue.old.sent (min queue.old.shown (queue_length queue.old)) }) }
     ensures stands { (whole : Stream) → IsQueueOf queue.old whole → IsQueueOf queue.new whole }
-    ensures broken { OnErr result (SaysTo way told mss is_due queue.old now (D.value desk.old) (D.value desk.new) true) }
+    ensures broken { OnErr result (SaysTo way told mss is_due queue.old moment (D.value desk.old) (D.value desk.new) true) }
     ensures frame { OnlyEmits (D.value desk.old) (D.value desk.new) (is_err result) }
 {
     let number = next_number(way.own, queue);
-    let some = send_new(way, told, mss, queue, now, desk)?;
+    let some = send_new(way, moment, told, mss, queue, desk)?;
     let is_empty = is_left(is_due, some);
-    acknowledge(is_empty, way, told, number, now, desk)?;
+    acknowledge(way, moment, told, number, is_empty, desk)?;
     Ok(())
 }

@@ -24,4 +24,4 @@ pub use pair::{GiveAnswer, MeetAnswer, Meeting, MomentAnswer, Pair, TakeAnswer, 
 pub use part::fill;
 pub use script::Fail;
 pub use sink::Sink;
-pub use whole::{WholeFault, append_all, read_whole};
+pub use whole::{WholeFault, append_all, read_whole, write_whole};

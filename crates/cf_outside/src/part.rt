@@ -8,12 +8,12 @@ use crate::files::{Files, ReadAnswer};
 /// Reads octets of a file from a place on into the buffer until so many stand there or the file ends, where some of the
 /// first stand there already. Answers how many stand there then, and `None` where a read failed. Changes no file.
 pub fn fill<F: Files>(
-    files: &mut F,
     name: &str,
     place: u64,
-    buffer: &mut [u8],
     before: usize,
     size: usize,
+    buffer: &mut [u8],
+    files: &mut F,
 ) -> Option<usize>
     requires inside { before ≤ size }
     requires some { 0 < size }

@@ -89,9 +89,9 @@ fn long_file(rt: &impl Abort, alloc: Global) -> MemoryFiles {
     let mut files = MemoryFiles::new(alloc);
     let bytes = vec![in alloc; 7u8; 150_000].expect(rt, "memory");
     let created = files.create("a") == WriteAnswer::Done;
-    let appended = append_all(&mut files, "a", bytes.as_slice()).is_ok();
+    let appended = append_all("a", bytes.as_slice(), &mut files).is_ok();
     assert!(rt; created && appended && files.calls == 4);
-    assert!(rt; append_all(&mut files, "b", bytes.as_slice()).is_err());
+    assert!(rt; append_all("b", bytes.as_slice(), &mut files).is_err());
     files
 }
 
@@ -104,7 +104,7 @@ b 1 = the file could not be read
 
 fn read_all(rt: &impl Abort, alloc: Global, files: &mut MemoryFiles, given: &str) -> String {
     let (name, limit) = parted(given);
-    let found = match read_whole(alloc, files, name, number(rt, limit)) {
+    let found = match read_whole(alloc, name, number(rt, limit), files) {
         Ok(bytes) => {
             assert!(rt; bytes.iter().all(|byte| *byte == 7));
             format!(in alloc; "{}", bytes.len())
@@ -146,7 +146,7 @@ fn filled(
     let place = number(rt, place);
     let wanted = size(rt, wanted);
     assert!(rt; place < 10 && 0 < wanted && wanted < 8);
-    let have = fill(files, name, place, buf, 0, wanted);
+    let have = fill(name, place, 0, wanted, buf, files);
     let stands = hex(rt, alloc, buf.as_slice());
     format!(in alloc; "{have:?} {stands}").expect(rt, "memory")
 }

@@ -1,3 +1,4 @@
+pub mod AtEndpoint
 pub mod Index
 pub mod Laws
 pub mod Names

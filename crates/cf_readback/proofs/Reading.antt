@@ -11,8 +11,8 @@ use Rattle.cf_view.specs.Moment.{moment_limit}
 use Rattle.cf_pcap.specs.declared.header.Header.{Header}
 use Rattle.cf_pcapng.specs.Block.{is_section}
 use Rattle.cf_policy.specs.declared.Asset.{Asset}
-use Rattle.cf_run.specs.Capture.{AreRecords, FileEnd, Fits, LastPlace, classic_at}
-use Rattle.cf_run.specs.Form.{form_of}
+use Rattle.cf_records.specs.Capture.{AreRecords, FileEnd, Fits, LastPlace, classic_at}
+use Rattle.cf_records.specs.Form.{form_of}
 use Rattle.cf_run.specs.OutputFile.{record_octets}
 use Rattle.cf_run.specs.Run.{IsRun, capture_of, inputs_of}
 use Rattle.cf_run.specs.Trace.{RunEvent, Input, sent}

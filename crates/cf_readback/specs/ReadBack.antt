@@ -7,12 +7,12 @@ use Rattle.cf_packet.specs.Written.{IsWritable}
 use Rattle.cf_pcap.specs.Header.{output_header}
 use Rattle.cf_view.specs.Moment.{moment_limit}
 use Rattle.cf_policy.specs.declared.Asset.{Asset}
-use Rattle.cf_run.specs.Capture.{AreRecords, FileEnd, LastPlace, Record}
-use Rattle.cf_run.specs.Form.{form_of}
+use Rattle.cf_records.specs.Capture.{AreRecords, FileEnd, LastPlace, Record}
+use Rattle.cf_records.specs.Form.{form_of}
 use Rattle.cf_run.specs.Run.{IsRun, capture_of}
 use Rattle.cf_run.specs.Trace.{AreRunEvents, RunEvent, Input, sent}
-use Rattle.cf_run.specs.declared.Form.{Form}
-use Rattle.cf_run.specs.declared.Form.TheVariants as form
+use Rattle.cf_records.specs.declared.Form.{Form}
+use Rattle.cf_records.specs.declared.Form.TheVariants as form
 use Rattle.cf_run.specs.declared.summary.Summary.{Summary}
 use Rattle.cf_session.specs.Sent.{Sent}
 use Rattle.cf_view.specs.Octets.{IsOctets}

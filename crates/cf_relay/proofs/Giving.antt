@@ -10,6 +10,7 @@ use Rattle.cf_view.specs.declared.Side.TheVariants as side
 use Rattle.cf_lane.specs.History.{is_side}
 use Rattle.cf_links.specs.Links.{LinksEntry, SessionTold, with_answers, with_entry}
 use Rattle.cf_relay.proofs.Lined.{more_both, more_none}
+use Rattle.cf_relay.specs.declared.limit.TheConstants.{MOST_BYTES}
 use Rattle.cf_relay.specs.Answers.{given, given_in, idles_after}
 use Rattle.cf_relay.specs.Turn.{HasBytes, IsGivePiece, TookPieces}
 
@@ -63,7 +64,7 @@ take_within (suc k) zero xs h = absurd (omega (arith, h))
 take_within (suc k) (suc n) [] h = refl
 take_within (suc k) (suc n) (x ∷ xs) h = ap (λ ys. x ∷ ys) (take_within k n xs (omega (arith, h)))
 
-pub took_step : (s : Side) (queued rest rest' front : List ℕ) (pieces : List (List ℕ)) (n k : ℕ) → TookPieces s queued pieces rest → front ≡ take n rest → n ≤ 4096 → 1 ≤ k → k ≤ length front → rest' ≡ drop k rest →
+pub took_step : (s : Side) (queued rest rest' front : List ℕ) (pieces : List (List ℕ)) (n k : ℕ) → TookPieces s queued pieces rest → front ≡ take n rest → n ≤ MOST_BYTES → 1 ≤ k → k ≤ length front → rest' ≡ drop k rest →
     TookPieces s queued (pieces ++ take k front ∷ []) rest'
 took_step s queued rest rest' front pieces n k took e most some inside left =
     let within : k ≤ length (take n rest) = subst (λ (xs : List ℕ). k ≤ length xs) e inside in

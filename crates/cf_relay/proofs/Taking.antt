@@ -17,6 +17,7 @@ use Rattle.cf_view.specs.declared.Side.{Side}
 use Rattle.cf_view.specs.declared.Side.TheVariants as side
 use Rattle.cf_relay.proofs.Lined.{lines_none}
 use Rattle.cf_relay.proofs.Lists.{own_bytes, own_end}
+use Rattle.cf_relay.specs.declared.limit.TheConstants.{MOST_BYTES}
 use Rattle.cf_relay.specs.Answers.{element_of}
 use Rattle.cf_relay.specs.Taken.{AnswersTo, MayTakeNow, TakeState, TakesAnswer, TakesBy, take_state}
 use Rattle.cf_relay.specs.declared.stop.Stop.{Stop}
@@ -69,7 +70,7 @@ module _ (asset : Asset) (moment most : ℕ) (s : Side) (rest : List ℕ) (lette
 
 module _ (moment : ℕ) (s : Side) (told told' : SessionTold) (idle letters letters' : ℕ) where
   -- the bytes that a call left at the front of the buffer
-  pub got_answers : (n : ℕ) (buf : List ℕ) → 1 ≤ n → n ≤ length buf → length buf ≡ 4096 → told' ≡ with_entry told (Got s (take n buf)) → letters' ≡ letters + length (take n buf) →
+  pub got_answers : (n : ℕ) (buf : List ℕ) → 1 ≤ n → n ≤ length buf → length buf ≡ MOST_BYTES → told' ≡ with_entry told (Got s (take n buf)) → letters' ≡ letters + length (take n buf) →
       AnswersTo moment s (Got s (take n buf)) told told' idle 0 letters letters'
   got_answers n buf some inside size tells more = record {
     is_taken = (refl, omega (arith, some, length-take-le n buf inside), omega (arith, inside, size, length-take-le n buf inside));

@@ -20,6 +20,7 @@ use Rattle.std.specs.List.{AllByRecursion, concat}
 use Rattle.std.specs.Option.{option_or}
 use Rattle.std.specs.Prelude.{List, None, Option, [], drop, false, length, map, suc, true, zero, ℕ, ◌++◌, ◌<◌, ◌∷◌, ◌≡◌, ◌≤◌, ◌⊎◌}
 use Rattle.cf_view.specs.declared.Side.TheVariants as side
+use Rattle.cf_relay.specs.declared.limit.TheConstants.{MOST_BYTES}
 use Rattle.cf_relay.specs.Answers.{are_finished, client_of, given, history_of, idle_run, is_finished}
 
 -- the judged items of the history that the list has
@@ -49,11 +50,11 @@ pub record MayTake (asset : Asset) (s : Side) (es : List Entry) (js : List Judge
   pub client : letter_count (queue_of asset side.Client es js) ≤ window_size
   pub controller : letter_count (queue_of asset side.Controller es js) ≤ window_size
 
--- an answer to that: one to 4,096 bytes, End, or Idle
+-- an answer to that: one byte to `MOST_BYTES`, End, or Idle
 abbrev pub IsTakeAnswer : Side → Entry → Type 0
 IsTakeAnswer s (Met meeting) = ⊥
 IsTakeAnswer s (Moment moment) = ⊥
-IsTakeAnswer s (Got of bytes) = (of ≡ s) × (1 ≤ length bytes) × (length bytes ≤ 4096)
+IsTakeAnswer s (Got of bytes) = (of ≡ s) × (1 ≤ length bytes) × (length bytes ≤ MOST_BYTES)
 IsTakeAnswer s (Took of bytes) = ⊥
 IsTakeAnswer s (Ended of) = of ≡ s
 IsTakeAnswer s (Idle of) = of ≡ s
@@ -64,9 +65,9 @@ abbrev pub HasBytes : List ℕ → Type 0
 HasBytes [] = ⊥
 HasBytes (x ∷ xs) = Unit {0}
 
--- what a side took in one give, which is handed at most 4,096 of the oldest bytes that wait
+-- what a side took in one give, which is handed at most `MOST_BYTES` of the oldest bytes that wait
 abbrev pub IsGivePiece : List ℕ → Type 0
-IsGivePiece bytes = (1 ≤ length bytes) × (length bytes ≤ 4096)
+IsGivePiece bytes = (1 ≤ length bytes) × (length bytes ≤ MOST_BYTES)
 
 -- a side took pieces from the front of its queue
 pub record TookPieces (s : Side) (queued : List ℕ) (pieces : List (List ℕ)) (rest : List ℕ) : Type 0 where

@@ -5,6 +5,7 @@ ghost use Rattle.cf_links.specs.Links.{LinksPlace};
 ghost use Rattle.cf_outq.specs.SendQueue.{IsQueueOf};
 ghost use Rattle.cf_outside.specs.Pair.{FaultsBy};
 ghost use Rattle.cf_stream.specs.Stream.{Stream};
+ghost use Rattle.cf_relay.specs.declared.limit.TheConstants.{MOST_BYTES};
 ghost use Rattle.cf_relay.specs.Gave.{GaveBy, FinishesBy};
 ghost use Rattle.cf_relay.specs.Scene.{RoseBy};
 
@@ -28,14 +29,14 @@ pub(crate) fn give_to<L: Links>(
 ) -> Result<(), Stop>
     requires serves { LinksPlace.serves (L.place links.old) session ≡ true }
     requires few { idle.old < most }
-    requires buffer { length buf.old ≡ 4096 }
+    requires buffer { length buf.old ≡ MOST_BYTES }
     ensures place { L.place links.new ≡ L.place links.old }
     ensures gave { GaveBy side most queue.old queue.new (told_of L.Links session links.old) (told_of L.Links session links.new)
         idle.old idle.new result }
     ensures stands { (whole : Stream) → IsQueueOf queue.old whole → IsQueueOf queue.new whole }
     ensures cause { FaultsBy (L.faults links.old) (L.faults links.new) (result ≡ Err Stop.Link) }
     ensures idles { (start : ℕ) → RoseBy idle.old start (L.idles links.old) → RoseBy idle.new start (L.idles links.new) }
-    ensures buffer { length buf.new ≡ 4096 }
+    ensures buffer { length buf.new ≡ MOST_BYTES }
 {
     'gives: loop {
         let n = front(queue, buf);

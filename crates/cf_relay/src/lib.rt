@@ -4,6 +4,7 @@
 
 mod done;
 mod give;
+mod limit;
 mod only;
 mod relaying;
 mod sides;
@@ -13,6 +14,7 @@ mod top;
 mod turns;
 
 pub use done::{RelayDone, RelayEnd, RelayFault};
+pub use limit::MOST_BYTES;
 pub use relaying::Relaying;
 pub use stop::Stop;
 pub use top::relay;

@@ -2,6 +2,7 @@
 ghost use Rattle.std.specs.Prelude.{◌≡◌, ℕ, ◌<◌, ◌==◌, Some, true, IfErr, OnOk, length};
 ghost use Rattle.cf_outside.specs.Desk.{DeskValue};
 ghost use Rattle.cf_policy.specs.Within.{IsAssetWithin};
+ghost use Rattle.cf_relay.specs.declared.limit.TheConstants.{MOST_BYTES};
 ghost use Rattle.cf_relay.specs.Only.{only_links, only_told};
 ghost use Rattle.cf_relay.specs.Relaying.{AreClosed, IsSound, relaying_value};
 ghost use Rattle.cf_relay.specs.Scene.{DoesBetween, StopsBetween, scene};
@@ -69,7 +70,7 @@ impl Relaying {
         requires sound { IsSound asset.now most (relaying_value self.old) }
         requires still { AreClosed (relaying_value self.old) → ⊥ }
         requires whole { DeskValue.whole (D.value desk.old) ≡ true }
-        requires buffer { length buf.old ≡ 4096 }
+        requires buffer { length buf.old ≡ MOST_BYTES }
         ensures goes { OnOk result ((n : ℕ) × DoesBetween asset.now most (turns n)
             (scene (relaying_value self.old) (only_links P.Pair pair.old) (D.value desk.old))
             (scene (relaying_value self.new) (only_links P.Pair pair.new) (D.value desk.new))) }

@@ -7,6 +7,7 @@ ghost use Rattle.cf_outside.specs.Desk.{DeskValue};
 ghost use Rattle.cf_outside.specs.Pair.{Moment, met_at};
 ghost use Rattle.cf_policy.specs.Within.{IsAssetWithin};
 ghost use Rattle.cf_policy.specs.declared.Asset.{Asset as AssetOf};
+ghost use Rattle.cf_relay.specs.declared.limit.TheConstants.{MOST_BYTES};
 ghost use Rattle.cf_relay.specs.Relaying.{AreClosed, AsksOrRests, IsShort, IsSound, ServesOrRests, Unmoved, begun_value, relaying_value};
 ghost use Rattle.cf_relay.specs.Scene.{DoesBetween, StopsBetween, scene, scene_of};
 ghost use Rattle.cf_relay.specs.Stands.{IsNewLane, StandsFor};
@@ -45,7 +46,7 @@ pub struct Relaying {
 impl Relaying {
     /// A relay that has met its client and was told its first moment, in microseconds, with a new lane and two new queues.
     /// Nothing of either side was taken yet, and the line of its beginning is the caller's to write.
-    pub fn begun(lane: Lane, to_client: Outq, to_controller: Outq, moment: u64) -> Relaying
+    pub fn begun(moment: u64, lane: Lane, to_client: Outq, to_controller: Outq) -> Relaying
         requires to_client { to_client ≡ empty }
         requires to_controller { to_controller ≡ empty }
         ensures value { relaying_value result ≡ begun_value lane moment }
@@ -104,8 +105,8 @@ impl Relaying {
     /// Asks a side for bytes, where it has not ended and both queues are small, and hands the lane what comes.
     pub(crate) fn take<L: Links, D: Desk>(
         &mut self,
-        side: Side,
         asset: &Asset,
+        side: Side,
         most: u64,
         buf: &mut [u8],
         session: u64,
@@ -116,7 +117,7 @@ impl Relaying {
         requires within { IsAssetWithin asset.now }
         requires sound { IsSound asset.now most (relaying_value self.old) }
         requires whole { DeskValue.whole (D.value desk.old) ≡ true }
-        requires buffer { length buf.old ≡ 4096 }
+        requires buffer { length buf.old ≡ MOST_BYTES }
         ensures place { L.place links.new ≡ L.place links.old }
         ensures goes { OnOk result (DoesBetween asset.now most (Taking side ∷ [])
             (scene_of L.Links session D.Desk self.old links.old desk.old)
@@ -127,13 +128,13 @@ impl Relaying {
         ensures sound { OnOk result (IsSound asset.now most (relaying_value self.new)) }
         ensures moves { OnOk result (AsksOrRests side most (relaying_value self.old) (relaying_value self.new)) }
         ensures whole { StaysWhole result (D.value desk.new) }
-        ensures buffer { length buf.new ≡ 4096 }
+        ensures buffer { length buf.new ≡ MOST_BYTES }
     {
         streams_go_on();
         take_from(
-            side,
             asset,
             self.moment,
+            side,
             &mut self.lane,
             self.from.of_mut(side),
             &mut self.to.client,
@@ -180,7 +181,7 @@ impl Relaying {
     ) -> Result<(), Stop>
         requires serves { LinksPlace.serves (L.place links.old) session ≡ true }
         requires few { self.old.idle < most }
-        requires buffer { length buf.old ≡ 4096 }
+        requires buffer { length buf.old ≡ MOST_BYTES }
         ensures place { L.place links.new ≡ L.place links.old }
         ensures goes { OnOk result ((asset : AssetOf) (desk : DeskValue) → DoesBetween asset most
             (Giving side ∷ Finishing side ∷ [])
@@ -193,7 +194,7 @@ impl Relaying {
         ensures sound { OnOk result ((asset : AssetOf) → IsSound asset most (relaying_value self.old) → IsSound asset most
             (relaying_value self.new)) }
         ensures moves { OnOk result (ServesOrRests side most (relaying_value self.old) (relaying_value self.new)) }
-        ensures buffer { length buf.new ≡ 4096 }
+        ensures buffer { length buf.new ≡ MOST_BYTES }
     {
         let queue = self.to.of_mut(side);
         give_to(side, queue, &mut self.idle, most, buf, session, links)?;

@@ -8,6 +8,7 @@ ghost use Rattle.cf_outside.specs.Faults.{HasCause};
 ghost use Rattle.cf_outside.specs.Pair.{FaultsBy};
 ghost use Rattle.cf_policy.specs.Within.{IsAssetWithin};
 ghost use Rattle.cf_lane.specs.Handled.{IsLaneOf, WritesLog, debt, debt_limit, rest_limit, state};
+ghost use Rattle.cf_relay.specs.declared.limit.TheConstants.{MOST_BYTES};
 ghost use Rattle.cf_relay.specs.Scene.{RoseBy};
 ghost use Rattle.cf_relay.specs.Taken.{MayTakeNow, StaysWhole, TakesBy, take_state};
 
@@ -33,9 +34,9 @@ fn may_take(side: Side, to_client: &Outq, to_controller: &Outq) -> bool
 
 /// Asks a side once for bytes, where it has not ended and both queues are small, and hands the lane what comes.
 pub(crate) fn take_from<L: Links, D: Desk>(
-    side: Side,
     asset: &Asset,
     moment: u64,
+    side: Side,
     lane: &mut Lane,
     heard: &mut Heard,
     to_client: &mut Outq,
@@ -58,7 +59,7 @@ pub(crate) fn take_from<L: Links, D: Desk>(
     requires counts { lane.old.admitted + lane.old.refused < 2 ^ 40 }
     requires letters { heard.old.letters < 2 ^ 30 }
     requires few { idle.old < most }
-    requires buffer { length buf.old ≡ 4096 }
+    requires buffer { length buf.old ≡ MOST_BYTES }
     ensures place { L.place links.new ≡ L.place links.old }
     ensures takes { TakesBy asset.now moment most side
         (take_state (state lane.old to_client.old to_controller.old
@@ -72,7 +73,7 @@ pub(crate) fn take_from<L: Links, D: Desk>(
         (result ≡ Err Stop.Write) }
     ensures link { FaultsBy (L.faults links.old) (L.faults links.new) (result ≡ Err Stop.Link) }
     ensures idles { (start : ℕ) → RoseBy idle.old start (L.idles links.old) → RoseBy idle.new start (L.idles links.new) }
-    ensures buffer { length buf.new ≡ 4096 }
+    ensures buffer { length buf.new ≡ MOST_BYTES }
 {
     if !may_take(side, to_client, to_controller) {
         return Ok(());

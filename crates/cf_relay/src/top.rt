@@ -18,6 +18,7 @@ ghost use Rattle.cf_relay.specs.Stands.{StandsFor};
 ghost use Rattle.cf_relay.specs.Taken.{StaysWhole};
 
 use crate::done::{RelayDone, RelayEnd, RelayFault};
+use crate::limit::MOST_BYTES;
 use crate::relaying::Relaying;
 use crate::stop::Stop;
 use cf_audit::What;
@@ -165,7 +166,7 @@ fn relay_desk<P: Pair, D: Desk>(
         Ok(()) => {}
         Err(_fault) => return Err(RelayFault::Write),
     }
-    let relaying = Relaying::begun(lane, to_client, to_controller, moment);
+    let relaying = Relaying::begun(moment, lane, to_client, to_controller);
     relay_turns(relaying, asset, client, most, pair, desk)
 }
 
@@ -199,7 +200,7 @@ fn relay_turns<P: Pair, D: Desk>(
         (result ≡ Err RelayFault.Write) }
     ensures log { WritesLog (D.value desk.old) (D.value desk.new) }
 {
-    let mut buf = [0u8; 4096];
+    let mut buf = [0u8; MOST_BYTES];
     match relaying.run_pair(asset, most, &mut buf, pair, desk) {
         Ok(()) => relaying.close(asset, client, desk),
         Err(stop) => relaying.stopped(asset, client, stop, desk),

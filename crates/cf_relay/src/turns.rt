@@ -3,6 +3,7 @@ ghost use Rattle.std.specs.Prelude.{◌≡◌, ℕ, ◌<◌, ◌⊎◌, true, �
 ghost use Rattle.cf_links.specs.Links.{LinksPlace};
 ghost use Rattle.cf_outside.specs.Desk.{DeskValue};
 ghost use Rattle.cf_policy.specs.Within.{IsAssetWithin};
+ghost use Rattle.cf_relay.specs.declared.limit.TheConstants.{MOST_BYTES};
 ghost use Rattle.cf_relay.specs.Relaying.{AreClosed, IsSound, RelayingValue, progress, relaying_value};
 ghost use Rattle.cf_lane.specs.Handled.{LaneValue};
 ghost use Rattle.cf_relay.specs.Scene.{DoesBetween, StopsBetween, scene_of};
@@ -32,7 +33,7 @@ impl Relaying {
         requires sound { IsSound asset.now most (relaying_value self.old) }
         requires still { AreClosed (relaying_value self.old) → ⊥ }
         requires whole { DeskValue.whole (D.value desk.old) ≡ true }
-        requires buffer { length buf.old ≡ 4096 }
+        requires buffer { length buf.old ≡ MOST_BYTES }
         ensures place { L.place links.new ≡ L.place links.old }
         ensures goes { OnOk result ((n : ℕ) × DoesBetween asset.now most (turns n)
             (scene_of L.Links session D.Desk self.old links.old desk.old)
@@ -80,10 +81,10 @@ impl Relaying {
         self.lane.refused()
     }
 
-    /// One turn of a session: the moment; what the client and then the controller sends, at most 4,096 bytes each; what is
+    /// One turn of a session: the moment; what the client and then the controller sends, at most `MOST_BYTES` each; what is
     /// queued for the controller and then for the client, until a queue is empty or its side answers `Idle`. The lines of items
     /// go to the desk, with the greatest moment told so far, in microseconds. As many answers `Idle` as `most`, with none
-    /// between them that moves a letter, stop it. The buffer has 4,096 bytes, and what stands in it does not matter. After an
+    /// between them that moves a letter, stop it. The buffer has `MOST_BYTES` bytes, and what stands in it does not matter. After an
     /// error no further turn is made, and the last line, such as that of a cut, is the caller's to write.
     pub fn turn<L: Links, D: Desk>(
         &mut self,
@@ -99,7 +100,7 @@ impl Relaying {
         requires sound { IsSound asset.now most (relaying_value self.old) }
         requires still { AreClosed (relaying_value self.old) → ⊥ }
         requires whole { DeskValue.whole (D.value desk.old) ≡ true }
-        requires buffer { length buf.old ≡ 4096 }
+        requires buffer { length buf.old ≡ MOST_BYTES }
         ensures place { L.place links.new ≡ L.place links.old }
         ensures goes { OnOk result (DoesBetween asset.now most turn
             (scene_of L.Links session D.Desk self.old links.old desk.old)
@@ -111,11 +112,11 @@ impl Relaying {
         ensures moves { OnOk result ((progress most (relaying_value self.old) < progress most (relaying_value self.new))
             ⊎ AreClosed (relaying_value self.new)) }
         ensures whole { StaysWhole result (D.value desk.new) }
-        ensures buffer { length buf.new ≡ 4096 }
+        ensures buffer { length buf.new ≡ MOST_BYTES }
     {
         self.tell(session, links)?;
-        self.take(Side::Client, asset, most, buf, session, links, desk)?;
-        self.take(Side::Controller, asset, most, buf, session, links, desk)?;
+        self.take(asset, Side::Client, most, buf, session, links, desk)?;
+        self.take(asset, Side::Controller, most, buf, session, links, desk)?;
         self.serve(Side::Controller, most, buf, session, links)?;
         self.serve(Side::Client, most, buf, session, links)
     }

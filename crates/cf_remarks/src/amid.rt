@@ -6,7 +6,7 @@ use crate::way::is_opening;
 use cf_outside::Files;
 use cf_packet::read_packet;
 use cf_policy::Asset;
-use cf_run::{NextRecord, RecordReader};
+use cf_records::{NextRecord, RecordReader};
 use cf_view::{LinkKind, NoMemory, Side};
 use std::alloc::Global;
 use std::collections::BTreeMap;
@@ -19,12 +19,12 @@ pub(crate) fn amid_in<F: Files>(
     capture: &str,
     files: &mut F,
 ) -> Option<u64> {
-    let mut reader = RecordReader::open(alloc, files, capture).ok()?;
+    let mut reader = RecordReader::open(alloc, capture, files).ok()?;
     let mut begun = Begun {
         pairs: BTreeMap::new(alloc),
         amid: 0,
     };
-    if begun.take_all(assets, &mut reader, files, capture) {
+    if begun.take_all(assets, &mut reader, capture, files) {
         Some(begun.amid)
     } else {
         None
@@ -44,13 +44,13 @@ impl Begun {
         &mut self,
         assets: &[Asset],
         reader: &mut RecordReader,
-        files: &mut F,
         capture: &str,
+        files: &mut F,
     ) -> bool
         requires near { reader.old.place ≤ 2 ^ 40 }
     {
         'records: loop {
-            match reader.next(files, capture) {
+            match reader.next(capture, files) {
                 NextRecord::Whole(_) => {
                     if self.take(assets, &reader.link(), reader.body()).is_err() {
                         return false;

@@ -41,11 +41,11 @@ impl Closes {
 
 /// How many sessions of a run neither closed nor were cut, by what was counted and its LOG. Nothing where LOG cannot be read.
 /// Changes no file.
-pub fn left_open<F: Files>(files: &mut F, log: &str, summary: &Summary) -> Option<u64>
+pub fn left_open<F: Files>(log: &str, summary: &Summary, files: &mut F) -> Option<u64>
     ensures same { F.content files.new ≡ F.content files.old }
     ensures writes { F.write_faults files.new ≡ F.write_faults files.old }
 {
-    let closed = closes_in(files, log)?;
+    let closed = closes_in(log, files)?;
     Some(
         summary
             .sessions
@@ -55,7 +55,7 @@ pub fn left_open<F: Files>(files: &mut F, log: &str, summary: &Summary) -> Optio
 }
 
 /// How many lines of a log say that a session closed.
-fn closes_in<F: Files>(files: &mut F, log: &str) -> Option<u64>
+fn closes_in<F: Files>(log: &str, files: &mut F) -> Option<u64>
     ensures same { F.content files.new ≡ F.content files.old }
     ensures writes { F.write_faults files.new ≡ F.write_faults files.old }
 {

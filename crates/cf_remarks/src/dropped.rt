@@ -4,7 +4,7 @@ ghost use Rattle.std.specs.Prelude.{◌≡◌, ◌≤◌, ◌^◌};
 use crate::reason::{REASONS, reason_of};
 use cf_outside::Files;
 use cf_packet::{PacketRefusal, read_packet};
-use cf_run::{NextRecord, RecordReader};
+use cf_records::{NextRecord, RecordReader};
 use cf_view::LinkKind;
 use cf_watch::untagged;
 use std::alloc::Global;
@@ -43,16 +43,16 @@ pub enum Frames {
 /// after it are not read; nor where the capture is refused or cut, or cannot be read. Changes no file.
 pub fn dropped_alone<F: Files>(
     alloc: Global,
-    files: &mut F,
     capture: &str,
     frames: Frames,
+    files: &mut F,
 ) -> Option<Dropped>
     ensures same { F.content files.new ≡ F.content files.old }
     ensures writes { F.write_faults files.new ≡ F.write_faults files.old }
 {
-    let mut reader = RecordReader::open(alloc, files, capture).ok()?;
+    let mut reader = RecordReader::open(alloc, capture, files).ok()?;
     let mut dropped = Dropped::new();
-    if !drops_all(&mut reader, files, capture, frames, &mut dropped) || dropped.records == 0 {
+    if !drops_all(&mut reader, capture, frames, &mut dropped, files) || dropped.records == 0 {
         return None;
     }
     Some(dropped)
@@ -69,17 +69,17 @@ fn octets_of<'a>(frames: Frames, link: &LinkKind, body: &'a [u8]) -> &'a [u8] {
 /// Counts the records from the reader's place on, and says whether all of them are dropped.
 fn drops_all<F: Files>(
     reader: &mut RecordReader,
-    files: &mut F,
     capture: &str,
     frames: Frames,
     dropped: &mut Dropped,
+    files: &mut F,
 ) -> bool
     requires near { reader.old.place ≤ 2 ^ 40 }
     ensures same { F.content files.new ≡ F.content files.old }
     ensures writes { F.write_faults files.new ≡ F.write_faults files.old }
 {
     'records: loop {
-        match reader.next(files, capture) {
+        match reader.next(capture, files) {
             NextRecord::Whole(_) => {
                 let link = reader.link();
                 let octets = octets_of(frames, &link, reader.body());

@@ -7,7 +7,8 @@ use crate::way::{Misfit, is_opening};
 use cf_outside::Files;
 use cf_packet::read_packet;
 use cf_policy::Asset;
-use cf_run::{NextRecord, RecordReader, RunNames};
+use cf_records::{NextRecord, RecordReader};
+use cf_run::RunNames;
 use cf_view::{LinkKind, NoMemory};
 use std::alloc::Global;
 use std::collections::BTreeMap;
@@ -55,8 +56,8 @@ pub fn look_again<F: Files, G: Files>(
     ensures writes { F.write_faults files.new ≡ F.write_faults files.old }
     ensures writes_others { G.write_faults others.new ≡ G.write_faults others.old }
 {
-    let mut captured = RecordReader::open(alloc, files, names.capture).ok()?;
-    let mut sent = RecordReader::open(alloc, others, names.out).ok()?;
+    let mut captured = RecordReader::open(alloc, names.capture, files).ok()?;
+    let mut sent = RecordReader::open(alloc, names.out, others).ok()?;
     let mut seen = Seen::new(alloc);
     if see_all(
         &mut seen,
@@ -90,14 +91,14 @@ fn see_all<F: Files, G: Files>(
     ensures writes { F.write_faults files.new ≡ F.write_faults files.old }
     ensures writes_others { G.write_faults others.new ≡ G.write_faults others.old }
 {
-    let mut next = sent.next(others, names.out);
+    let mut next = sent.next(names.out, others);
     let mut least = 2u64;
     'records: loop {
-        match captured.next(files, names.capture) {
+        match captured.next(names.capture, files) {
             NextRecord::Whole(stamp) => {
                 let moment = stamp.max(least);
                 least = moment.saturating_add(2);
-                match see_sent(seen, assets, names.out, sent, others, next, moment) {
+                match see_sent(seen, assets, names.out, moment, sent, next, others) {
                     Some(behind) => next = behind,
                     None => return false,
                 }
@@ -120,10 +121,10 @@ fn see_sent<F: Files>(
     seen: &mut Seen,
     assets: &[Asset],
     name: &str,
-    sent: &mut RecordReader,
-    files: &mut F,
-    first: NextRecord,
     moment: u64,
+    sent: &mut RecordReader,
+    first: NextRecord,
+    files: &mut F,
 ) -> Option<NextRecord>
     requires near { sent.old.place ≤ 2 ^ 40 }
     ensures near { sent.new.place ≤ 2 ^ 40 }
@@ -138,7 +139,7 @@ fn see_sent<F: Files>(
             return Some(NextRecord::Whole(stamp));
         }
         seen.take_sent(assets, &sent.link(), sent.body()).ok()?;
-        match sent.next(files, name) {
+        match sent.next(name, files) {
             NextRecord::Whole(next) => stamp = next,
             found => return behind(found),
         }

@@ -3,7 +3,7 @@ use Rattle.std.proofs.Common.{option_and_then, pos, ◌≡◌, ◌+◌, ◌-◌,
 use Rattle.std.specs.Option.{option_or}
 use Rattle.std.specs.List.{AllByRecursion, filter}
 use Rattle.std.specs.List.Sorted.{IsNonDecreasingBy}
-use Rattle.std.proofs.lemmas.Bool.{cases_lt, le-ltb, lt-ltb}
+use Rattle.std.proofs.lemmas.Bool.{cases_lt, cond-false, cond-true, le-ltb, lt-ltb}
 use Rattle.std.proofs.lemmas.Bool.Decides.{nat_tests}
 use Rattle.std.proofs.lemmas.List.{get_or-drop, length-drop}
 use Rattle.std.proofs.lemmas.List.Sorted.{IsNonDecreasingBy-drop}
@@ -16,6 +16,7 @@ use Rattle.cf_watch.specs.declared.flow.Conflict.{Conflict as Conflict_}
 use Rattle.cf_judge.specs.Objections.{AreReadBy, IsReadBy, Reading, earlier, first_wrong, objected, objection_of, objection_to, sooner, wrong_by, wrong_by_fate}
 use Rattle.cf_judge.specs.Plain.{AreRead, Breaks, Ending, Whole}
 use Rattle.cf_judge.specs.declared.Objection.{Objection}
+use Rattle.cf_review.proofs.Alls.{all_append}
 use Rattle.cf_review.specs.First.{BeginsWithSyn, IsRising, JudgeTellsTheFirst, first_of, objection_about, objection_by}
 use Rattle.cf_judge.specs.declared.Complaint.{Complaint}
 use Rattle.cf_judge.specs.declared.Complaint.TheVariants as complaint
@@ -39,10 +40,6 @@ told_as r = objection_about r (complaint_or r.what)
 abbrev IsObjection : RemarkValue → Type 0
 IsObjection r = objection_by r ≡ Some (told_as r)
 
-all_append : (xs ys : List RemarkValue) → AllByRecursion IsObjection xs → AllByRecursion IsObjection ys → AllByRecursion IsObjection (xs ++ ys)
-all_append [] ys a b = b
-all_append (x ∷ xs) ys a b = (a.0, all_append xs ys a.1 b)
-
 -- ---- the earliest of objections
 
 abbrev least : List RemarkValue → Option Objection
@@ -59,26 +56,11 @@ first_stays a b h = rw (le-ltb b.at_record a.at_record h) refl
 later_wins : (a b : Objection) → b.at_record < a.at_record → earlier (Some a) (Some b) ≡ Some b
 later_wins a b h = rw (lt-ltb b.at_record a.at_record h) refl
 
-earlier_twice : (a b c : Objection) → earlier (earlier (Some a) (Some b)) (Some c) ≡ earlier (Some a) (earlier (Some b) (Some c))
-earlier_twice a b c =
-    elim (cases_lt b.at_record a.at_record) [
-      | inl ba ↦ elim (cases_lt c.at_record b.at_record) [
-        | inl cb ↦
-            ap (λ o. earlier o (Some c)) (later_wins a b ba) ∙ later_wins b c cb ∙ sym (ap (earlier (Some a)) (later_wins b c cb) ∙ later_wins a c (omega (arith, ba, cb)))
-        | inr bc ↦ ap (λ o. earlier o (Some c)) (later_wins a b ba) ∙ first_stays b c bc ∙ sym (ap (earlier (Some a)) (first_stays b c bc) ∙ later_wins a b ba)
-      ]
-      | inr ab ↦ elim (cases_lt c.at_record b.at_record) [
-        | inl cb ↦ ap (λ o. earlier o (Some c)) (first_stays a b ab) ∙ sym (ap (earlier (Some a)) (later_wins b c cb))
-        | inr bc ↦
-            ap (λ o. earlier o (Some c)) (first_stays a b ab) ∙ first_stays a c (omega (arith, ab, bc)) ∙ sym (ap (earlier (Some a)) (first_stays b c bc) ∙ first_stays a b ab)
-      ]
-    ]
-
 earlier_assoc : (x y z : Option Objection) → earlier (earlier x y) z ≡ earlier x (earlier y z)
 earlier_assoc None y z = refl
 earlier_assoc (Some a) None z = refl
 earlier_assoc (Some a) (Some b) None = earlier_none (earlier (Some a) (Some b))
-earlier_assoc (Some a) (Some b) (Some c) = earlier_twice a b c
+earlier_assoc (Some a) (Some b) (Some c) = grind (arith, nat_tests)
 
 least_append : (xs ys : List RemarkValue) → least (xs ++ ys) ≡ earlier (least xs) (least ys)
 least_append [] ys = refl
@@ -112,10 +94,7 @@ module _ (asset : Asset) (f : FlowValue) where
       IsFirst low (option_map (objected f) (option_or (wrong_by_fate number fate_) j_first)) (map (remark_on f number) (matters octets fate_) ++ rest)
   by_fate low number octets (fate.Refused refusal) later rest h is = before low (remark_on f number (Refused refusal (take SHOWN octets))) (option_map (objected f) later) rest h is
   by_fate low number octets (fate.Stray because) later rest h is = before low (remark_on f number (Stray because)) (option_map (objected f) later) rest h is
-  by_fate low number octets fate.Carried later rest h is = lower low number (option_map (objected f) later) rest h is
-  by_fate low number octets (fate.Admitted used) later rest h is = lower low number (option_map (objected f) later) rest h is
-  by_fate low number octets fate.Lengthens later rest h is = lower low number (option_map (objected f) later) rest h is
-  by_fate low number octets (fate.Cuts because) later rest h is = lower low number (option_map (objected f) later) rest h is
+  by_fate low number octets fate_ later rest h is = lower low number (option_map (objected f) later) rest h is
 
   units_first : (low : ℕ) (earlier_ : List Judged) (bytes born : List ℕ) (js : List Judged) (ending : Ending) → length born ≡ length bytes → IsNonDecreasingBy (λ n. n) born → IsFrom low born →
       AreRead asset f.client.address earlier_ bytes born js ending → IsFirst low (option_map (objected f) (first_wrong js ending)) (in_turn (unit_remarks asset f) earlier_ js ++ end_remarks f ending)
@@ -163,14 +142,11 @@ module _ (asset : Asset) (f : FlowValue) where
   by_matters : (number : ℕ) (octets : List ℕ) (fate_ : Fate) → Objections (map (remark_on f number) (matters octets fate_))
   by_matters number octets (fate.Refused refusal) = (refl, tt)
   by_matters number octets (fate.Stray because) = (refl, tt)
-  by_matters number octets fate.Carried = tt
-  by_matters number octets (fate.Admitted used) = tt
-  by_matters number octets fate.Lengthens = tt
-  by_matters number octets (fate.Cuts because) = tt
+  by_matters number octets fate_ = tt
 
   by_units : (earlier_ js : List Judged) → Objections (in_turn (unit_remarks asset f) earlier_ js)
   by_units earlier_ [] = tt
-  by_units earlier_ (j ∷ js) = all_append (unit_remarks asset f earlier_ j) (in_turn (unit_remarks asset f) (earlier_ ++ j ∷ []) js) (by_matters j.moment (octets_of asset earlier_ j.item) j.fate) (by_units (earlier_ ++ j ∷ []) js)
+  by_units earlier_ (j ∷ js) = all_append IsObjection (unit_remarks asset f earlier_ j) (in_turn (unit_remarks asset f) (earlier_ ++ j ∷ []) js) (by_matters j.moment (octets_of asset earlier_ j.item) j.fate) (by_units (earlier_ ++ j ∷ []) js)
 
   by_end : (ending : Ending) → Objections (end_remarks f ending)
   by_end Whole = tt
@@ -183,7 +159,7 @@ module _ (asset : Asset) (f : FlowValue) where
   flow_objections : (js : List Judged) (ending : Ending) → BeginsWithSyn f → Objections (flow_remarks asset f js ending)
   flow_objections js ending syn =
       let items = in_turn (unit_remarks asset f) [] js ++ end_remarks f ending in
-      let rest = all_append (conflict_remarks f f.conflict) items (by_one_conflict f.conflict) (all_append (in_turn (unit_remarks asset f) [] js) (end_remarks f ending) (by_units [] js) (by_end ending)) in
+      let rest = all_append IsObjection (conflict_remarks f f.conflict) items (by_one_conflict f.conflict) (all_append IsObjection (in_turn (unit_remarks asset f) [] js) (end_remarks f ending) (by_units [] js) (by_end ending)) in
       subst (λ m. Objections (midstream_remarks f m ++ (conflict_remarks f f.conflict ++ items))) (sym syn) rest
 
 -- ---- those of all flows
@@ -198,7 +174,7 @@ one_objects (Some asset) r syn = flow_objections asset r.flow r.judged r.ending 
 
 all_object : (assets : List Asset) (rs : List Reading) → AllByRecursion (λ r. BeginsWithSyn r.flow) rs → AllByRecursion IsObjection (remarks_on assets rs)
 all_object assets [] syn = tt
-all_object assets (r ∷ rs) syn = all_append (remarks_by (slice_get assets r.flow.asset) r) (remarks_on assets rs) (one_objects (slice_get assets r.flow.asset) r syn.0) (all_object assets rs syn.1)
+all_object assets (r ∷ rs) syn = all_append IsObjection (remarks_by (slice_get assets r.flow.asset) r) (remarks_on assets rs) (one_objects (slice_get assets r.flow.asset) r syn.0) (all_object assets rs syn.1)
 
 all_first : (assets : List Asset) (first : Option Objection) (rs : List Reading) → AreReadBy assets rs → AllByRecursion (λ r. IsRising r.flow) rs →
     AllByRecursion (λ r. BeginsWithSyn r.flow) rs → objection_to first rs ≡ earlier first (least (remarks_on assets rs))
@@ -225,16 +201,13 @@ module _ {X : Type 0} where
   nothing_behind false x xs e = e
 
   not_nothing : (b : Bool) (x : X) (xs : List X) → b ≡ true → cond b (x ∷ xs) xs ≡ [] → ⊥
-  not_nothing true x xs is e = cc e
-  not_nothing false x xs is e = cc is
+  not_nothing b x xs is e = let kept = cond-true b (x ∷ xs) xs is in cc
 
   kept_first : (b : Bool) (x : X) (xs : List X) → b ≡ true → cond b (x ∷ xs) xs ≡ x ∷ xs
-  kept_first true x xs is = refl
-  kept_first false x xs is = cc is
+  kept_first b x xs = cond-true b (x ∷ xs) xs
 
   passed_over : (b : Bool) (x : X) (xs : List X) → b ≡ false → cond b (x ∷ xs) xs ≡ xs
-  passed_over true x xs is = cc is
-  passed_over false x xs is = refl
+  passed_over b x xs = cond-false b (x ∷ xs) xs
 
 is_least : (low : ℕ) (a : Objection) (o : Option Objection) → low ≤ a.at_record → AtLeast low o → AtLeast low (earlier (Some a) o)
 is_least low a None h from = h
@@ -256,9 +229,6 @@ least_from low (r ∷ rs) none =
       | inr above ↦ is_least low (told_as r) (least rs) above (least_from low rs (λ n h. nothing_behind (r.at_record == n) r (filter (is_at n) rs) (none n h)))
     ]
 
-heads : (x y : RemarkValue) (xs ys : List RemarkValue) → x ∷ xs ≡ y ∷ ys → x ≡ y
-heads x y xs ys e = cc
-
 least_is : (t : RemarkValue) (more all : List RemarkValue) → ((n : ℕ) → n < t.at_record → filter (is_at n) all ≡ []) → filter (is_at t.at_record) all ≡ t ∷ more →
     least all ≡ Some (told_as t)
 least_is t more [] none some = cc some
@@ -274,7 +244,8 @@ least_is t more (r ∷ rs) none some =
         | inr low ↦
             (let at : r.at_record ≡ t.at_record = omega (arith, above, low) in
             let same : (r.at_record == t.at_record) ≡ true = eq-eqb r.at_record t.at_record at in
-            let is : r ≡ t = heads r t (filter (is_at t.at_record) rs) more (sym (kept_first (r.at_record == t.at_record) r (filter (is_at t.at_record) rs) same) ∙ some) in
+            let both : r ∷ filter (is_at t.at_record) rs ≡ t ∷ more = sym (kept_first (r.at_record == t.at_record) r (filter (is_at t.at_record) rs) same) ∙ some in
+            let is : r ≡ t = cc in
             stays (told_as r) (least rs) (subst (λ n. AtLeast n (least rs)) (sym at) (least_from t.at_record rs behind)) ∙ ap (λ (x : RemarkValue). Some (told_as x)) is)
       ]
     ]

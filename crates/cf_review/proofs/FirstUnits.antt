@@ -1,7 +1,7 @@
 -- Units that begin octets, by the grammar of one protocol and by that of all.
-use Rattle.std.proofs.Common.{◌≡◌, ◌<◌, ◌-◌, ℕ, List, [], length, drop, take, subst, inl, inr, arith}
+use Rattle.std.proofs.Common.{◌≡◌, ◌<◌, ℕ, List, [], length, drop, take, subst, inl, inr}
 use Rattle.std.proofs.lemmas.Bool.{cases_lt}
-use Rattle.std.proofs.lemmas.List.{drop_all, length-drop, take_all}
+use Rattle.std.proofs.lemmas.List.{drop_all}
 use Rattle.cf_lane.proofs.Units.{IsGrammarOf, begins_by, free_unit, nothing_unit}
 use Rattle.cf_lane.specs.Unit.{SpellsUnit, UnitValue}
 use Rattle.cf_policy.specs.declared.Protocol.{Protocol}
@@ -42,7 +42,3 @@ no_unit p bytes none k is =
       | inl inside ↦ none k inside is
       | inr past ↦ none_in_nothing p (subst (UnitBegins p) (drop_all k bytes past) is)
     ]
-
--- the octets from a place on
-pub octets_from : (k : ℕ) (bytes : List ℕ) → take (length bytes - k) (drop k bytes) ≡ drop k bytes
-octets_from k bytes = let size : length (drop k bytes) ≡ length bytes - k = length-drop k bytes in take_all (length bytes - k) (drop k bytes) (omega (arith, size))

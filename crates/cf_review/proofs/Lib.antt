@@ -1,3 +1,4 @@
+mod Alls
 mod First
 mod FirstUnits
 mod Fronts

@@ -5,6 +5,7 @@ use Rattle.std.specs.List.Sorted.{IsNonDecreasingBy, IsStableByKey, ties}
 use Rattle.std.specs.Result.{is_err}
 use Rattle.std.specs.Ordering.{is_lt, nat_cmp}
 use Rattle.std.proofs.lemmas.List.{get_or-map, length-map}
+use Rattle.std.proofs.lemmas.List.Elements.{filter_agree}
 use Rattle.std.proofs.lemmas.Bool.Decides.{nat_tests}
 use Rattle.cf_audit.specs.declared.line.Why.TheVariants as why
 use Rattle.cf_review.specs.Remark.{RemarkValue, remark_value}
@@ -21,10 +22,6 @@ module _ {X Y : Type 0} (f : X → Y) (p : Y → Bool) where
   filter_of_map [] = refl
   filter_of_map (x ∷ xs) = by_test (p (f x)) x (filter p (map f xs)) (filter (λ y. p (f y)) xs) (filter_of_map xs)
 
-filter_same : {X : Type 0} (p q : X → Bool) → ((x : X) → p x ≡ q x) → (xs : List X) → filter p xs ≡ filter q xs
-filter_same p q h [] = refl
-filter_same p q h (x ∷ xs) = ap (λ b. cond b (x ∷ filter p xs) (filter p xs)) (h x) ∙ ap (λ ys. cond (q x) (x ∷ ys) ys) (filter_same p q h xs)
-
 -- two numbers tie where they are the same
 one_test : (a b : ℕ) → (not (is_lt (nat_cmp a b)) && not (is_lt (nat_cmp b a))) ≡ (b == a)
 one_test a b = grind (arith, nat_tests)
@@ -37,7 +34,7 @@ of_each_value : (number : ℕ) (xs ys : List Remark) → IsStableByKey (λ r. r.
 unfolding of_number
 of_each_value number xs ys stable =
     let same : (zs : List Remark) → filter (λ r. is_at number (remark_value r)) zs ≡ filter (ties (λ (x y : Remark). is_lt (nat_cmp x.at_record y.at_record)) (of_number number)) zs =
-    filter_same (λ r. is_at number (remark_value r)) (ties (λ (x y : Remark). is_lt (nat_cmp x.at_record y.at_record)) (of_number number)) (λ r. sym (one_test number r.at_record)) in
+    filter_agree (λ r. is_at number (remark_value r)) (ties (λ (x y : Remark). is_lt (nat_cmp x.at_record y.at_record)) (of_number number)) (λ r. sym (one_test number r.at_record)) in
     filter_of_map remark_value (is_at number) ys ∙ ap (map remark_value) (same ys ∙ stable (of_number number) ∙ sym (same xs)) ∙ sym (filter_of_map remark_value (is_at number) xs)
 
 rising_value : (ys : List Remark) → IsNonDecreasingBy (λ r. r.at_record) ys → IsNonDecreasingBy (λ r. r.at_record) (map remark_value ys)

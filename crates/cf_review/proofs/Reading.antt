@@ -1,32 +1,26 @@
 -- The bytes of a flow, read up to a place, with all that is objected to.
 use Rattle.std.proofs.Common.{◌≡◌, ◌+◌, ◌-◌, ◌<◌, ◌≤◌, ◌∙◌, ℕ, List, [], ◌∷◌, ◌++◌, length, map, take, drop, get_or, slice_get, slice_range, All, Option, None, Some, min, ◌^◌, refl, sym, ap, subst, arith, append_assoc}
-use Rattle.std.proofs.lemmas.List.{append-nil, drop-drop, drop_all, get_or-drop, get_or-map, length-drop, length-map, map-append, take_all}
-use Rattle.std.proofs.lemmas.Option.{get_or_from_slice_get, slice_get_within}
+use Rattle.std.proofs.lemmas.List.{append-nil, drop-drop, drop_all, get_or-drop, get_or-map, length-drop, length-map, map-append, take_rest}
 use Rattle.cf_lane.proofs.Earlier.{in_turn-more}
 use Rattle.cf_lane.proofs.Units.{nothing_unit}
 use Rattle.cf_lane.specs.Judged.{Judged, in_turn, is_admitted, one_if}
 use Rattle.cf_lane.specs.Unit.{SpellsUnit, UnitValue, unit_break}
 use Rattle.cf_lane.specs.declared.fate.Fate.{Fate}
-use Rattle.cf_lane.specs.declared.fate.Fate.TheVariants as fate
-use Rattle.cf_lane.specs.declared.fate.Refusal.{Refusal}
 use Rattle.cf_policy.specs.declared.Asset.{Asset}
 use Rattle.cf_view.specs.Framing.{BreaksAt, IsPartial}
 use Rattle.cf_view.specs.declared.Break.{Break}
 use Rattle.cf_watch.specs.FlowValue.{FlowValue, IsForAsset, flow_value}
 use Rattle.cf_watch.specs.declared.Flow.{Flow}
-use Rattle.cf_policy.specs.Within.{IsAssetWithin}
 use Rattle.cf_judge.specs.Front.{IsReaderOf, TakesUnit}
 use Rattle.cf_judge.specs.Objections.{AreReadBy, IsReadBy, Reading, admitted_in, commands_in}
 use Rattle.cf_judge.specs.Plain.{AreRead, Breaks, Ending, HasPlainFate, Whole, completed_in}
 use Rattle.cf_judge.specs.Ruling.{ruling_of}
 use Rattle.cf_judge.specs.declared.ruling.Ruling.{Ruling}
-use Rattle.cf_judge.specs.declared.ruling.Ruling.TheVariants as ruling
 use Rattle.cf_judge.specs.declared.front.Reader.{Reader}
 use Rattle.cf_review.specs.Remark.{Broken, RemarkValue}
 use Rattle.cf_review.specs.FirstUnit.{AreReadParts, IsReadPart, IsReadPartAt, IsReadPartBy, from_place}
-use Rattle.cf_review.specs.Review.{AddsReview, AddsUnits, conflict_remarks, end_remarks, flow_remarks, matters, midstream_remarks, remark_on, remarks_by, remarks_on, unit_remarks}
+use Rattle.cf_review.specs.Review.{AddsReview, AddsUnits, conflict_remarks, end_remarks, flow_remarks, midstream_remarks, remark_on, remarks_by, remarks_on, unit_remarks}
 use Rattle.cf_policy.specs.declared.Protocol.{Protocol}
-use Rattle.cf_audit.specs.declared.line.Why.{Why}
 
 -- with these units in front, those from a place on are those of the flow; the remarks on these units stand after some others
 pub record SoFar (asset : Asset) (f : FlowValue) (start : List RemarkValue) (at : ℕ) (r : Reader) (admitted : ℕ) (remarks : List RemarkValue) : Type 0 where
@@ -41,40 +35,6 @@ pub record SoFar (asset : Asset) (f : FlowValue) (start : List RemarkValue) (at 
 admitted_more : (us : List Judged) (j : Judged) → admitted_in (us ++ j ∷ []) ≡ admitted_in us + one_if (is_admitted j.fate)
 admitted_more [] j = omega arith
 admitted_more (u ∷ us) j = let h = admitted_more us j in omega (arith, h)
-
--- a ruling is that of one fate, as far as anything is told of it
-module _ (octets : List ℕ) where
-  pub refused_by : (f : Fate) (refusal : Refusal) → ruling.Refused refusal ≡ ruling_of f → f ≡ fate.Refused refusal
-  refused_by (fate.Refused other) refusal e = cc e
-  refused_by (fate.Stray because) refusal e = cc e
-  refused_by (fate.Admitted used) refusal e = cc e
-  refused_by fate.Carried refusal e = cc e
-  refused_by fate.Lengthens refusal e = cc e
-  refused_by (fate.Cuts because) refusal e = cc e
-
-  pub stray_by : (f : Fate) (because : Why) → ruling.Stray because ≡ ruling_of f → f ≡ fate.Stray because
-  stray_by (fate.Refused other) because e = cc e
-  stray_by (fate.Stray other) because e = cc e
-  stray_by (fate.Admitted used) because e = cc e
-  stray_by fate.Carried because e = cc e
-  stray_by fate.Lengthens because e = cc e
-  stray_by (fate.Cuts other) because e = cc e
-
-  pub nothing_by : (f : Fate) → ruling.Nothing ≡ ruling_of f → matters octets f ≡ []
-  nothing_by (fate.Refused other) e = cc e
-  nothing_by (fate.Stray because) e = cc e
-  nothing_by (fate.Admitted used) e = refl
-  nothing_by fate.Carried e = refl
-  nothing_by fate.Lengthens e = refl
-  nothing_by (fate.Cuts because) e = refl
-
-  pub allowed_by : (f : Fate) → ruling.Allowed ≡ ruling_of f → matters octets f ≡ []
-  allowed_by (fate.Refused other) e = cc e
-  allowed_by (fate.Stray because) e = cc e
-  allowed_by (fate.Admitted used) e = refl
-  allowed_by fate.Carried e = refl
-  allowed_by fate.Lengthens e = refl
-  allowed_by (fate.Cuts because) e = refl
 
 pub so_far_first : (asset : Asset) (f : FlowValue) (start remarks : List RemarkValue) (r : Reader) → IsReaderOf asset f.client.address [] r → remarks ≡ start →
     SoFar asset f start 0 r 0 remarks
@@ -157,7 +117,7 @@ module _ (asset : Asset) (f : FlowValue) (start : List RemarkValue) (at : ℕ) (
   -- what was told of the bytes that were lent
   module _ (read : List ℕ) (lent : read ≡ slice_range f.bytes at (length f.bytes)) where
     same : read ≡ drop at f.bytes
-    same = let size : length (drop at f.bytes) ≤ length f.bytes - at = (let e = length-drop at f.bytes in omega (arith, e)) in lent ∙ take_all (length f.bytes - at) (drop at f.bytes) size
+    same = lent ∙ take_rest f.bytes at
 
     pub took : (p : Ruling) (used : ℕ) (new : Reader) → ((client : ℕ) (earlier : List Judged) → IsReaderOf asset client earlier r → TakesUnit asset client earlier read p used new) →
         TakesUnit asset f.client.address so.units (drop at f.bytes) p used new
@@ -250,19 +210,16 @@ parts_more assets [] rs f r are is = subst (λ xs. AreReadParts assets (f ∷ []
 parts_more assets (g ∷ fs) [] f r are is = absurd are
 parts_more assets (g ∷ fs) (s ∷ rs) f r are is = (are.0, parts_more assets fs rs f r are.1 is)
 
-same_asset_by : (protocol : Protocol) (midstream : Option ℕ) (f read : FlowValue) → IsReadPartBy protocol midstream f read → (read.asset ≡ f.asset) × (read.client ≡ f.client)
-same_asset_by protocol None f read is = (ap (λ (x : FlowValue). x.asset) is, ap (λ (x : FlowValue). x.client) is)
-same_asset_by protocol (Some number) f read is = (ap (λ (x : FlowValue). x.asset) is.2, ap (λ (x : FlowValue). x.client) is.2)
-
--- it is a flow of the same client to the same asset
-same_asset : (asset : Asset) (f read : FlowValue) → IsReadPart asset.protocol f read → read.asset ≡ f.asset
-same_asset asset f read is = (same_asset_by asset.protocol f.midstream f read is).0
+-- it is a flow to the same asset
+same_asset : (protocol : Protocol) (midstream : Option ℕ) (f read : FlowValue) → IsReadPartBy protocol midstream f read → read.asset ≡ f.asset
+same_asset protocol None f read is = ap (λ (x : FlowValue). x.asset) is
+same_asset protocol (Some number) f read is = ap (λ (x : FlowValue). x.asset) is.2
 
 pub reviewed_on : (assets : List Asset) (flows : List FlowValue) (admitted more : ℕ) (old new : List RemarkValue) (f : FlowValue) (asset : Asset) →
     ReviewedSoFar assets flows admitted old → slice_get assets f.asset ≡ Some asset → AddsReview asset f old new more → ReviewedSoFar assets (flows ++ f ∷ []) (min (admitted + more) (2 ^ 64 - 1)) new
 reviewed_on assets flows admitted more old new f asset so at is =
     let r : Reading = record { flow = is.read; judged = is.judged; ending = is.ending } in
-    let there : slice_get assets is.read.asset ≡ Some asset = ap (slice_get assets) (same_asset asset f is.read is.is_part) ∙ at in
+    let there : slice_get assets is.read.asset ≡ Some asset = ap (slice_get assets) (same_asset asset.protocol f.midstream f is.read is.is_part) ∙ at in
     record {
       readings = so.readings ++ r ∷ [];
       of_flows = subst (AreReadParts assets (flows ++ f ∷ [])) (sym (map-append (λ s. s.flow) so.readings (r ∷ [])))
@@ -273,13 +230,8 @@ reviewed_on assets flows admitted more old new f asset so at is =
     }
 
 -- each flow is to an asset of the policy
-pub for_asset : (assets : List Asset) (flows : List Flow) → All (IsForAsset assets) (map flow_value flows) → (i : ℕ) (f : Flow) → slice_get flows i ≡ Some f → IsForAsset assets (flow_value f)
-for_asset assets flows all i f e =
-    let inside = slice_get_within flows i f e in
-    let size : length (map flow_value flows) ≡ length flows = length-map flows flow_value in
-    let is : get_or (map flow_value flows) i (flow_value f) ≡ flow_value f = get_or-map flow_value flows i f (flow_value f) inside ∙ ap flow_value (get_or_from_slice_get flows i f f e) in
-    subst (IsForAsset assets) is (all i (flow_value f) (omega (arith, inside, size)))
-
--- and each asset of a policy is one that a policy may have
-pub asset_within : (assets : List Asset) → All IsAssetWithin assets → (i : ℕ) (asset : Asset) → slice_get assets i ≡ Some asset → IsAssetWithin asset
-asset_within assets each i asset e = subst IsAssetWithin (get_or_from_slice_get assets i asset asset e) (each i asset (slice_get_within assets i asset e))
+pub for_asset : (assets : List Asset) (flows : List Flow) → All (IsForAsset assets) (map flow_value flows) → (i : ℕ) (f : Flow) → i < length flows → f ≡ get_or flows i f →
+    IsForAsset assets (flow_value f)
+for_asset assets flows all i f inside is =
+    let here : get_or (map flow_value flows) i (flow_value f) ≡ flow_value f = get_or-map flow_value flows i f (flow_value f) inside ∙ ap flow_value (sym is) in
+    subst (IsForAsset assets) here (all i (flow_value f) (omega (arith, inside, length-map flows flow_value)))

@@ -1,14 +1,15 @@
 -- No byte of a watched flow came with an earlier record than a byte before it.
-use Rattle.std.proofs.Common.{◌-◌, ◌≡◌, ◌≤◌, ◌+◌, ◌++◌, ◌∙◌, ℕ, zero, suc, List, [], ◌∷◌, Bool, true, false, Option, None, Some, Result, Ok, Err, if◌then◌else◌, length, map, set, slice_get, get_or, unwrap_or, refl, ap, subst, sym, arith, inl, inr, length-append, ◌⊎◌}
+use Rattle.std.proofs.Common.{◌-◌, ◌≡◌, ◌<◌, ◌≤◌, ◌+◌, ◌++◌, ◌∙◌, ℕ, List, [], ◌∷◌, Option, None, Some, Result, Ok, Err, length, map, set, slice_get, get_or, refl, ap, subst, sym, arith, inl, inr, length-append, ◌⊎◌}
 use Rattle.std.specs.List.{AllByRecursion}
-use Rattle.std.proofs.lemmas.List.{get_or_default, map-append}
-use Rattle.std.proofs.lemmas.Option.{none-some, slice_get_read}
+use Rattle.std.proofs.lemmas.Bool.{cond_both}
+use Rattle.std.proofs.lemmas.List.{map-append}
+use Rattle.std.proofs.lemmas.Option.{slice_get-get_or}
 use Rattle.cf_packet.specs.Packet.{PacketValue, read_record}
 use Rattle.cf_packet.specs.declared.PacketRefusal.{PacketRefusal}
 use Rattle.cf_policy.specs.declared.Asset.{Asset}
-use Rattle.cf_run.specs.Capture.{Record}
-use Rattle.cf_run.specs.Entries.{asset_place}
-use Rattle.cf_run.specs.Table.{is_opening}
+use Rattle.cf_records.specs.Capture.{Record}
+use Rattle.cf_leg.specs.Segment.{is_opening}
+use Rattle.cf_policy.specs.AtEndpoint.{asset_place}
 use Rattle.cf_stream.proofs.FirstCopy.{first_copy-append}
 use Rattle.cf_stream.proofs.Taken.{taken_extends}
 use Rattle.cf_stream.specs.FirstCopy.{first_copy}
@@ -22,6 +23,7 @@ use Rattle.cf_watch.specs.declared.Scope.{Scope}
 use Rattle.cf_policy.specs.declared.Protocol.{Protocol}
 use Rattle.std.proofs.lemmas.List.{length-drop}
 use Rattle.std.proofs.lemmas.List.Sorted.{IsNonDecreasingBy-drop}
+use Rattle.cf_review.proofs.Alls.{all_append, all_get, all_set}
 use Rattle.cf_review.specs.First.{BytesComeInOrder, IsRising}
 use Rattle.cf_review.specs.FirstUnit.{AreReadParts, IsReadPartAt, IsReadPartBy, from_place}
 
@@ -47,38 +49,26 @@ all_more n m [] h f = tt
 all_more n m (w ∷ ws) h f = (falls_more n m w.carried h f.0, all_more n m ws h f.1)
 
 module _ (n : ℕ) where
-  fall_append : (ws : List Watched) (w : Watched) → AllFall n ws → Falls n w.carried → AllFall n (ws ++ w ∷ [])
-  fall_append [] w h s = (s, tt)
-  fall_append (v ∷ ws) w h s = (h.0, fall_append ws w h.1 s)
+  abbrev Low : Watched → Type 0
+  Low w = Falls n w.carried
 
-  fall_set : (ws : List Watched) (i : ℕ) (w : Watched) → AllFall n ws → Falls n w.carried → AllFall n (set ws i w)
-  fall_set [] i w h s = tt
-  fall_set (v ∷ ws) zero w h s = (s, h.1)
-  fall_set (v ∷ ws) (suc i) w h s = (h.0, fall_set ws i w h.1 s)
-
-  fall_get : (ws : List Watched) (i : ℕ) (w : Watched) → AllFall n ws → slice_get ws i ≡ Some w → Falls n w.carried
-  fall_get [] i w h e = absurd (none-some w e)
-  fall_get (v ∷ ws) zero w h e = subst (λ (x : Watched). Falls n x.carried) (ap (λ o. unwrap_or o v) e) h.0
-  fall_get (v ∷ ws) (suc i) w h e = fall_get ws i w h.1 e
-
-  fall_if : (b : Bool) (xs ys : List Watched) → AllFall n xs → AllFall n ys → AllFall n (if b then xs else ys)
-  fall_if true xs ys a b = a
-  fall_if false xs ys a b = b
+  fall_more : (ws : List Watched) (w : Watched) → AllFall n ws → Low w → AllFall n (ws ++ w ∷ [])
+  fall_more ws w h s = all_append Low ws (w ∷ []) h (s, tt)
 
   fall_to : (asset place : ℕ) (packet : PacketValue) (o : Option Watched) (ws : List Watched) → slice_get ws place ≡ o → AllFall n ws → AllFall n (goes_to n asset place packet o ws)
   fall_to asset place packet None ws e h = h
   fall_to asset place packet (Some f) ws e h =
-      fall_if (begins_anew packet f) (ws ++ begun_by n asset packet ∷ []) (set ws place (with_packet n packet f))
-      (fall_append ws (begun_by n asset packet) h (omega arith, tt)) (fall_set ws place (with_packet n packet f) h (omega arith, fall_get ws place f h e))
+      cond_both (begins_anew packet f) (ws ++ begun_by n asset packet ∷ []) (set ws place (with_packet n packet f)) (AllFall n)
+      (λ _. fall_more ws (begun_by n asset packet) h (omega arith, tt)) (λ _. all_set Low ws place (with_packet n packet f) h (omega arith, all_get Low ws place f h e))
 
   fall_at : (asset : ℕ) (packet : PacketValue) (last : Option ℕ) (ws : List Watched) → AllFall n ws → AllFall n (goes_at n asset packet last ws)
-  fall_at asset packet None ws h = fall_if (is_opening packet) (ws ++ begun_by n asset packet ∷ []) ws (fall_append ws (begun_by n asset packet) h (omega arith, tt)) h
+  fall_at asset packet None ws h = cond_both (is_opening packet) (ws ++ begun_by n asset packet ∷ []) ws (AllFall n) (λ _. fall_more ws (begun_by n asset packet) h (omega arith, tt)) (λ _. h)
   fall_at asset packet (Some place) ws h = fall_to asset place packet (slice_get ws place) ws refl h
 
   fall_from : (scope : Scope) (asset : ℕ) (packet : PacketValue) (last : Option ℕ) (ws : List Watched) → AllFall n ws → AllFall n (goes_from scope n asset packet last ws)
   fall_from scope asset packet None ws h =
-      fall_if (begins_amid scope packet) (ws ++ begun_with (opening_amid n packet) n asset packet ∷ []) (goes_at n asset packet None ws)
-      (fall_append ws (begun_with (opening_amid n packet) n asset packet) h (omega arith, tt)) (fall_at asset packet None ws h)
+      cond_both (begins_amid scope packet) (ws ++ begun_with (opening_amid n packet) n asset packet ∷ []) (goes_at n asset packet None ws) (AllFall n)
+      (λ _. fall_more ws (begun_with (opening_amid n packet) n asset packet) h (omega arith, tt)) (λ _. fall_at asset packet None ws h)
   fall_from scope asset packet (Some place) ws h = fall_at asset packet (Some place) ws h
 
   fall_goes : (scope : Scope) (packet : PacketValue) (o : Option ℕ) (ws : List Watched) → AllFall n ws → AllFall n (goes_to_asset scope n packet o ws)
@@ -110,15 +100,12 @@ no_fewer newer older xs ys h k =
     let longer : length ys ≡ length xs + length e.more = ap length e.bytes ∙ length-append xs e.more in
     omega (arith, longer)
 
-tails : (x y : Carried) (xs ys : List Carried) → x ∷ xs ≡ y ∷ ys → xs ≡ ys
-tails x y xs ys e = cc
-
 -- of two parts of a list that go to its end, one is after the first element of the other, or the other is in it
 parted : (a b : List Carried) (x y : Carried) (xs ys : List Carried) → a ++ x ∷ xs ≡ b ++ y ∷ ys → ((c : List Carried) × (xs ≡ c ++ y ∷ ys)) ⊎ ((c : List Carried) × (y ∷ ys ≡ c ++ x ∷ xs))
 parted [] [] x y xs ys e = inr ([], sym e)
-parted [] (z ∷ b) x y xs ys e = inl (b, tails x z xs (b ++ y ∷ ys) e)
+parted [] (z ∷ b) x y xs ys e = inl (b, cc)
 parted (z ∷ a) [] x y xs ys e = inr (z ∷ a, sym e)
-parted (z ∷ a) (w ∷ b) x y xs ys e = parted a b x y xs ys (tails z w (a ++ x ∷ xs) (b ++ y ∷ ys) e)
+parted (z ∷ a) (w ∷ b) x y xs ys e = parted a b x y xs ys cc
 
 in_order : (from : ℕ) (carried : List Carried) (p q m n : ℕ) → Falls from carried → p ≤ q → IsBornWith carried p m → IsBornWith carried q n → m ≤ n
 in_order from carried p q m n falls low bp bq =
@@ -137,9 +124,8 @@ one_rises : (from : ℕ) (carried : List Carried) (f : FlowValue) → Falls from
 one_rises from carried f falls born = record {
   count = born.count;
   rises = λ i j d low inside.
-      let at_i = slice_get_read f.born (length f.born) i (get_or f.born i d) refl (omega (arith, low, inside)) (get_or_default f.born i d (get_or f.born i d) (omega (arith, low, inside))) in
-      let at_j = slice_get_read f.born (length f.born) j (get_or f.born j d) refl inside (get_or_default f.born j d (get_or f.born j d) inside) in
-      in_order from carried i j (get_or f.born i d) (get_or f.born j d) falls low (born.each i (get_or f.born i d) at_i) (born.each j (get_or f.born j d) at_j);
+      let each = λ (k : ℕ) (within : k < length f.born). born.each k (get_or f.born k d) (slice_get-get_or f.born k d within) in
+      in_order from carried i j (get_or f.born i d) (get_or f.born j d) falls low (each i (omega (arith, low, inside))) (each j inside);
 }
 
 all_rise : (n : ℕ) (ws : List Watched) (flows : List FlowValue) → AllFall n ws → AreFlowsOf ws flows → AllByRecursion IsRising flows

@@ -1,22 +1,22 @@
 -- The flows of a review that begin with a SYN, as records come.
 use Rattle.std.proofs.Common.{◌≡◌, ◌∙◌, ◌++◌, ◌∷◌, [], ◌+◌, ◌==◌, ◌&&◌, ◌||◌, ℕ, zero, suc, Bool, true, false, not, if◌then◌else◌, cond, List, length, set, slice_get, Option, Some, None, Result, Ok, Err, unwrap_or, refl, sym, ap, subst, arith}
 use Rattle.std.specs.List.{AllByRecursion, filter}
-use Rattle.std.proofs.lemmas.Bool.{false≢true}
+use Rattle.std.proofs.lemmas.Bool.{and_parts, cond-false, cond-true, cond_both, false≢true, or_left}
 use Rattle.std.proofs.lemmas.Bool.Decides.{nat_tests}
 use Rattle.std.proofs.lemmas.List.Elements.{filter-append}
 use Rattle.std.proofs.lemmas.Option.{none-some}
-use Rattle.cf_leg.specs.Segment.{has_ack, has_fin, has_rst, has_syn}
+use Rattle.cf_leg.specs.Segment.{has_ack, has_fin, has_rst, has_syn, is_opening}
 use Rattle.cf_packet.specs.Packet.{PacketValue, read_record}
 use Rattle.cf_packet.specs.declared.PacketRefusal.{PacketRefusal}
 use Rattle.cf_policy.specs.declared.Asset.{Asset}
-use Rattle.cf_run.specs.Capture.{Record}
-use Rattle.cf_run.specs.Entries.{asset_place}
-use Rattle.cf_run.specs.Table.{is_opening}
+use Rattle.cf_records.specs.Capture.{Record}
+use Rattle.cf_policy.specs.AtEndpoint.{asset_place}
 use Rattle.cf_view.specs.Endpoints.{same_endpoint}
 use Rattle.cf_view.specs.declared.Endpoint.{Endpoint}
 use Rattle.cf_watch.specs.Seen.{begins_amid, begun_with, frame_by, goes_from, goes_to_asset, opening_amid, seen_by, with_frame}
 use Rattle.cf_watch.specs.Watched.{Watched, begins_anew, begun_by, goes, goes_at, goes_to, is_between, last_place, later_place, watched, with_packet, with_record}
 use Rattle.cf_watch.specs.declared.Scope.TheVariants as scope
+use Rattle.cf_review.proofs.Alls.{all_append, all_get, all_set}
 use Rattle.cf_review.specs.SynFlows.{HasNoTag, SynFlowsAreWatched, begins_with_syn}
 
 -- ---- lists
@@ -24,32 +24,15 @@ use Rattle.cf_review.specs.SynFlows.{HasNoTag, SynFlowsAreWatched, begins_with_s
 abbrev syn_flows : List Watched → List Watched
 syn_flows ws = filter begins_with_syn ws
 
-module _ (P : Watched → Type 0) where
-  all_append : (ws : List Watched) (x : Watched) → AllByRecursion P ws → P x → AllByRecursion P (ws ++ x ∷ [])
-  all_append [] x a h = (h, tt)
-  all_append (w ∷ ws) x a h = (a.0, all_append ws x a.1 h)
-
-  all_set : (ws : List Watched) (i : ℕ) (x : Watched) → AllByRecursion P ws → P x → AllByRecursion P (set ws i x)
-  all_set [] i x a h = tt
-  all_set (w ∷ ws) zero x a h = (h, a.1)
-  all_set (w ∷ ws) (suc i) x a h = (a.0, all_set ws i x a.1 h)
-
-  all_get : (ws : List Watched) (i : ℕ) (x : Watched) → AllByRecursion P ws → slice_get ws i ≡ Some x → P x
-  all_get [] i x a e = absurd (none-some x e)
-  all_get (w ∷ ws) zero x a e = subst P (ap (λ o. unwrap_or o w) e) a.0
-  all_get (w ∷ ws) (suc i) x a e = all_get ws i x a.1 e
-
 if_behind : (b : Bool) (w : Watched) (xs ys : List Watched) → (if b then w ∷ xs else w ∷ ys) ≡ w ∷ (if b then xs else ys)
 if_behind true w xs ys = refl
 if_behind false w xs ys = refl
 
 kept : (b : Bool) (w : Watched) (xs : List Watched) → b ≡ true → cond b (w ∷ xs) xs ≡ w ∷ xs
-kept true w xs e = refl
-kept false w xs e = absurd (false≢true e)
+kept b w xs = cond-true b (w ∷ xs) xs
 
 dropped : (b : Bool) (w : Watched) (xs : List Watched) → b ≡ false → cond b (w ∷ xs) xs ≡ xs
-dropped true w xs e = absurd (false≢true (sym e))
-dropped false w xs e = refl
+dropped b w xs = cond-false b (w ∷ xs) xs
 
 kept_if : (b : Bool) (xs ys : List Watched) → syn_flows (if b then xs else ys) ≡ (if b then syn_flows xs else syn_flows ys)
 kept_if true xs ys = refl
@@ -70,18 +53,14 @@ IsApart x w = (client : Endpoint) (asset : ℕ) → is_between client asset w �
 first_append : (ws : List Watched) (x : Watched) → AreFirst ws → (begins_with_syn x ≡ false → x.answered ≡ true) → AllByRecursion (IsApart x) ws → AreFirst (ws ++ x ∷ [])
 first_append [] x f h a = (h, (λ client asset e. tt), tt)
 first_append (w ∷ ws) x f h a =
-    (f.0, (λ client asset e. all_append (λ v. begins_with_syn v ≡ false → is_between client asset v ≡ false) ws x (f.1 client asset e) (a.0 client asset e)), first_append ws x f.2 h a.1)
-
-or_true : (a b : Bool) → a ≡ true → (a || b) ≡ true
-or_true true b e = refl
-or_true false b e = absurd (false≢true e)
+    (f.0, (λ client asset e. all_append (λ v. begins_with_syn v ≡ false → is_between client asset v ≡ false) ws (x ∷ []) (f.1 client asset e) (a.0 client asset e, tt)), first_append ws x f.2 h a.1)
 
 module _ (number : ℕ) (p : PacketValue) where
   first_set : (ws : List Watched) (i : ℕ) (x : Watched) → slice_get ws i ≡ Some x → AreFirst ws → AreFirst (set ws i (with_packet number p x))
   first_set [] i x e f = tt
   first_set (w ∷ ws) zero x e f =
       let same : w ≡ x = ap (λ o. unwrap_or o w) e in
-      subst (λ y. AreFirst (with_packet number p y ∷ ws)) same ((λ s. or_true w.answered (has_ack p) (f.0 s)), f.1, f.2)
+      subst (λ y. AreFirst (with_packet number p y ∷ ws)) same ((λ s. or_left w.answered (has_ack p) (f.0 s)), f.1, f.2)
   first_set (w ∷ ws) (suc i) x e f = (
     f.0,
     (λ client asset b.
@@ -95,14 +74,6 @@ module _ (number : ℕ) (p : PacketValue) where
 
 number_is : (a b : ℕ) → (a == b) ≡ true → a ≡ b
 number_is a b e = grind (arith, nat_tests, e)
-
-and_left : (a b : Bool) → (a && b) ≡ true → a ≡ true
-and_left true b h = refl
-and_left false b h = absurd (false≢true h)
-
-and_right : (a b : Bool) → (a && b) ≡ true → b ≡ true
-and_right true b h = h
-and_right false b h = absurd (false≢true h)
 
 -- a packet that begins a flow amid its stream is no SYN
 no_syn : (s r x t : Bool) → (not (s || r) && t) ≡ true → (s && x) ≡ false
@@ -272,10 +243,11 @@ module _ (number asset : ℕ) (p : PacketValue) where
   apart_by : (w : Watched) (client : Endpoint) (other : ℕ) (b : Bool) → Mine w ≡ false → is_between client other w ≡ true → is_between client other amid ≡ b → b ≡ false
   apart_by w client other false m e same = refl
   apart_by w client other true m e same =
-      let ends = and_left (same_endpoint p.source client) (asset == other) same in
-      let a = number_is p.source.address client.address (and_left (p.source.address == client.address) _ ends) in
-      let b = number_is p.source.port client.port (and_right (p.source.address == client.address) _ ends) in
-      let c = number_is asset other (and_right (same_endpoint p.source client) _ same) in
+      let (ends, at) = and_parts (same_endpoint p.source client) (asset == other) same in
+      let (address, port) = and_parts (p.source.address == client.address) (p.source.port == client.port) ends in
+      let a = number_is p.source.address client.address address in
+      let b = number_is p.source.port client.port port in
+      let c = number_is asset other at in
       let mine : Mine w ≡ is_between client other w =
       ap (λ n. ((w.client.address == n) && (w.client.port == p.source.port)) && (w.asset == asset)) a
       ∙ ap (λ n. ((w.client.address == client.address) && (w.client.port == n)) && (w.asset == asset)) b
@@ -290,22 +262,18 @@ module _ (number asset : ℕ) (p : PacketValue) where
   all_new [] = tt
   all_new (w ∷ ws) = ((λ client other e s. absurd (false≢true (sym s))), all_new ws)
 
-  first_if : (b : Bool) (xs ys : List Watched) → AreFirst xs → AreFirst ys → AreFirst (if b then xs else ys)
-  first_if true xs ys a b = a
-  first_if false xs ys a b = b
-
   with_new : (ws : List Watched) → AreFirst ws → AreFirst (ws ++ new ∷ [])
   with_new ws f = first_append ws new f (λ s. absurd (false≢true (sym s))) (all_new ws)
 
   first_to : (i : ℕ) (o : Option Watched) (ws : List Watched) → slice_get ws i ≡ o → AreFirst ws → AreFirst (goes_to number asset i p o ws)
   first_to i None ws e f = f
-  first_to i (Some x) ws e f = first_if (begins_anew p x) (ws ++ new ∷ []) (set ws i (with_packet number p x)) (with_new ws f) (first_set number p ws i x e f)
+  first_to i (Some x) ws e f = cond_both (begins_anew p x) (ws ++ new ∷ []) (set ws i (with_packet number p x)) AreFirst (λ _. with_new ws f) (λ _. first_set number p ws i x e f)
 
   first_from : (o : Option ℕ) (ws : List Watched) → last ws ≡ o → AreFirst ws → AreFirst (goes_from scope.Recording number asset p o ws)
   first_from None ws e f =
-      first_if (begins_amid scope.Recording p) (ws ++ amid ∷ []) (goes_at number asset p None ws)
-      (first_append ws amid f (λ s. refl) (all_apart ws (none_mine ws e)))
-      (first_if (is_opening p) (ws ++ new ∷ []) ws (with_new ws f) f)
+      cond_both (begins_amid scope.Recording p) (ws ++ amid ∷ []) (goes_at number asset p None ws) AreFirst
+      (λ _. first_append ws amid f (λ s. refl) (all_apart ws (none_mine ws e)))
+      (λ _. cond_both (is_opening p) (ws ++ new ∷ []) ws AreFirst (λ _. with_new ws f) (λ _. f))
   first_from (Some i) ws e f = first_to i (slice_get ws i) ws refl f
 
 -- ---- record by record

@@ -1,12 +1,13 @@
 -- Lines that are written in pieces.
-use Rattle.std.proofs.Common.{◌≡◌, ◌+◌, ◌<◌, ◌∙◌, ℕ, List, [], ◌∷◌, ◌++◌, length, map, take, drop, get_or, ap, sym, arith, inl, inr, refl, append_assoc, take-append-drop, add-one, Result, Ok, Err, OnErr}
-use Rattle.std.proofs.lemmas.List.{append-nil, map-append, take-append-le, take_all}
+use Rattle.std.proofs.Common.{◌≡◌, ◌+◌, ◌<◌, ◌∙◌, ℕ, List, [], ◌∷◌, ◌++◌, length, map, take, drop, get_or, ap, sym, arith, inl, inr, append_assoc, take-append-drop, Result, Ok, Err, OnErr}
+use Rattle.std.proofs.lemmas.Grind.{flat_map-append}
+use Rattle.std.proofs.lemmas.List.{append-nil, map-append, map_more, take-append-le, take_all}
 use Rattle.std.proofs.lemmas.Bool.{cases_lt}
-use Rattle.std.proofs.Math.Seq.{take-append-add, take-suc}
+use Rattle.std.proofs.Math.Seq.{take-append-add}
 use Rattle.cf_outside.proofs.Content.{with_appended-twice}
 use Rattle.cf_outside.specs.Files.{Content, with_appended}
 use Rattle.cf_review.specs.Lines.{MovesOn, remark_line, review_text}
-use Rattle.cf_review.specs.Remark.{RemarkValue, remark_value}
+use Rattle.cf_review.specs.Remark.{remark_value}
 use Rattle.cf_review.specs.declared.remark.Remark.{Remark}
 use Rattle.cf_policy.specs.declared.Asset.{Asset}
 
@@ -19,10 +20,6 @@ take_front k xs more =
     ]
 
 module _ (assets : List Asset) (stamps : List ℕ) where
-  text_append : (xs ys : List RemarkValue) → review_text assets stamps (xs ++ ys) ≡ review_text assets stamps xs ++ review_text assets stamps ys
-  text_append [] ys = refl
-  text_append (x ∷ xs) ys = ap (λ t. remark_line assets stamps x ++ t) (text_append xs ys) ∙ sym (append_assoc (remark_line assets stamps x) (review_text assets stamps xs) (review_text assets stamps ys))
-
   -- the text of the remarks up to a place and that of those after it
   pub text_split : (remarks : List Remark) (i : ℕ) →
       review_text assets stamps (map remark_value remarks)
@@ -30,15 +27,13 @@ module _ (assets : List Asset) (stamps : List ℕ) where
   text_split remarks i =
       ap (λ rs. review_text assets stamps (map remark_value rs)) (sym (take-append-drop i remarks))
       ∙ ap (review_text assets stamps) (map-append remark_value (take i remarks) (drop i remarks))
-      ∙ text_append (map remark_value (take i remarks)) (map remark_value (drop i remarks))
+      ∙ flat_map-append (remark_line assets stamps) (map remark_value (take i remarks)) (map remark_value (drop i remarks))
 
   pub text_more : (remarks : List Remark) (i : ℕ) (r : Remark) → i < length remarks → get_or remarks i r ≡ r →
       review_text assets stamps (map remark_value (take (i + 1) remarks)) ≡ review_text assets stamps (map remark_value (take i remarks)) ++ remark_line assets stamps (remark_value r)
   text_more remarks i r inside is =
-      rw add-one (ap (λ rs. review_text assets stamps (map remark_value rs)) (take-suc remarks i r inside))
-      ∙ ap (λ x. review_text assets stamps (map remark_value (take i remarks ++ x ∷ []))) is
-      ∙ ap (review_text assets stamps) (map-append remark_value (take i remarks) (r ∷ []))
-      ∙ text_append (map remark_value (take i remarks)) (remark_value r ∷ [])
+      ap (review_text assets stamps) (map_more remark_value remarks i r inside ∙ ap (λ x. map remark_value (take i remarks) ++ remark_value x ∷ []) is)
+      ∙ flat_map-append (remark_line assets stamps) (map remark_value (take i remarks)) (remark_value r ∷ [])
       ∙ ap (λ t. review_text assets stamps (map remark_value (take i remarks)) ++ t) (append-nil (remark_line assets stamps (remark_value r)))
 
 -- what was moved before and now, and what is left, are the text so far
@@ -64,7 +59,3 @@ partly_moved front piece before behind all k c d e told split file failed =
 pub on_err : {A E : Type 0} (P : Type 0) (r : Result A E) → P → OnErr r P
 on_err P (Ok x) p = tt
 on_err P (Err e) p = p
-
-pub if_err : {A E : Type 0} (P : Type 0) (Q : Type 0) (r : Result A E) → (P → Q) → OnErr r P → OnErr r Q
-if_err P Q (Ok x) f p = tt
-if_err P Q (Err e) f p = f p

@@ -7,7 +7,7 @@ use Rattle.cf_judge.specs.declared.Complaint.{Complaint}
 use Rattle.cf_judge.specs.declared.Complaint.TheVariants as complaint
 use Rattle.cf_judge.specs.declared.Objection.{Objection}
 use Rattle.cf_policy.specs.declared.Asset.{Asset}
-use Rattle.cf_run.specs.Capture.{Record}
+use Rattle.cf_records.specs.Capture.{Record}
 use Rattle.cf_watch.specs.Flow.{AreFlowsOf}
 use Rattle.cf_watch.specs.FlowValue.{FlowValue}
 use Rattle.cf_watch.specs.Seen.{seen_by}

@@ -2,7 +2,7 @@
 use Rattle.std.specs.Prelude.{◌≡◌, Bool, List, is_none}
 use Rattle.std.specs.List.{AllByRecursion, filter}
 use Rattle.cf_policy.specs.declared.Asset.{Asset}
-use Rattle.cf_run.specs.Capture.{Record}
+use Rattle.cf_records.specs.Capture.{Record}
 use Rattle.cf_watch.specs.Seen.{seen_by}
 use Rattle.cf_watch.specs.Tagged.{untagged}
 use Rattle.cf_watch.specs.Watched.{Watched, watched}

@@ -1,7 +1,7 @@
 //! The lines of a review, written into a file.
-ghost use Rattle.std.specs.Prelude.{◌≡◌, ◌++◌, ℕ, ◌≤◌, IsErr, OnErr, OnOk, length, map, take};
-ghost use Rattle.cf_outside.specs.Faults.{HasCause};
-ghost use Rattle.cf_outside.specs.Files.{IsPartly, KeepsOthers, content_after_write, with_appended};
+ghost use Rattle.std.specs.Prelude.{◌≡◌, ◌++◌, ℕ, ◌≤◌, ◌∷◌, [], IsErr, OnErr, OnOk, length, map, take};
+ghost use Rattle.cf_outside.specs.Files.{IsPartly, content_after_write, with_appended};
+ghost use Rattle.cf_outside.specs.Frames.{OnlyWrites};
 ghost use Rattle.cf_review.specs.Lines.{MovesOn, review_text};
 ghost use Rattle.cf_review.specs.Remark.{remark_value};
 
@@ -29,9 +29,7 @@ pub fn write_lines<F: Files>(
         ≡ content_after_write (F.content files.old log.now) (review_text policy.now.assets stamps.now (map remark_value remarks.now))) }
     ensures partly { OnErr result (IsPartly (review_text policy.now.assets stamps.now (map remark_value remarks.now))
         (F.content files.old log.now) (F.content files.new log.now)) }
-    ensures others { KeepsOthers log.now (F.content files.old) (F.content files.new) }
-    ensures cause { HasCause (F.write_faults files.old) (F.write_faults files.new) (IsErr result) }
-    ensures reads { F.read_faults files.new ≡ F.read_faults files.old }
+    ensures writes { OnlyWrites (log.now ∷ []) F.content F.read_faults F.write_faults files.old files.new (IsErr result) }
 {
     match files.create(log) {
         WriteAnswer::Done => append_lines(policy.assets.as_slice(), stamps, remarks, log, files),
@@ -51,9 +49,7 @@ fn append_lines<F: Files>(
         ≡ with_appended (F.content files.old log.now) (review_text assets.now stamps.now (map remark_value remarks.now))) }
     ensures partly { OnErr result ((k : ℕ) × (F.content files.new log.now
         ≡ with_appended (F.content files.old log.now) (take k (review_text assets.now stamps.now (map remark_value remarks.now))))) }
-    ensures others { KeepsOthers log.now (F.content files.old) (F.content files.new) }
-    ensures cause { HasCause (F.write_faults files.old) (F.write_faults files.new) (IsErr result) }
-    ensures reads { F.read_faults files.new ≡ F.read_faults files.old }
+    ensures writes { OnlyWrites (log.now ∷ []) F.content F.read_faults F.write_faults files.old files.new (IsErr result) }
 {
     let mut piece = ArrayVec::<u8, PIECE>::new();
     let mut line = ArrayString::<256>::new();
@@ -61,7 +57,7 @@ fn append_lines<F: Files>(
         spell(assets, stamps, remark, &mut line);
         put(&mut piece, line.as_bytes(), log, files)?;
     }
-    append_all(files, log, piece.as_slice())
+    append_all(log, piece.as_slice(), files)
 }
 
 /// Puts a line after those that wait. Where it has no room there, these are appended to a file before.
@@ -76,15 +72,13 @@ fn put<F: Files>(
         (F.content files.new log.now)) }
     ensures partly { OnErr result ((k : ℕ) × (F.content files.new log.now ≡ with_appended (F.content files.old log.now)
         (take k piece.old.items))) }
-    ensures others { KeepsOthers log.now (F.content files.old) (F.content files.new) }
-    ensures cause { HasCause (F.write_faults files.old) (F.write_faults files.new) (IsErr result) }
-    ensures reads { F.read_faults files.new ≡ F.read_faults files.old }
+    ensures writes { OnlyWrites (log.now ∷ []) F.content F.read_faults F.write_faults files.old files.new (IsErr result) }
 {
     if piece.len() + line.len() <= PIECE {
         push_bytes(piece, line);
         return Ok(());
     }
-    append_all(files, log, piece.as_slice())?;
+    append_all(log, piece.as_slice(), files)?;
     piece.clear();
     push_bytes(piece, line);
     Ok(())

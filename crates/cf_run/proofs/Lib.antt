@@ -1,16 +1,10 @@
 mod Begun
-pub mod Behind
-mod BlockPieces
-mod ClassicPieces
 mod Counting
 mod Created
 mod Due
 mod Faults
 mod FileDesks
-mod FilePieces
-mod Finding
 mod Fixed
-mod Forms
 mod HalfFiles
 mod Headline
 mod Isolating
@@ -20,10 +14,8 @@ pub mod Matched
 mod OutputFiles
 mod Packets
 pub mod Pairs
-mod Passing
 mod Received
 mod ReceivedAmid
-pub mod RecordLists
 mod Running
 mod Selection
 mod Sessions

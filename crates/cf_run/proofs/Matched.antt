@@ -6,14 +6,15 @@ use Rattle.std.specs.Option.{is_some}
 use Rattle.std.proofs.lemmas.List.Edits.{length-remove}
 use Rattle.std.proofs.lemmas.Bool.{and_right, cases_Bool, or_parts}
 use Rattle.std.proofs.lemmas.Bool.Decides.{nat_tests}
+use Rattle.cf_policy.specs.AtEndpoint.{asset_at, asset_place, has_asset_at}
 use Rattle.cf_packet.specs.Packet.{PacketValue}
 use Rattle.cf_policy.specs.declared.Asset.{Asset}
 use Rattle.cf_session.specs.Session.{Flow, SessionEvent, client_of, was_closed}
 use Rattle.cf_view.specs.declared.Endpoint.{Endpoint}
 use Rattle.cf_run.specs.Engine.{AreAll, IsOneWith}
-use Rattle.cf_run.specs.Entries.{asset_place, goes_in_client, begins_at, begins_in, entry_between, entry_match, goes_in, is_at, is_closed_in, others, place_in}
+use Rattle.cf_run.specs.Entries.{goes_in_client, begins_at, begins_in, entry_between, entry_match, goes_in, is_at, is_closed_in, others, place_in}
 use Rattle.cf_run.specs.Receiving.{may_begin_one}
-use Rattle.cf_run.specs.Table.{Begins, Full, Goes, Match, Outside, Session, asset_at, begins, begins_or_full, goes, goes_from_client, has_asset_at, is_between, is_closed_at, match_of, may_begin, place_of, table_size, without}
+use Rattle.cf_run.specs.Table.{Begins, Full, Goes, Match, Outside, Session, begins, begins_or_full, goes, goes_from_client, is_between, is_closed_at, match_of, may_begin, place_of, table_size, without}
 use Rattle.cf_view.specs.Endpoints.{same_endpoint}
 use Rattle.cf_run.specs.declared.entry.Entry.{Entry}
 use Rattle.cf_run.specs.declared.matching.Match.{Match as EntryMatch}

@@ -9,11 +9,11 @@ use Rattle.cf_outside.proofs.Lines.{file_lines-whole}
 use Rattle.cf_outside.specs.Files.{Content, untold, absent, holds, IsWhole}
 use Rattle.cf_outside.specs.Lines.{ends_with_line, file_lines, file_part}
 use Rattle.cf_packet.specs.Packet.{read_record}
-use Rattle.cf_run.proofs.RecordLists.{have_timed_records}
-use Rattle.cf_run.specs.Capture.{AtPlace, Clock, FileEnd, Fits, IsLast, LastPlace, Record, form_behind}
-use Rattle.cf_run.specs.Form.{first_place}
-use Rattle.cf_run.specs.Moments.{AreTimed, first_moment, moment_from, timed}
-use Rattle.cf_run.specs.declared.form.Form.{Form}
+use Rattle.cf_records.proofs.RecordLists.{have_timed_records}
+use Rattle.cf_records.specs.Capture.{AtPlace, Clock, FileEnd, Fits, IsLast, LastPlace, Record, form_behind}
+use Rattle.cf_records.specs.Form.{first_place}
+use Rattle.cf_records.specs.Moments.{AreTimed, first_moment, moment_from, timed}
+use Rattle.cf_records.specs.declared.form.Form.{Form}
 use Rattle.cf_pcap.specs.Header.{output_octets}
 use Rattle.cf_policy.specs.declared.Asset.{Asset}
 use Rattle.cf_session.specs.Broken.{octets_of}
@@ -22,17 +22,17 @@ use Rattle.cf_session.specs.Told.{emitted, with_both, with_more}
 use Rattle.cf_run.specs.FileDesk.{are_whole, files_desk, files_told}
 use Rattle.cf_run.specs.Half.{StepBreaks, StepStops}
 use Rattle.cf_run.specs.OutputFile.{ends_with_record, file_packets, packet_part, record_octets}
-use Rattle.cf_run.specs.Reader.{FindsRecord, HasForm, PassesTo, ReaderValue}
+use Rattle.cf_records.specs.Reader.{FindsRecord, HasForm, PassesTo, ReaderValue}
 use Rattle.cf_run.specs.Run.{capture_of, input_of, inputs, inputs_from, inputs_of}
 use Rattle.cf_run.specs.RunCapture.{BeginsWithRecords, BreaksOff, HasRunRecords, HoldsOctets, LeavesRun, RunNamesValue, RunsPartly, RunsRecords, RunsTo, StopsBetween, StopsIn, step_fault}
 use Rattle.cf_run.specs.Step.{EngineValue, IsEngineOf, StepsOn}
 use Rattle.cf_run.specs.Trace.{AreRunEvents, RunEvent, Input, logged, logged_in_first, logged_in_second, sent, sent_in_first, sent_in_second, table_after}
 use Rattle.cf_run.specs.declared.engine.StepFault.{StepFault}
 use Rattle.cf_run.specs.declared.engine.StepFault.TheVariants as stepped
-use Rattle.cf_run.specs.declared.record_reader.NextRecord.TheVariants as answer
+use Rattle.cf_records.specs.declared.record_reader.NextRecord.TheVariants as answer
 use Rattle.cf_run.specs.declared.run.RunFault.{RunFault}
 use Rattle.cf_run.specs.declared.summary.Summary.{Summary}
-use Rattle.cf_run.proofs.Behind.{StandsBehind}
+use Rattle.cf_records.proofs.Behind.{StandsBehind}
 use Rattle.cf_run.proofs.HalfFiles.{capture_amid, log_amid, no_line_part, no_packet_part}
 use Rattle.cf_run.proofs.OutputFiles.{file_is}
 use Rattle.cf_run.proofs.Timers.{both_both, both_nothing}

@@ -3,6 +3,7 @@
 use Rattle.std.specs.Prelude.{ℕ, ◌-◌, nat_lt, Bool, true, false, ◌&&◌, if◌then◌else◌, List, length, position, slice_get, Option, Some, None}
 use Rattle.std.specs.List.{remove}
 use Rattle.std.specs.Option.{is_some}
+use Rattle.cf_policy.specs.AtEndpoint.{asset_place}
 use Rattle.cf_packet.specs.Packet.{PacketValue}
 use Rattle.cf_policy.specs.declared.Asset.{Asset}
 use Rattle.cf_session.specs.declared.life.Life.{Life}
@@ -41,10 +42,6 @@ entry_between assets client endpoint entry =
 
 abbrev pub place_in : List Asset → (client endpoint : Endpoint) → List Entry → Option ℕ
 place_in assets client endpoint table = position (entry_between assets client endpoint) table
-
--- the place of the asset at an endpoint
-abbrev pub asset_place : List Asset → Endpoint → Option ℕ
-asset_place assets endpoint = position (λ a. same_endpoint a.endpoint endpoint) assets
 
 -- a flow has no session, or a closed one
 abbrev pub is_closed_in : List Entry → Option ℕ → Bool

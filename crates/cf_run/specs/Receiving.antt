@@ -2,6 +2,7 @@
 use Rattle.std.specs.Prelude.{◌≡◌, ℕ, ◌+◌, ◌-◌, ◌≤◌, ◌&&◌, Bool, true, List, [], ◌∷◌, Option, Some, None, Result, Ok, Err, filter}
 use Rattle.std.specs.Prelude.{slice_get}
 use Rattle.std.specs.Option.{is_some}
+use Rattle.cf_policy.specs.AtEndpoint.{asset_at}
 use Rattle.cf_lane.specs.Judged.{one_if}
 use Rattle.cf_packet.specs.Packet.{PacketValue}
 use Rattle.cf_packet.specs.declared.packet.PacketRefusal.{PacketRefusal}
@@ -13,7 +14,7 @@ use Rattle.cf_session.specs.Told.{Told, with_both}
 use Rattle.cf_view.specs.declared.Side.{Side}
 use Rattle.cf_run.specs.Engine.{AreAll}
 use Rattle.cf_run.specs.Summary.{decided_in}
-use Rattle.cf_run.specs.Table.{Session, asset_at, match_of, may_begin, place_of}
+use Rattle.cf_run.specs.Table.{Session, match_of, may_begin, place_of}
 use Rattle.cf_run.specs.Trace.{Begun, Dropped, GoesOnAt, NoRoom, NoSession, Received, Receives, Went, after_received, is_cut, logged_at}
 use Rattle.cf_run.specs.Trace.{logged_received, sent_received, stays, with_event_at}
 use Rattle.cf_run.specs.declared.entry.Entry.{Entry}

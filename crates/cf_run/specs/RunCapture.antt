@@ -6,20 +6,20 @@ use Rattle.cf_outside.specs.declared.files.WriteAnswer.TheVariants as write
 use Rattle.cf_pcap.specs.Header.{output_octets}
 use Rattle.cf_policy.specs.declared.Asset.{Asset}
 use Rattle.cf_session.specs.Broken.{octets_of}
-use Rattle.cf_run.specs.Capture.{AtPlace, Clock, Cut, FileEnd, Large, LastPlace, Record, Refused, TooLong}
-use Rattle.cf_run.specs.Form.{first_place}
-use Rattle.cf_run.specs.Moments.{AreTimed, first_moment}
-use Rattle.cf_run.specs.declared.form.Form.{Form}
+use Rattle.cf_records.specs.Capture.{AtPlace, Clock, Cut, FileEnd, Large, LastPlace, Record, Refused, TooLong}
+use Rattle.cf_records.specs.Form.{first_place}
+use Rattle.cf_records.specs.Moments.{AreTimed, first_moment}
+use Rattle.cf_records.specs.declared.form.Form.{Form}
 use Rattle.cf_run.specs.Half.{Half, IsHalfBeforeBeginning, IsHalfOf}
 use Rattle.cf_run.specs.OutputFile.{record_octets}
-use Rattle.cf_run.specs.Reader.{HasForm}
+use Rattle.cf_records.specs.Reader.{HasForm}
 use Rattle.cf_run.specs.Run.{IsRun, capture_of, inputs, inputs_of}
 use Rattle.cf_run.specs.Selected.{Rises}
 use Rattle.cf_run.specs.Trace.{AreRunEvents, RunEvent, Input, logged, sent, table_after}
 use Rattle.cf_run.specs.declared.engine.StepFault.{StepFault}
 use Rattle.cf_run.specs.declared.engine.StepFault.TheVariants as stepped
-use Rattle.cf_run.specs.declared.record_reader.OpenFault.{OpenFault}
-use Rattle.cf_run.specs.declared.record_reader.OpenFault.TheVariants as opened
+use Rattle.cf_records.specs.declared.record_reader.OpenFault.{OpenFault}
+use Rattle.cf_records.specs.declared.record_reader.OpenFault.TheVariants as opened
 use Rattle.cf_run.specs.declared.run.RunFault.{RunFault}
 use Rattle.cf_run.specs.declared.run.RunFault.TheVariants as fault
 use Rattle.cf_run.specs.declared.run.RunNames.{RunNames}

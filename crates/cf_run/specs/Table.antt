@@ -1,8 +1,9 @@
 -- The table of sessions, and to which of them a packet goes: match_of. The sessions stand in the order of their beginning.
-use Rattle.std.specs.Prelude.{ℕ, ◌==◌, nat_lt, not, Bool, true, ◌&&◌, ◌||◌, if◌then◌else◌, List, length, find, position, slice_get, Option}
+use Rattle.std.specs.Prelude.{ℕ, nat_lt, not, Bool, true, ◌&&◌, if◌then◌else◌, List, length, position, slice_get, Option}
 use Rattle.std.specs.Prelude.{Some, None}
-use Rattle.std.specs.List.{list_any, remove}
-use Rattle.cf_leg.specs.Segment.{has_ack, has_fin, has_rst, has_syn}
+use Rattle.std.specs.List.{remove}
+use Rattle.cf_policy.specs.AtEndpoint.{asset_at, has_asset_at}
+use Rattle.cf_leg.specs.Segment.{is_opening}
 use Rattle.cf_packet.specs.Packet.{PacketValue}
 use Rattle.cf_policy.specs.declared.Asset.{Asset}
 use Rattle.cf_session.specs.Session.{Flow, SessionEvent, client_of, was_closed}
@@ -20,14 +21,6 @@ pub record Session : Type 0 where
 abbrev pub table_size : ℕ
 table_size = 256
 
--- the asset at an endpoint
-abbrev pub asset_at : List Asset → Endpoint → Option Asset
-asset_at assets endpoint = find (λ a. same_endpoint a.endpoint endpoint) assets
-
--- there is one
-abbrev pub has_asset_at : List Asset → Endpoint → Bool
-has_asset_at assets endpoint = list_any (λ a. same_endpoint a.endpoint endpoint) assets
-
 -- the session is between this client and the asset at this endpoint
 abbrev pub is_between : (client asset : Endpoint) → Session → Bool
 is_between client asset session = same_endpoint (client_of session.flow) client && same_endpoint session.flow.asset.endpoint asset
@@ -39,10 +32,6 @@ place_of client asset table = position (is_between client asset) table
 -- the table without that session
 abbrev pub without : (client asset : Endpoint) → List Session → List Session
 without client asset table = elim (place_of client asset table) [ Some place ↦ remove table place | None ↦ table ]
-
--- SYN without ACK, RST and FIN
-abbrev pub is_opening : PacketValue → Bool
-is_opening packet = has_syn packet && not (has_ack packet || (has_rst packet || has_fin packet))
 
 -- such a packet from an endpoint that is no asset's
 abbrev pub may_begin : List Asset → PacketValue → Bool

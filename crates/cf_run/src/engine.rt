@@ -124,8 +124,8 @@ impl Engine {
             &mut self.table,
             alloc,
             policy.assets.as_slice(),
-            self.limit,
             moment,
+            self.limit,
             link,
             bytes,
             desk,
@@ -151,8 +151,8 @@ fn step_table<D: Desk>(
     table: &mut Table,
     alloc: Global,
     assets: &[Asset],
+    moment: u64,
     limit: u64,
-    now: u64,
     link: &LinkKind,
     bytes: &[u8],
     desk: &mut D,
@@ -162,19 +162,19 @@ fn step_table<D: Desk>(
     requires due { AreDueFrom table.old.due table.old.sessions.items }
     requires size { length table.old.sessions.items ≤ 256 }
     requires limit { (1 ≤ limit) × (limit ≤ 2 ^ 30) }
-    requires moment { (2 ≤ now) × (now < moment_limit) }
+    requires moment { (2 ≤ moment) × (moment < moment_limit) }
     requires whole { DeskValue.whole (D.value desk.old) ≡ true }
-    ensures steps { IfOk result (λ happened. (before : List Known) (last : ℕ) → last + 1 ≤ now
+    ensures steps { IfOk result (λ happened. (before : List Known) (last : ℕ) → last + 1 ≤ moment
         → AreAll assets.now last table.old.sessions.items before →
-        (event : RunEvent) × Steps assets.now limit now (read_record link.now bytes.now) before table.new.sessions.items
+        (event : RunEvent) × Steps assets.now limit moment (read_record link.now bytes.now) before table.new.sessions.items
         (told (D.value desk.old)) (told (D.value desk.new)) happened event) }
-    ensures broken { IsErrOf result StepFault.Write → (before : List Known) (last : ℕ) → last + 1 ≤ now
+    ensures broken { IsErrOf result StepFault.Write → (before : List Known) (last : ℕ) → last + 1 ≤ moment
         → AreAll assets.now last table.old.sessions.items before
-        → StepBreaks assets.now limit before (record { moment = now; packet = read_record link.now bytes.now }) (D.value desk.old)
+        → StepBreaks assets.now limit before (record { moment = moment; packet = read_record link.now bytes.now }) (D.value desk.old)
         (D.value desk.new) }
-    ensures stops { IsErrOf result StepFault.NoMemory → (before : List Known) (last : ℕ) → last + 1 ≤ now
+    ensures stops { IsErrOf result StepFault.NoMemory → (before : List Known) (last : ℕ) → last + 1 ≤ moment
         → AreAll assets.now last table.old.sessions.items before
-        → StepStops assets.now before (record { moment = now; packet = read_record link.now bytes.now }) (told (D.value desk.old))
+        → StepStops assets.now before (record { moment = moment; packet = read_record link.now bytes.now }) (told (D.value desk.old))
         (told (D.value desk.new)) }
     ensures sound { OnOk result (AreSound assets.now limit table.new.sessions.items) }
     ensures due { OnOk result (AreDueFrom table.new.due table.new.sessions.items) }
@@ -182,11 +182,11 @@ fn step_table<D: Desk>(
     ensures memory { IsErrOf result StepFault.NoMemory → MayBegin assets.now (read_record link.now bytes.now) }
     ensures frame { EmitsAndLogs (D.value desk.old) (D.value desk.new) (has_failed result) }
 {
-    let cuts = match tick_all(table, assets, limit, now - 1, desk) {
+    let cuts = match tick_all(table, assets, moment - 1, limit, desk) {
         Ok(cuts) => cuts,
         Err(_) => return Err(StepFault::Write),
     };
-    match receive_record(table, alloc, assets, limit, now, link, bytes, desk) {
+    match receive_record(table, alloc, assets, moment, limit, link, bytes, desk) {
         Ok(outcome) => Ok(Happened { cuts, outcome }),
         Err(fault) => Err(fault),
     }
@@ -197,8 +197,8 @@ fn receive_record<D: Desk>(
     table: &mut Table,
     alloc: Global,
     assets: &[Asset],
+    moment: u64,
     limit: u64,
-    now: u64,
     link: &LinkKind,
     bytes: &[u8],
     desk: &mut D,
@@ -208,17 +208,17 @@ fn receive_record<D: Desk>(
     requires due { AreDueFrom table.old.due table.old.sessions.items }
     requires size { length table.old.sessions.items ≤ 256 }
     requires limit { (1 ≤ limit) × (limit ≤ 2 ^ 30) }
-    requires moment { (1 ≤ now) × (now < moment_limit) }
+    requires moment { (1 ≤ moment) × (moment < moment_limit) }
     requires whole { DeskValue.whole (D.value desk.old) ≡ true }
-    ensures received { IfOk result (λ outcome. ReceivesRecordOne assets.now limit now (read_record link.now bytes.now)
+    ensures received { IfOk result (λ outcome. ReceivesRecordOne assets.now limit moment (read_record link.now bytes.now)
         table.old.sessions.items table.new.sessions.items
         (told (D.value desk.old)) (told (D.value desk.new)) outcome) }
     ensures broken { IsErrOf result StepFault.Write
-        → ReceiveRecordBreaks assets.now limit now (read_record link.now bytes.now) table.old.sessions.items (D.value desk.old)
+        → ReceiveRecordBreaks assets.now limit moment (read_record link.now bytes.now) table.old.sessions.items (D.value desk.old)
         (D.value desk.new) }
     ensures nothing { IsErrOf result StepFault.NoMemory → desk.new ≡ desk.old }
     ensures beginning { IsErrOf result StepFault.NoMemory
-        → StopsBeginning assets.now now (read_record link.now bytes.now) table.old.sessions.items }
+        → StopsBeginning assets.now moment (read_record link.now bytes.now) table.old.sessions.items }
     ensures sound { OnOk result (AreSound assets.now limit table.new.sessions.items) }
     ensures due { OnOk result (AreDueFrom table.new.due table.new.sessions.items) }
     ensures size { IfOk result (λ outcome. IsSized outcome (length table.old.sessions.items) (length table.new.sessions.items)) }
@@ -226,7 +226,7 @@ fn receive_record<D: Desk>(
     ensures frame { EmitsAndLogs (D.value desk.old) (D.value desk.new) (has_failed result) }
 {
     match read_packet(link, bytes) {
-        Ok(packet) => receive(table, alloc, assets, limit, now, &packet, desk),
+        Ok(packet) => receive(table, alloc, assets, moment, limit, &packet, desk),
         Err(_) => Ok(Outcome::Dropped),
     }
 }

@@ -2,7 +2,7 @@
 ghost use Rattle.std.specs.Prelude.{◌≡◌, ◌<◌, Some, length, slice_get};
 ghost use Rattle.cf_lane.specs.Judged.{one_if};
 ghost use Rattle.cf_run.specs.Entries.{cuts_by, entry_between, place_in, stays_by};
-ghost use Rattle.cf_run.specs.Table.{has_asset_at};
+ghost use Rattle.cf_policy.specs.AtEndpoint.{has_asset_at};
 
 use cf_policy::Asset;
 use cf_session::{Life, Session};

@@ -25,13 +25,13 @@ fn tick_at<D: Desk>(
     table: &mut Vec<Entry>,
     place: usize,
     assets: &[Asset],
+    moment: u64,
     limit: u64,
-    now: u64,
     desk: &mut D,
 ) -> Result<Life, WriteFault>
     requires inside { place < length table.old.items }
     requires sound { AreSound assets.now limit table.old.items }
-    requires moment { now < moment_limit }
+    requires moment { moment < moment_limit }
     requires whole { DeskValue.whole (D.value desk.old) ≡ true }
     ensures before { take place table.new.items ≡ take place table.old.items }
     ensures after { drop (place + 1) table.new.items ≡ drop (place + 1) table.old.items }
@@ -39,15 +39,15 @@ fn tick_at<D: Desk>(
     ensures sound { IfOk result (λ life. stays_by life ≡ true → AreSound assets.now limit table.new.items) }
     ensures ticks { IfOk result (λ life. (before after : KnownEntry) → slice_get table.old.items place ≡ Some before
         → slice_get table.new.items place ≡ Some after
-        → TickAt assets.now now before after (told (D.value desk.old)) (told (D.value desk.new)) (stays_by life) (cuts_by life)) }
+        → TickAt assets.now moment before after (told (D.value desk.old)) (told (D.value desk.new)) (stays_by life) (cuts_by life)) }
     ensures broken { OnErr result ((before : KnownEntry) → slice_get table.old.items place ≡ Some before
         → (flow : Flow) (earlier : List SessionEvent) (event : SessionEvent) → IsSessionOf flow earlier event before.session
-        → slice_get assets.now before.asset ≡ Some flow.asset → BreaksTick flow (event ∷ earlier) now (D.value desk.old) (D.value desk.new)) }
+        → slice_get assets.now before.asset ≡ Some flow.asset → BreaksTick flow (event ∷ earlier) moment (D.value desk.old) (D.value desk.new)) }
     ensures frame { EmitsAndLogs (D.value desk.old) (D.value desk.new) (is_err result) }
 {
     let entry = &mut table[place];
     let asset = asset_of(assets, entry.asset);
-    let life = entry.session.on_clock(asset, now, desk)?;
+    let life = entry.session.on_clock(asset, moment, desk)?;
     entry.due = entry.session.due();
     Ok(life)
 }
@@ -57,26 +57,26 @@ fn tick_at<D: Desk>(
 pub fn tick_all<D: Desk>(
     table: &mut Table,
     assets: &[Asset],
+    moment: u64,
     limit: u64,
-    now: u64,
     desk: &mut D,
 ) -> Result<u64, WriteFault>
     requires sound { AreSound assets.now limit table.old.sessions.items }
     requires due { AreDueFrom table.old.due table.old.sessions.items }
     requires size { length table.old.sessions.items ≤ 256 }
-    requires moment { now < moment_limit }
+    requires moment { moment < moment_limit }
     requires whole { DeskValue.whole (D.value desk.old) ≡ true }
-    ensures ticks { IfOk result (λ cuts. (known : List Known) → AreAll assets.now now table.old.sessions.items known →
-        TickAll assets.now now known table.new.sessions.items (told (D.value desk.old)) (told (D.value desk.new)) cuts) }
-    ensures broken { OnErr result ((known : List Known) → AreAll assets.now now table.old.sessions.items known
-        → TicksBreak now known (D.value desk.old) (D.value desk.new)) }
+    ensures ticks { IfOk result (λ cuts. (known : List Known) → AreAll assets.now moment table.old.sessions.items known →
+        TickAll assets.now moment known table.new.sessions.items (told (D.value desk.old)) (told (D.value desk.new)) cuts) }
+    ensures broken { OnErr result ((known : List Known) → AreAll assets.now moment table.old.sessions.items known
+        → TicksBreak moment known (D.value desk.old) (D.value desk.new)) }
     ensures sound { OnOk result (AreSound assets.now limit table.new.sessions.items) }
     ensures due { OnOk result (AreDueFrom table.new.due table.new.sessions.items) }
     ensures fewer { IfOk result (λ cuts. cuts + length table.new.sessions.items ≤ length table.old.sessions.items) }
     ensures frame { EmitsAndLogs (D.value desk.old) (D.value desk.new) (is_err result) }
 {
     sessions_are_quiet_before_due();
-    if now < table.due {
+    if moment < table.due {
         return Ok(0);
     }
     each_session_has_a_tick();
@@ -85,11 +85,11 @@ pub fn tick_all<D: Desk>(
     let mut place = 0;
     'sessions: while place < table.sessions.len() {
         let next = table.sessions[place].due;
-        if now < next {
+        if moment < next {
             due = due.min(next);
             place += 1;
         } else {
-            let life = tick_at(&mut table.sessions, place, assets, limit, now, desk)?;
+            let life = tick_at(&mut table.sessions, place, assets, moment, limit, desk)?;
             count += cuts(&life);
             if stays(&life) {
                 due = due.min(table.sessions[place].due);

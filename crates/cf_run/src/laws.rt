@@ -2,8 +2,6 @@
 ghost use Rattle.cf_run.specs.Fixed.{RecordsFixEvents, RecordsFixRuns};
 ghost use Rattle.cf_run.specs.Headline.{RunsHaveHeadline};
 ghost use Rattle.cf_run.specs.Isolation.{RunsIsolateSessions};
-ghost use Rattle.cf_run.specs.Records.{BeginAtTwo, GoOnByTwo, HaveOneList, HaveOneTimedList, HaveRecords, HaveTimedRecords};
-ghost use Rattle.cf_run.specs.Records.{NoneAfterTheLastMoment, StayBelowTheLimit};
 ghost use Rattle.cf_run.specs.Selected.{SelectsByMoment};
 ghost use Rattle.cf_run.specs.Sessions.{SessionsAreIsolated, SessionsAreRight, SessionsHaveOneStream};
 
@@ -12,25 +10,6 @@ use cf_lane::rates_hold;
 use cf_session::{
     events_are_fixed, has_one_stream, sessions_send_what_is_let_in, work_is_of_what_was_taken,
 };
-
-/// The octets at a place of a file have one list of records and one last place, also where each record is tested with
-/// its moment.
-pub fn octets_have_one_list_of_records()
-    ensures some { HaveRecords }
-    ensures one { HaveOneList }
-    ensures some_timed { HaveTimedRecords }
-    ensures one_timed { HaveOneTimedList }
-{}
-
-/// The first moment is 2 microseconds after the epoch or later, each other one at least 2 microseconds after the moment
-/// before, none before its record's stamp, none later than it must be, and all below 2^32 seconds.
-pub fn moments_rise()
-    ensures first { BeginAtTwo }
-    ensures next { GoOnByTwo }
-    ensures below { StayBelowTheLimit }
-    // A record at 4294967295.999999 seconds is the last one: whatever stands after it is refused.
-    ensures last { NoneAfterTheLastMoment }
-{}
 
 /// The packets that an event sent in each of its halves are those of all that the run sent which have the moment of that half.
 pub fn selects_by_moment()

@@ -1,8 +1,10 @@
 //! To which session of the table a packet goes.
 ghost use Rattle.std.specs.Prelude.{◌≡◌, ◌<◌, ◌/◌, ◌%◌, ◌==◌};
+ghost use Rattle.cf_leg.specs.Segment.{is_opening};
+ghost use Rattle.cf_policy.specs.AtEndpoint.{asset_place};
 ghost use Rattle.cf_packet.specs.Packet.{packet_value};
-ghost use Rattle.cf_run.specs.Entries.{asset_place, begins_in, entry_match, goes_in, is_closed_in};
-ghost use Rattle.cf_run.specs.Table.{is_opening, may_begin};
+ghost use Rattle.cf_run.specs.Entries.{begins_in, entry_match, goes_in, is_closed_in};
+ghost use Rattle.cf_run.specs.Table.{may_begin};
 
 use crate::entry::{Entry, has_asset_at, place_in};
 use cf_packet::{ACK, FIN, Packet, RST, SYN};

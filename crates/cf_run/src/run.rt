@@ -9,29 +9,24 @@ ghost use Rattle.cf_pcap.specs.Header.{output_octets};
 ghost use Rattle.cf_policy.specs.Within.{AreAssetsWithin};
 ghost use Rattle.cf_run.specs.FileDesk.{are_whole, files_desk, files_told};
 ghost use Rattle.cf_run.specs.Half.{StepBreaks, StepStops};
-ghost use Rattle.cf_run.specs.Form.{first_place};
-ghost use Rattle.cf_run.specs.Reader.{HasForm};
+ghost use Rattle.cf_records.specs.Form.{first_place};
+ghost use Rattle.cf_records.specs.Reader.{HasForm};
 ghost use Rattle.cf_run.specs.RunCapture.{AreApart, IsCreatedInPart, RunsAs, RunsRecords, open_fault, run_names_value};
 ghost use Rattle.cf_run.specs.RunCapture.{step_fault};
 ghost use Rattle.cf_run.specs.Step.{IsEngineOf, IsSoundEngine, StepsOn};
 ghost use Rattle.cf_run.specs.Trace.{RunEvent, table_after};
 ghost use Rattle.cf_view.specs.Moment.{moment_limit};
 
-use crate::blocks::BlockRefusal;
 use crate::engine::{Engine, StepFault};
 use crate::file_desk::FileDesk;
-use crate::form::FormRefusal;
-use crate::record_reader::{NextRecord, OpenFault, RecordReader};
 use crate::summary::Summary;
 use cf_lane::LETTER_LIMIT;
 use cf_outside::{Files, WriteAnswer};
 use cf_pcap::write_header;
 use cf_policy::Policy;
+use cf_records::{BlockRefusal, FormRefusal, MOMENT_LIMIT, NextRecord, OpenFault, RecordReader};
 use std::alloc::Global;
 use thiserror::Error;
-
-/// The moment from which on no record is taken, in microseconds: 2^32 seconds. This project's own.
-pub const MOMENT_LIMIT: u64 = 4_294_967_296_000_000;
 
 /// The files of a run: the capture that is read, and the capture and the log that are written. All three names differ.
 #[derive(Clone, Copy, Debug)]
@@ -117,7 +112,7 @@ pub fn run_capture<F: Files>(
     ensures read { HasCause (F.read_faults files.old) (F.read_faults files.new) (IsErrOf result RunFault.Read) }
     ensures write { HasCause (F.write_faults files.old) (F.write_faults files.new) (IsErrOf result RunFault.Write) }
 {
-    let mut reader = RecordReader::open(alloc, files, names.capture)?;
+    let mut reader = RecordReader::open(alloc, names.capture, files)?;
     let Ok(mut engine) = Engine::new(alloc, LETTER_LIMIT as i64) else {
         return Err(RunFault::NoMemory);
     };
@@ -175,7 +170,7 @@ fn run_records<F: Files>(
 {
     let mut least = 2;
     'records: loop {
-        match reader.next(files, names.capture) {
+        match reader.next(names.capture, files) {
             NextRecord::Whole(stamp) => {
                 let moment = stamp.max(least);
                 if moment >= MOMENT_LIMIT {

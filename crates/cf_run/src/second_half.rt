@@ -51,8 +51,8 @@ pub fn receive<D: Desk>(
     table: &mut Table,
     alloc: Global,
     assets: &[Asset],
+    moment: u64,
     limit: u64,
-    now: u64,
     packet: &Packet<'_>,
     desk: &mut D,
 ) -> Result<Outcome, StepFault>
@@ -61,13 +61,13 @@ pub fn receive<D: Desk>(
     requires due { AreDueFrom table.old.due table.old.sessions.items }
     requires size { length table.old.sessions.items ≤ 256 }
     requires limit { (1 ≤ limit) × (limit ≤ 2 ^ 30) }
-    requires moment { (1 ≤ now) × (now < moment_limit) }
+    requires moment { (1 ≤ moment) × (moment < moment_limit) }
     requires text { length packet.now.text.now ≤ 65535 }
     requires whole { DeskValue.whole (D.value desk.old) ≡ true }
-    ensures received { IfOk result (λ outcome. ReceivesOne assets.now limit now (packet_value packet.now) table.old.sessions.items
+    ensures received { IfOk result (λ outcome. ReceivesOne assets.now limit moment (packet_value packet.now) table.old.sessions.items
         table.new.sessions.items
         (told (D.value desk.old)) (told (D.value desk.new)) outcome) }
-    ensures broken { IsErrOf result StepFault.Write → ReceiveBreaks assets.now limit now (packet_value packet.now) table.old.sessions.items
+    ensures broken { IsErrOf result StepFault.Write → ReceiveBreaks assets.now limit moment (packet_value packet.now) table.old.sessions.items
         (D.value desk.old) (D.value desk.new) }
     ensures nothing { IsErrOf result StepFault.NoMemory → desk.new ≡ desk.old }
     ensures sound { OnOk result (AreSound assets.now limit table.new.sessions.items) }
@@ -75,20 +75,20 @@ pub fn receive<D: Desk>(
     ensures size { IfOk result (λ outcome. IsSized outcome (length table.old.sessions.items) (length table.new.sessions.items)) }
     ensures memory { IsErrOf result StepFault.NoMemory → may_begin_one assets.now (packet_value packet.now) ≡ true }
     ensures beginning { IsErrOf result StepFault.NoMemory
-        → StopsBeginning assets.now now (Ok (packet_value packet.now)) table.old.sessions.items }
+        → StopsBeginning assets.now moment (Ok (packet_value packet.now)) table.old.sessions.items }
     ensures frame { EmitsAndLogs (D.value desk.old) (D.value desk.new) (has_failed result) }
 {
     match match_packet(&table.sessions, assets, packet) {
         Match::Begins { asset, closed } => {
             match begin(
-                table, alloc, assets, asset, closed, limit, now, packet, desk,
+                table, alloc, assets, asset, closed, moment, limit, packet, desk,
             ) {
                 Ok(()) => Ok(Outcome::Begun),
                 Err(fault) => Err(fault),
             }
         }
         Match::Goes { place, side } => {
-            match go_on(table, assets, place, side, limit, now, packet, desk) {
+            match go_on(table, assets, place, moment, side, limit, packet, desk) {
                 Ok(outcome) => Ok(outcome),
                 Err(fault) => Err(fault),
             }
@@ -105,8 +105,8 @@ fn begin<D: Desk>(
     assets: &[Asset],
     asset: usize,
     closed: Option<usize>,
+    moment: u64,
     limit: u64,
-    now: u64,
     packet: &Packet<'_>,
     desk: &mut D,
 ) -> Result<(), StepFault>
@@ -117,13 +117,13 @@ fn begin<D: Desk>(
     requires closed { IfSome closed (λ place. place < length table.old.sessions.items) }
     requires room { others (length table.old.sessions.items) closed < 256 }
     requires limit { (1 ≤ limit) × (limit ≤ 2 ^ 30) }
-    requires moment { (1 ≤ now) × (now < moment_limit) }
+    requires moment { (1 ≤ moment) × (moment < moment_limit) }
     requires whole { DeskValue.whole (D.value desk.old) ≡ true }
-    ensures begins { OnOk result (BeginsOne assets.now now asset closed (packet_value packet.now) table.old.sessions.items
+    ensures begins { OnOk result (BeginsOne assets.now moment asset closed (packet_value packet.now) table.old.sessions.items
         table.new.sessions.items
         (told (D.value desk.old)) (told (D.value desk.new))) }
     ensures broken { IsErrOf result StepFault.Write → (flow : Flow) → slice_get assets.now asset ≡ Some flow.asset
-        → flow.syn ≡ packet_value packet.now → BreaksBeginning flow (now - 1) (D.value desk.old) (D.value desk.new) }
+        → flow.syn ≡ packet_value packet.now → BreaksBeginning flow (moment - 1) (D.value desk.old) (D.value desk.new) }
     ensures nothing { IsErrOf result StepFault.NoMemory → desk.new ≡ desk.old }
     ensures sound { OnOk result (AreSound assets.now limit table.new.sessions.items) }
     ensures due { OnOk result (AreDueFrom table.new.due table.new.sessions.items) }
@@ -134,7 +134,7 @@ fn begin<D: Desk>(
     make_way(&mut table.sessions, closed);
     make_room(&mut table.sessions)?;
     let served = asset_of(assets, asset);
-    let session = match Session::begin(alloc, served, now, signed(limit), packet, desk) {
+    let session = match Session::begin(alloc, served, moment, signed(limit), packet, desk) {
         Ok(session) => session,
         Err(BeginFault::NoMemory) => return Err(StepFault::NoMemory),
         Err(BeginFault::Write) => return Err(StepFault::Write),
@@ -190,22 +190,22 @@ fn go_on<D: Desk>(
     table: &mut Table,
     assets: &[Asset],
     place: usize,
+    moment: u64,
     side: Side,
     limit: u64,
-    now: u64,
     packet: &Packet<'_>,
     desk: &mut D,
 ) -> Result<Outcome, StepFault>
     requires sound { AreSound assets.now limit table.old.sessions.items }
     requires due { AreDueFrom table.old.due table.old.sessions.items }
     requires inside { place < length table.old.sessions.items }
-    requires moment { (1 ≤ now) × (now < moment_limit) }
+    requires moment { (1 ≤ moment) × (moment < moment_limit) }
     requires text { length packet.now.text.now ≤ 65535 }
     requires whole { DeskValue.whole (D.value desk.old) ≡ true }
-    ensures goes { IfOk result (λ outcome. GoesOne assets.now limit now place side (packet_value packet.now) table.old.sessions.items
+    ensures goes { IfOk result (λ outcome. GoesOne assets.now limit moment place side (packet_value packet.now) table.old.sessions.items
         table.new.sessions.items
         (told (D.value desk.old)) (told (D.value desk.new)) outcome) }
-    ensures broken { IsErrOf result StepFault.Write → GoBreaks assets.now limit now place side (packet_value packet.now)
+    ensures broken { IsErrOf result StepFault.Write → GoBreaks assets.now limit moment place side (packet_value packet.now)
         table.old.sessions.items (D.value desk.old) (D.value desk.new) }
     ensures sound { OnOk result (AreSound assets.now limit table.new.sessions.items) }
     ensures due { OnOk result (AreDueFrom table.new.due table.new.sessions.items) }
@@ -217,7 +217,7 @@ fn go_on<D: Desk>(
     let asset = asset_of(assets, entry.asset);
     let admitted = entry.session.admitted();
     let refused = entry.session.refused();
-    let life = match entry.session.on_packet(asset, now, side, packet, desk) {
+    let life = match entry.session.on_packet(asset, moment, side, packet, desk) {
         Ok(life) => life,
         Err(_) => return Err(StepFault::Write),
     };

@@ -5,9 +5,9 @@ use Rattle.std.proofs.lemmas.Bool.{and_parts, false≢true}
 use Rattle.cf_isolation.proofs.Tables.{BegunHave, Has, begun_in, same_is, sessions_have}
 use Rattle.cf_packet.specs.Packet.{PacketValue}
 use Rattle.cf_policy.specs.declared.Asset.{Asset}
-use Rattle.cf_run.specs.Entries.{asset_place}
+use Rattle.cf_policy.specs.AtEndpoint.{asset_at, asset_place}
 use Rattle.cf_run.specs.Sessions.{Each, HasEvents, HasRightEvents as IsRightSession, sessions_of}
-use Rattle.cf_run.specs.Table.{Session, asset_at}
+use Rattle.cf_run.specs.Table.{Session}
 use Rattle.cf_view.specs.Endpoints.{same_endpoint}
 use Rattle.cf_run.specs.Trace.{AreRunEvents, RunEvent}
 use Rattle.cf_session.specs.Event.{AreEvents as AreSessionEvents}

@@ -11,7 +11,7 @@ use Rattle.cf_isolation.proofs.Tables.{IsOwn}
 use Rattle.cf_packet.specs.Packet.{PacketValue}
 use Rattle.cf_policy.specs.declared.Asset.{Asset}
 use Rattle.cf_readback.proofs.Legs.{LegsRight}
-use Rattle.cf_run.specs.Entries.{asset_place}
+use Rattle.cf_policy.specs.AtEndpoint.{asset_place}
 use Rattle.cf_session.specs.Event.{AreRight}
 use Rattle.cf_session.specs.Sent.{Sent, at, early, is_first_half, late, sent_first, sent_second}
 use Rattle.cf_session.specs.Session.{Flow, SessionEvent, client_ends, client_of, controller_ends}

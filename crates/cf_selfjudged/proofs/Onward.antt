@@ -10,7 +10,7 @@ use Rattle.cf_packet.specs.Packet.{PacketValue}
 use Rattle.cf_packet.specs.declared.packet.PacketRefusal.{PacketRefusal}
 use Rattle.cf_policy.specs.declared.Asset.{Asset}
 use Rattle.cf_readback.proofs.Legs.{each_back}
-use Rattle.cf_run.specs.Entries.{asset_place}
+use Rattle.cf_policy.specs.AtEndpoint.{asset_place}
 use Rattle.cf_run.specs.Sessions.{Each, HasRightEvents as IsRightSession, SessionsAreRight, gone_after, leaves, left_by_packet, session_at, sessions_of}
 use Rattle.cf_run.specs.Table.{Session, is_between, place_of, without}
 use Rattle.cf_view.specs.Endpoints.{same_endpoint}

@@ -7,7 +7,7 @@ use Rattle.std.proofs.lemmas.Option.{none-some, same_Some}
 use Rattle.std.proofs.lemmas.List.{append-nil}
 use Rattle.cf_packet.specs.Packet.{PacketValue}
 use Rattle.cf_view.specs.declared.Endpoint.{Endpoint}
-use Rattle.cf_run.specs.Table.{is_opening}
+use Rattle.cf_leg.specs.Segment.{is_opening}
 use Rattle.cf_view.specs.Endpoints.{same_endpoint}
 use Rattle.cf_watch.specs.Watched.{Watched, begins_anew, begun_by, goes_at, goes_to, is_between, last_place, later_place, with_packet}
 use Rattle.cf_selfjudged.specs.Separate.{pair_of}

@@ -4,12 +4,11 @@ use Rattle.std.specs.List.{AllByRecursion}
 use Rattle.std.proofs.lemmas.Bool.{and_parts, cases_Bool, not-false, not-true, or_parts}
 use Rattle.std.proofs.lemmas.Bool.Decides.{nat_tests}
 use Rattle.cf_leg.specs.Emits.{syn}
-use Rattle.cf_leg.specs.Segment.{has_ack, has_syn}
+use Rattle.cf_leg.specs.Segment.{has_ack, has_syn, is_opening}
 use Rattle.cf_packet.specs.Packet.{PacketValue}
 use Rattle.cf_session.specs.Session.{Flow, controller_ends}
 use Rattle.cf_stream.specs.Stream.{letter_count}
 use Rattle.cf_watch.specs.Carried.{Carried, top_of}
-use Rattle.cf_run.specs.Table.{is_opening}
 use Rattle.cf_watch.specs.Watched.{Watched, begins_anew, carried_by, with_packet}
 use Rattle.cf_selfjudged.specs.OneFlow.{Numbered, carried_on}
 use Rattle.cf_selfjudged.specs.Order.{SynsFirst}

@@ -7,8 +7,7 @@ use Rattle.cf_isolation.proofs.Tables.{same_is}
 use Rattle.cf_policy.proofs.FirstPlace.{first_at}
 use Rattle.cf_run.proofs.Matched.{place_by}
 use Rattle.cf_policy.specs.declared.Asset.{Asset}
-use Rattle.cf_run.specs.Entries.{asset_place}
-use Rattle.cf_run.specs.Table.{asset_at, has_asset_at}
+use Rattle.cf_policy.specs.AtEndpoint.{asset_at, asset_place, has_asset_at}
 use Rattle.cf_view.specs.Endpoints.{same_endpoint}
 use Rattle.cf_view.specs.declared.Endpoint.{Endpoint}
 

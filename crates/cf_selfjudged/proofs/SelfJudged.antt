@@ -8,9 +8,9 @@ use Rattle.cf_judge.specs.Plain.{AreRead, Whole}
 use Rattle.cf_packet.specs.Packet.{PacketValue}
 use Rattle.cf_policy.specs.declared.Asset.{Asset}
 use Rattle.cf_readback.specs.ReadBack.{ReadsAs, RunsAreReadBack, output_form, record_by}
-use Rattle.cf_run.specs.Capture.{AreRecords, FileEnd, LastPlace}
-use Rattle.cf_run.specs.Form.{first_place}
-use Rattle.cf_run.specs.Records.{HaveOneList}
+use Rattle.cf_records.specs.Capture.{AreRecords, FileEnd, LastPlace}
+use Rattle.cf_records.specs.Form.{first_place}
+use Rattle.cf_records.specs.Records.{HaveOneList}
 use Rattle.cf_run.specs.Sessions.{SessionsAreRight, sessions_of}
 use Rattle.cf_run.specs.Trace.{AreRunEvents, RunEvent, sent}
 use Rattle.cf_session.specs.Sent.{Sent}

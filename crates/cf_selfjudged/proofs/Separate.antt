@@ -5,7 +5,7 @@ use Rattle.std.proofs.lemmas.Bool.{cases_Bool}
 use Rattle.std.proofs.lemmas.Bool.Decides.{nat_tests}
 use Rattle.std.proofs.lemmas.Option.{none-some}
 use Rattle.cf_packet.specs.Packet.{PacketValue}
-use Rattle.cf_run.specs.Table.{is_opening}
+use Rattle.cf_leg.specs.Segment.{is_opening}
 use Rattle.cf_watch.specs.Watched.{Watched, begins_anew, begun_by, goes_at, goes_to, is_between, last_place, later_place}
 use Rattle.cf_selfjudged.specs.PairFlows.{pair_on}
 use Rattle.cf_selfjudged.specs.Separate.{pair_of}

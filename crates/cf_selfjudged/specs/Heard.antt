@@ -1,7 +1,7 @@
 -- Steps of the proof: the watched flows of a capture of sent packets are those of these packets: `WatchedAreHeard`.
 use Rattle.std.specs.Prelude.{◌≡◌, ◌+◌, ℕ, List, [], ◌∷◌, map, reverse}
 use Rattle.std.specs.List.{AllByRecursion}
-use Rattle.cf_run.specs.Capture.{Record}
+use Rattle.cf_records.specs.Capture.{Record}
 use Rattle.cf_policy.specs.declared.Asset.{Asset}
 use Rattle.cf_session.specs.Sent.{Sent}
 use Rattle.cf_watch.specs.Watched.{watched}

@@ -3,12 +3,11 @@
 use Rattle.std.specs.Prelude.{◌≡◌, ℕ, false, true, List, [], ◌∷◌, map, if◌then◌else◌}
 use Rattle.std.specs.List.{AllByRecursion}
 use Rattle.cf_leg.specs.Emits.{syn}
-use Rattle.cf_leg.specs.Segment.{has_ack, has_syn, letters_of}
+use Rattle.cf_leg.specs.Segment.{has_ack, has_syn, letters_of, is_opening}
 use Rattle.cf_packet.specs.Packet.{PacketValue}
 use Rattle.cf_session.specs.Session.{Flow, controller_ends}
 use Rattle.cf_stream.specs.Stream.{letter_count}
 use Rattle.cf_watch.specs.Carried.{Carried}
-use Rattle.cf_run.specs.Table.{is_opening}
 use Rattle.cf_watch.specs.Watched.{Watched, begins_anew, begun_by, with_packet}
 use Rattle.cf_selfjudged.specs.OneFlow.{Numbered, carried_on}
 use Rattle.cf_selfjudged.specs.Order.{SynsFirst}

@@ -12,7 +12,7 @@ use Rattle.cf_judge.specs.declared.judging.Judged.{Judged as Judgement}
 use Rattle.cf_outside.specs.Files.{holds}
 use Rattle.cf_view.specs.Moment.{moment_limit}
 use Rattle.cf_policy.specs.declared.Asset.{Asset}
-use Rattle.cf_run.specs.Capture.{Record}
+use Rattle.cf_records.specs.Capture.{Record}
 use Rattle.cf_run.specs.Run.{IsRun}
 use Rattle.cf_run.specs.Trace.{Input}
 use Rattle.cf_run.specs.declared.summary.Summary.{Summary}

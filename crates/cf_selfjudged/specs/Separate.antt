@@ -3,7 +3,7 @@ use Rattle.std.specs.Prelude.{◌≡◌, ◌&&◌, ◌==◌, ℕ, Bool, false, L
 use Rattle.cf_packet.specs.Packet.{PacketValue}
 use Rattle.cf_policy.specs.declared.Asset.{Asset}
 use Rattle.cf_view.specs.declared.Endpoint.{Endpoint}
-use Rattle.cf_run.specs.Entries.{asset_place}
+use Rattle.cf_policy.specs.AtEndpoint.{asset_place}
 use Rattle.cf_view.specs.Endpoints.{same_endpoint}
 use Rattle.cf_watch.specs.Watched.{Watched, is_between, with_record}
 use Rattle.cf_selfjudged.specs.OneFlow.{Numbered}

@@ -6,7 +6,8 @@ ghost use Rattle.cf_selfjudged.specs.Separate.{FlowsAreOfTheirPackets};
 ghost use Rattle.cf_selfjudged.specs.Speaks.{SessionsSpeak};
 
 use cf_readback::runs_are_read_back;
-use cf_run::{octets_have_one_list_of_records, sessions_are_right};
+use cf_records::octets_have_one_list_of_records;
+use cf_run::sessions_are_right;
 use cf_session::{segments_carry_to_both_sides, work_is_of_what_was_taken};
 use cf_unobjected::{beginnings_are_unobjected, readings_are_one};
 use cf_watch::one_stream_is_seen;

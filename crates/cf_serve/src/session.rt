@@ -9,6 +9,7 @@ ghost use Rattle.cf_outside.specs.Faults.{HasCause};
 ghost use Rattle.cf_outq.specs.SendQueue.{empty};
 ghost use Rattle.cf_outside.specs.Pair.{met_at};
 ghost use Rattle.cf_policy.specs.Within.{IsAssetWithin};
+ghost use Rattle.cf_relay.specs.declared.limit.TheConstants.{MOST_BYTES};
 ghost use Rattle.cf_relay.specs.Stands.{IsNewLane};
 ghost use Rattle.cf_serve.specs.Failing.{MissesReach, MissesTurn};
 ghost use Rattle.cf_serve.specs.Phase.{IsSoundBegun, MayTurn, Phase, ReachDoes, TurnDoes, end_of, last_value, linked_value};
@@ -158,10 +159,10 @@ fn begin<L: Links, D: Desk>(
         MomentAnswer::Told(moment) => {
             log_line(terms.asset, met, moment, What::Begun, desk)?;
             let relaying = Relaying::begun(
+                moment,
                 parts.lane,
                 parts.to_client,
                 parts.to_controller,
-                moment,
             );
             Ok(Reached::Begun(Linked { met, relaying }))
         }
@@ -225,7 +226,7 @@ impl Linked {
         requires within { IsAssetWithin terms.now.asset.now }
         requires may { MayTurn (listening_of terms.now) terms.now.most (Some (linked_value self.old)) }
         requires whole { DeskValue.whole (D.value desk.old) ≡ true }
-        requires buffer { length buf.old ≡ 4096 }
+        requires buffer { length buf.old ≡ MOST_BYTES }
         ensures place { L.place links.new ≡ L.place links.old }
         ensures does { IfOk result (λ end. (client : EndpointOf) → TurnDoes (listening_of terms.now) terms.now.most client
             (told_of L.Links session links.old) (told_of L.Links session links.new)
@@ -239,7 +240,7 @@ impl Linked {
         ensures whole { OnOk result (DeskValue.whole (D.value desk.new) ≡ true) }
         ensures log { WritesLog (D.value desk.old) (D.value desk.new) }
         ensures cause { HasCause (DeskValue.faults (D.value desk.old)) (DeskValue.faults (D.value desk.new)) (IsErr result) }
-        ensures buffer { length buf.new ≡ 4096 }
+        ensures buffer { length buf.new ≡ MOST_BYTES }
     {
         let answer = self
             .relaying
@@ -269,7 +270,7 @@ impl Served {
         requires most { 0 < terms.now.most }
         requires may { MayTurn (listening_of terms.now) terms.now.most (Phase.linked (phase_of self.old)) }
         requires whole { DeskValue.whole (D.value desk.old) ≡ true }
-        requires buffer { length buf.old ≡ 4096 }
+        requires buffer { length buf.old ≡ MOST_BYTES }
         ensures place { L.place links.new ≡ L.place links.old }
         ensures does { IfOk result (λ end. TurnDoes (listening_of terms.now) terms.now.most self.old.client
             (told_of L.Links self.old.number links.old) (told_of L.Links self.old.number links.new)
@@ -284,7 +285,7 @@ impl Served {
         ensures whole { OnOk result (DeskValue.whole (D.value desk.new) ≡ true) }
         ensures log { WritesLog (D.value desk.old) (D.value desk.new) }
         ensures cause { HasCause (DeskValue.faults (D.value desk.old)) (DeskValue.faults (D.value desk.new)) (IsErr result) }
-        ensures buffer { length buf.new ≡ 4096 }
+        ensures buffer { length buf.new ≡ MOST_BYTES }
     {
         match &mut self.linked {
             Some(linked) => linked.turn(terms, buf, self.number, links, desk),

@@ -7,6 +7,7 @@ ghost use Rattle.cf_outside.specs.Desk.{DeskValue};
 ghost use Rattle.cf_outside.specs.Faults.{HasCause};
 ghost use Rattle.cf_outside.specs.Pair.{Entry, FaultsBy};
 ghost use Rattle.cf_policy.specs.Within.{IsAssetWithin};
+ghost use Rattle.cf_relay.specs.declared.limit.TheConstants.{MOST_BYTES};
 ghost use Rattle.cf_serve.specs.Phase.{KeepsPlace, MayTurn, Phase, SeatDoes, StandsAs, listening_at, listening_of, listenings, phase_of};
 ghost use Rattle.cf_serve.specs.Failing.{MissesArrival, MissesRound, MissesRounds, MissesSeat, MissesStep, MissesTurns};
 ghost use Rattle.cf_serve.specs.Served.{HasMade, left_of};
@@ -23,6 +24,7 @@ use cf_driver::log_line;
 use cf_links::{ArriveAnswer, Service};
 use cf_outside::{Desk, MomentAnswer};
 use cf_policy::Asset;
+use cf_relay::MOST_BYTES;
 use cf_view::{Endpoint, WriteFault};
 use std::alloc::{AllocError, Global};
 
@@ -65,7 +67,7 @@ fn turn_one<L: Service, D: Desk>(
     requires most { 0 < terms.now.most }
     requires may { MayTurn (listening_of terms.now) terms.now.most (Phase.linked (phase_of served.old)) }
     requires whole { DeskValue.whole (D.value desk.old) ≡ true }
-    requires buffer { length buf.old ≡ 4096 }
+    requires buffer { length buf.old ≡ MOST_BYTES }
     ensures place { IfOk result (λ stays. KeepsPlace served.old.number (L.place links.old) (L.place links.new) stays) }
     ensures served { OnErr result (L.place links.new ≡ L.place links.old) }
     ensures round { LinksPlace.round_faults (L.place links.new) ≡ LinksPlace.round_faults (L.place links.old) }
@@ -84,7 +86,7 @@ fn turn_one<L: Service, D: Desk>(
     ensures whole { OnOk result (DeskValue.whole (D.value desk.new) ≡ true) }
     ensures log { WritesLog (D.value desk.old) (D.value desk.new) }
     ensures cause { HasCause (DeskValue.faults (D.value desk.old)) (DeskValue.faults (D.value desk.new)) (IsErr result) }
-    ensures buffer { length buf.new ≡ 4096 }
+    ensures buffer { length buf.new ≡ MOST_BYTES }
 {
     let number = served.number;
     if !links.is_ready(number) {
@@ -132,8 +134,8 @@ impl Table {
     /// Gives the session of a place its turn; it is taken out where it ends. Answers whether it stays.
     pub(crate) fn turn_at<L: Service, D: Desk>(
         &mut self,
-        index: usize,
         alloc: Global,
+        index: usize,
         places: &[Place<'_>],
         moment: u64,
         most: u64,
@@ -147,7 +149,7 @@ impl Table {
         requires within { AllByRecursion (λ place. IsAssetWithin (PlaceOf.asset place).now) places.now }
         requires most { 0 < most }
         requires whole { DeskValue.whole (D.value desk.old) ≡ true }
-        requires buffer { length buf.old ≡ 4096 }
+        requires buffer { length buf.old ≡ MOST_BYTES }
         ensures table { OnOk result (IsTable (listenings places.now) most (LinksPlace.serves (L.place links.new)) self.new.next
             (map phase_of self.new.sessions.items)) }
         ensures does { IfOk result (λ stays. (past : List TurnOf)
@@ -169,7 +171,7 @@ impl Table {
         ensures whole { OnOk result (DeskValue.whole (D.value desk.new) ≡ true) }
         ensures log { WritesLog (D.value desk.old) (D.value desk.new) }
         ensures cause { HasCause (DeskValue.faults (D.value desk.old)) (DeskValue.faults (D.value desk.new)) (IsErr result) }
-        ensures buffer { length buf.new ≡ 4096 }
+        ensures buffer { length buf.new ≡ MOST_BYTES }
     {
         let served = &mut self.sessions[index];
         let place = place_of(places, served.place);
@@ -222,10 +224,10 @@ impl Table {
         ensures log { WritesLog (D.value desk.old) (D.value desk.new) }
         ensures cause { HasCause (DeskValue.faults (D.value desk.old)) (DeskValue.faults (D.value desk.new)) (IsErr result) }
     {
-        let mut buf = [0u8; 4096];
+        let mut buf = [0u8; MOST_BYTES];
         let mut index = 0;
         while index < self.sessions.len() {
-            if self.turn_at(index, alloc, places, moment, most, &mut buf, links, desk)? {
+            if self.turn_at(alloc, index, places, moment, most, &mut buf, links, desk)? {
                 index += 1;
             }
         }

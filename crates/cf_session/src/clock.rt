@@ -28,35 +28,35 @@ impl Session {
     pub fn on_clock<D: Desk>(
         &mut self,
         asset: &Asset,
-        now: u64,
+        moment: u64,
         desk: &mut D,
     ) -> Result<Life, WriteFault>
         requires sound { IsSound asset.now self.old }
-        requires moment { now < moment_limit }
+        requires moment { moment < moment_limit }
         requires whole { DeskValue.whole (D.value desk.old) ≡ true }
         ensures ticks { IfOk result (λ life. (flow : Flow) (earlier : List SessionEvent) (last : SessionEvent) → flow.asset ≡ asset.now
             → IsSessionOf flow earlier last self.old
-            → TicksBy flow (last ∷ earlier) now self.new (told (D.value desk.old)) (told (D.value desk.new)) life) }
+            → TicksBy flow (last ∷ earlier) moment self.new (told (D.value desk.old)) (told (D.value desk.new)) life) }
         ensures broken { OnErr result ((flow : Flow) (earlier : List SessionEvent) (last : SessionEvent) → flow.asset ≡ asset.now
             → IsSessionOf flow earlier last self.old
-            → BreaksTick flow (last ∷ earlier) now (D.value desk.old) (D.value desk.new)) }
+            → BreaksTick flow (last ∷ earlier) moment (D.value desk.old) (D.value desk.new)) }
         ensures sound { IfOk result (λ life. IsLife life → IsSound asset.now self.new) }
         ensures same { (SessionValue.limit self.new ≡ SessionValue.limit self.old)
             × (SessionValue.source self.new ≡ SessionValue.source self.old) }
         ensures frame { EmitsAndLogs (D.value desk.old) (D.value desk.new) (is_err result) }
     {
-        if is_over(self.closed, now) {
+        if is_over(self.closed, moment) {
             return Ok(Life::Expired);
         }
         events_begin();
         if is_silent(
             self.controller
-                .on_clock(now, &mut self.to_controller, desk)?,
+                .on_clock(moment, &mut self.to_controller, desk)?,
         ) {
-            return self.cut_at(asset, now, CutReason::NoAnswer(Side::Controller), desk);
+            return self.cut_at(asset, moment, CutReason::NoAnswer(Side::Controller), desk);
         }
-        if is_silent(self.client.on_clock(now, &mut self.to_client, desk)?) {
-            return self.cut_at(asset, now, CutReason::NoAnswer(Side::Client), desk);
+        if is_silent(self.client.on_clock(moment, &mut self.to_client, desk)?) {
+            return self.cut_at(asset, moment, CutReason::NoAnswer(Side::Client), desk);
         }
         Ok(life_of(self.closed))
     }
@@ -82,12 +82,12 @@ fn expiry_of(closed: Option<u64>) -> u64
 }
 
 /// Sixty seconds have passed since a closing.
-fn is_over(closed: Option<u64>, now: u64) -> bool
-    ensures { result ≡ is_past closed now }
+fn is_over(closed: Option<u64>, moment: u64) -> bool
+    ensures { result ≡ is_past closed moment }
 {
     match closed {
         None => false,
-        Some(moment) => moment <= now && now - moment >= KEPT,
+        Some(at) => at <= moment && moment - at >= KEPT,
     }
 }
 

@@ -25,14 +25,14 @@ impl Session {
     pub(crate) fn cut_at<D: Desk>(
         &mut self,
         asset: &Asset,
-        now: u64,
+        moment: u64,
         reason: CutReason,
         desk: &mut D,
     ) -> Result<Life, WriteFault>
         requires within { IsAssetWithin asset.now }
         requires client_base { base_of (self.old.client).window ≤ 2 ^ 30 + window_size }
         requires controller_base { base_of (self.old.controller).window ≤ 2 ^ 30 + window_size }
-        requires moment { now < moment_limit }
+        requires moment { moment < moment_limit }
         requires whole { DeskValue.whole (D.value desk.old) ≡ true }
         ensures cuts { IfOk result (λ life. (life ≡ Life.Cut reason)
             × ((flow : Flow) (cs ds : List LegEvent) (c d : LegEvent) → flow.asset ≡ asset.now
@@ -41,21 +41,21 @@ impl Session {
             (record c { ending = Unspoken } ∷ cs)
             → IsLegBetween (client_ends flow) (SessionValue.client self.old) (SessionValue.to_client self.old)
             (record d { ending = Unspoken } ∷ ds)
-            → CutsBoth flow cs ds c d now reason (D.value desk.old) (D.value desk.new) false)) }
+            → CutsBoth flow cs ds c d moment reason (D.value desk.old) (D.value desk.new) false)) }
         ensures broken { OnErr result ((flow : Flow) (cs ds : List LegEvent) (c d : LegEvent) → flow.asset ≡ asset.now
             → SessionValue.source self.old ≡ client_of flow
             → IsLegBetween (controller_ends flow) (SessionValue.controller self.old) (SessionValue.to_controller self.old)
             (record c { ending = Unspoken } ∷ cs)
             → IsLegBetween (client_ends flow) (SessionValue.client self.old) (SessionValue.to_client self.old)
             (record d { ending = Unspoken } ∷ ds)
-            → CutsBoth flow cs ds c d now reason (D.value desk.old) (D.value desk.new) true) }
+            → CutsBoth flow cs ds c d moment reason (D.value desk.old) (D.value desk.new) true) }
         ensures same { (SessionValue.limit self.new ≡ SessionValue.limit self.old)
             × (SessionValue.source self.new ≡ SessionValue.source self.old) × (SessionValue.lane self.new ≡ SessionValue.lane self.old) }
         ensures frame { EmitsAndLogs (D.value desk.old) (D.value desk.new) (is_err result) }
     {
-        self.controller.cut(now, &self.to_controller, desk)?;
-        self.client.cut(now, &self.to_client, desk)?;
-        log_line(asset, self.source, now, What::Cut(reason), desk)?;
+        self.controller.cut(moment, &self.to_controller, desk)?;
+        self.client.cut(moment, &self.to_client, desk)?;
+        log_line(asset, self.source, moment, What::Cut(reason), desk)?;
         Ok(Life::Cut(reason))
     }
 }

@@ -102,27 +102,27 @@ impl Session {
     pub(crate) fn close<D: Desk>(
         &mut self,
         asset: &Asset,
-        now: u64,
+        moment: u64,
         desk: &mut D,
     ) -> Result<(), WriteFault>
         requires within { IsAssetWithin asset.now }
         requires whole { DeskValue.whole (D.value desk.old) ≡ true }
         ensures same { self.new ≡ record self.old { closed = SessionValue.closed self.new } }
         ensures closed { OnOk result (SessionValue.closed self.new ≡ option_or (SessionValue.closed self.old)
-            (if is_done_now self.old then Some now else None)) }
-        ensures told { OnOk result (told (D.value desk.new) ≡ with_both (told (D.value desk.old)) [] (closing_lines asset.now self.old now)) }
-        ensures broken { OnErr result (BreaksAmid [] (closing_lines asset.now self.old now) (D.value desk.old) (D.value desk.new)) }
+            (if is_done_now self.old then Some moment else None)) }
+        ensures told { OnOk result (told (D.value desk.new) ≡ with_both (told (D.value desk.old)) [] (closing_lines asset.now self.old moment)) }
+        ensures broken { OnErr result (BreaksAmid [] (closing_lines asset.now self.old moment) (D.value desk.old) (D.value desk.new)) }
         ensures frame { EmitsAndLogs (D.value desk.old) (D.value desk.new) (is_err result) }
     {
         if self.closed.is_some() || !self.is_done() {
             return Ok(());
         }
-        self.closed = Some(now);
+        self.closed = Some(moment);
         let (admitted, refused) = (self.lane.admitted(), self.lane.refused());
         log_line(
             asset,
             self.source,
-            now,
+            moment,
             What::Close { admitted, refused },
             desk,
         )?;

@@ -27,7 +27,7 @@ use cf_view::{Side, View, WriteFault};
 fn feed_lane<D: Desk>(
     lane: &mut Lane,
     asset: &Asset,
-    now: u64,
+    moment: u64,
     side: Side,
     bytes: View<'_>,
     to_client: &mut Outq,
@@ -47,14 +47,14 @@ fn feed_lane<D: Desk>(
         (piece : List ℕ) (ended : Bool) → IsEndBehindCut ended fed.cut
         → AreUncut asset.now client rests earlier before lane.old to_client.old to_controller.old → bytes.entry.bytes ≡ rest_of side rests
         ++ piece
-        → FollowsMore asset.now client now side (with_rest side rests (drop fed.used bytes.entry.bytes)) earlier before
+        → FollowsMore asset.now client moment side (with_rest side rests (drop fed.used bytes.entry.bytes)) earlier before
         (record { bytes = piece; ended = ended }) lane.new to_client.new to_controller.new fed.cut
         (told (D.value desk.old)) (told (D.value desk.new))) }
     ensures broken { OnErr result ((client : EndpointOf) (rests : Rests) (earlier : List Element) (before : Work) (piece : List ℕ)
         (ended : Bool)
         → AreUncut asset.now client rests earlier before lane.old to_client.old to_controller.old → bytes.entry.bytes ≡ rest_of side rests
         ++ piece
-        → FollowsAmid asset.now client now side earlier before (record { bytes = piece; ended = ended }) (D.value desk.old)
+        → FollowsAmid asset.now client moment side earlier before (record { bytes = piece; ended = ended }) (D.value desk.old)
         (D.value desk.new)) }
     ensures serves { OnOk result (IsLaneOf asset.now lane.new) }
     ensures client_grows { IfOk result (λ fed. Grows (2 * fed.used) (debt lane.old) (debt lane.new) to_client.old to_client.new) }
@@ -68,7 +68,7 @@ fn feed_lane<D: Desk>(
     judgements_go_on();
     // The fact: the bytes are octets.
     let _len = bytes.len();
-    let fed = lane.feed(asset, now, side, bytes, to_client, to_controller, desk)?;
+    let fed = lane.feed(asset, moment, side, bytes, to_client, to_controller, desk)?;
     Ok(fed)
 }
 
@@ -76,7 +76,7 @@ fn feed_lane<D: Desk>(
 fn end_lane<D: Desk>(
     lane: &mut Lane,
     asset: &Asset,
-    now: u64,
+    moment: u64,
     side: Side,
     rest: u64,
     to_client: &mut Outq,
@@ -90,15 +90,15 @@ fn end_lane<D: Desk>(
     requires limit { MayEnd side to_client.old to_controller.old }
     ensures follows { OnOk result ((client : EndpointOf) (rests : Rests) (earlier : List Element) (before : Work) (piece : List ℕ)
         (middle : Work)
-        → AreUncut asset.now client rests (earlier ++ fed_at now side (record { bytes = piece; ended = false })) middle
+        → AreUncut asset.now client rests (earlier ++ fed_at moment side (record { bytes = piece; ended = false })) middle
         lane.old to_client.old to_controller.old → rest ≡ length (rest_of side rests)
-        → FollowsMore asset.now client now side rests earlier middle (record { bytes = piece; ended = true })
+        → FollowsMore asset.now client moment side rests earlier middle (record { bytes = piece; ended = true })
         lane.new to_client.new to_controller.new None (told (D.value desk.old)) (told (D.value desk.new))) }
     ensures broken { OnErr result ((client : EndpointOf) (rests : Rests) (earlier : List Element) (before : Work) (piece : List ℕ)
         (middle : Work)
-        → AreUncut asset.now client rests (earlier ++ fed_at now side (record { bytes = piece; ended = false })) middle
+        → AreUncut asset.now client rests (earlier ++ fed_at moment side (record { bytes = piece; ended = false })) middle
         lane.old to_client.old to_controller.old → rest ≡ length (rest_of side rests)
-        → FollowsAmid asset.now client now side earlier middle (record { bytes = piece; ended = true }) (D.value desk.old)
+        → FollowsAmid asset.now client moment side earlier middle (record { bytes = piece; ended = true }) (D.value desk.old)
         (D.value desk.new)) }
     ensures queues { OnOk result (EndsOther side to_client.old to_controller.old to_client.new to_controller.new) }
     ensures lane { lane.new ≡ lane.old }
@@ -106,7 +106,7 @@ fn end_lane<D: Desk>(
 {
     pieces_join();
     streams_go_on();
-    lane.ended(asset, now, side, rest, to_client, to_controller, desk)?;
+    lane.ended(asset, moment, side, rest, to_client, to_controller, desk)?;
     Ok(())
 }
 
@@ -135,7 +135,7 @@ pub(crate) fn hand_over<D: Desk>(
     leg: &mut Leg,
     lane: &mut Lane,
     asset: &Asset,
-    now: u64,
+    moment: u64,
     side: Side,
     to_client: &mut Outq,
     to_controller: &mut Outq,
@@ -151,13 +151,13 @@ pub(crate) fn hand_over<D: Desk>(
     ensures follows { IfOk result (λ cut. (client : EndpointOf) (rests : Rests) (earlier : List Element) (before : Work) (piece : List ℕ)
         → AreUncut asset.now client rests earlier before lane.old to_client.old to_controller.old
         → leg.old.window.pending ≡ rest_of side rests ++ piece
-        → FollowsMore asset.now client now side (with_rest side rests leg.new.window.pending) earlier before
+        → FollowsMore asset.now client moment side (with_rest side rests leg.new.window.pending) earlier before
         (record { bytes = piece; ended = leg.old.window.ended }) lane.new to_client.new to_controller.new cut
         (told (D.value desk.old)) (told (D.value desk.new))) }
     ensures broken { OnErr result ((client : EndpointOf) (rests : Rests) (earlier : List Element) (before : Work) (piece : List ℕ)
         → AreUncut asset.now client rests earlier before lane.old to_client.old to_controller.old
         → leg.old.window.pending ≡ rest_of side rests ++ piece
-        → FollowsAmid asset.now client now side earlier before (record { bytes = piece; ended = leg.old.window.ended })
+        → FollowsAmid asset.now client moment side earlier before (record { bytes = piece; ended = leg.old.window.ended })
         (D.value desk.old) (D.value desk.new)) }
     ensures serves { OnOk result (IsLaneOf asset.now lane.new) }
     ensures rest { IfOk result (λ cut. cut ≡ None → length leg.new.window.pending < rest_limit) }
@@ -170,7 +170,7 @@ pub(crate) fn hand_over<D: Desk>(
     let Fed { used, cut } = feed_lane(
         lane,
         asset,
-        now,
+        moment,
         side,
         pending_of(leg),
         to_client,
@@ -185,6 +185,15 @@ pub(crate) fn hand_over<D: Desk>(
         return Ok(None);
     }
     let rest = pending_of(leg).len() as u64;
-    end_lane(lane, asset, now, side, rest, to_client, to_controller, desk)?;
+    end_lane(
+        lane,
+        asset,
+        moment,
+        side,
+        rest,
+        to_client,
+        to_controller,
+        desk,
+    )?;
     Ok(None)
 }

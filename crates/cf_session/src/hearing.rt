@@ -5,7 +5,8 @@ ghost use Rattle.cf_lane.specs.Follows.{Rests, rest_of};
 ghost use Rattle.cf_lane.specs.Handled.{IsLaneOf};
 ghost use Rattle.cf_lane.specs.History.{Element, taken};
 ghost use Rattle.cf_leg.specs.Calls.{Continues, Heard as LegHeard, KeepsList, Newly};
-ghost use Rattle.cf_leg.specs.Event.{LegEvent, Nothing, Unspoken, moment};
+ghost use Rattle.cf_leg.specs.Event.{LegEvent, Nothing, Unspoken};
+ghost use Rattle.cf_leg.specs.Event as leg_event;
 ghost use Rattle.cf_leg.specs.Heard.{offers};
 ghost use Rattle.cf_leg.specs.declared.Ends.{Ends};
 ghost use Rattle.cf_outq.specs.SendQueue.{IsQueueOf};
@@ -46,7 +47,7 @@ pub(crate) struct Heard {
 /// The leg of a side takes in a packet. Its queue is that to this side.
 fn take_in(
     leg: &mut Leg,
-    now: u64,
+    moment: u64,
     side: Side,
     packet: &Packet<'_>,
     to_client: &mut Outq,
@@ -54,11 +55,11 @@ fn take_in(
 ) -> LegAnswer
     requires base { base_of leg.old.window ≤ 2 ^ 30 + window_size }
     requires text { length packet.now.text.now ≤ 65535 }
-    requires moment { now < moment_limit }
+    requires moment { moment < moment_limit }
     ensures ends { leg.new.ends ≡ leg.old.ends }
-    ensures heard { LegHeard now (packet_value packet.now) leg.old leg.new (own_queue side to_client.old to_controller.old)
+    ensures heard { LegHeard moment (packet_value packet.now) leg.old leg.new (own_queue side to_client.old to_controller.old)
         (own_queue side to_client.new to_controller.new) result }
-    ensures newly { Newly now (packet_value packet.now) leg.old leg.new (own_queue side to_client.old to_controller.old) }
+    ensures newly { Newly moment (packet_value packet.now) leg.old leg.new (own_queue side to_client.old to_controller.old) }
     ensures window { Continues leg.old.window leg.new.window }
     ensures client { KeepsList to_client.old to_client.new }
     ensures controller { KeepsList to_controller.old to_controller.new }
@@ -67,8 +68,8 @@ fn take_in(
     ensures controller_stands { (whole : Stream) → IsQueueOf to_controller.old whole → IsQueueOf to_controller.new whole }
 {
     match side {
-        Side::Client => leg.on_segment(now, packet, to_client),
-        Side::Controller => leg.on_segment(now, packet, to_controller),
+        Side::Client => leg.on_segment(moment, packet, to_client),
+        Side::Controller => leg.on_segment(moment, packet, to_controller),
     }
 }
 
@@ -77,7 +78,7 @@ pub(crate) fn hear<D: Desk>(
     leg: &mut Leg,
     lane: &mut Lane,
     asset: &Asset,
-    now: u64,
+    moment: u64,
     side: Side,
     packet: &Packet<'_>,
     to_client: &mut Outq,
@@ -87,27 +88,27 @@ pub(crate) fn hear<D: Desk>(
     requires serves { IsLaneOf asset.now lane.old }
     requires within { IsAssetWithin asset.now }
     requires text { length packet.now.text.now ≤ 65535 }
-    requires moment { now < moment_limit }
+    requires moment { moment < moment_limit }
     requires whole { DeskValue.whole (D.value desk.old) ≡ true }
     requires room { MayHear side leg.old lane.old to_client.old to_controller.old }
     ensures hears { IfOk result (λ heard. (ends : Ends) (client : EndpointOf) (e : LegEvent) (es : List LegEvent) (rests : Rests)
         (earlier : List Element) (before : Work)
-        → now ≡ moment e → IsLegBetween ends leg.old (own_queue side to_client.old to_controller.old)
+        → moment ≡ leg_event.moment e → IsLegBetween ends leg.old (own_queue side to_client.old to_controller.old)
         (record e { came = Nothing; ending = Unspoken } ∷ es)
         → AreUncut asset.now client rests earlier before lane.old to_client.old to_controller.old
         → rest_of side rests ≡ leg.old.window.pending
         → IsTaken (first_copy (offers ends.role es)) (taken side earlier)
-        → Hearing side ends asset.now client now e es (packet_value packet.now) rests earlier before leg.new lane.new to_client.new
+        → Hearing side ends asset.now client moment e es (packet_value packet.now) rests earlier before leg.new lane.new to_client.new
         to_controller.new heard.answer heard.cut
         (told (D.value desk.old)) (told (D.value desk.new))) }
     ensures broken { OnErr result ((ends : Ends) (client : EndpointOf) (e : LegEvent) (es : List LegEvent) (rests : Rests)
         (earlier : List Element) (before : Work)
-        → now ≡ moment e → IsLegBetween ends leg.old (own_queue side to_client.old to_controller.old)
+        → moment ≡ leg_event.moment e → IsLegBetween ends leg.old (own_queue side to_client.old to_controller.old)
         (record e { came = Nothing; ending = Unspoken } ∷ es)
         → AreUncut asset.now client rests earlier before lane.old to_client.old to_controller.old
         → rest_of side rests ≡ leg.old.window.pending
         → IsTaken (first_copy (offers ends.role es)) (taken side earlier)
-        → HearingAmid side ends asset.now client now e es (packet_value packet.now) earlier before (D.value desk.old) (D.value desk.new)) }
+        → HearingAmid side ends asset.now client moment e es (packet_value packet.now) earlier before (D.value desk.old) (D.value desk.new)) }
     ensures ends { OnOk result (leg.new.ends ≡ leg.old.ends) }
     ensures serves { OnOk result (IsLaneOf asset.now lane.new) }
     ensures room { IfOk result (λ heard. KeepsRoom side leg.old.window leg.new.window lane.old lane.new to_client.old to_client.new
@@ -115,12 +116,21 @@ pub(crate) fn hear<D: Desk>(
     ensures frame { EmitsAndLogs (D.value desk.old) (D.value desk.new) (is_err result) }
 {
     let had_ended = has_ended(leg);
-    let answer = take_in(leg, now, side, packet, to_client, to_controller);
+    let answer = take_in(leg, moment, side, packet, to_client, to_controller);
     // The fact: the window keeps its bounds.
     let _ended = has_ended(leg);
     if had_ended {
         return Ok(Heard { answer, cut: None });
     }
-    let cut = hand_over(leg, lane, asset, now, side, to_client, to_controller, desk)?;
+    let cut = hand_over(
+        leg,
+        lane,
+        asset,
+        moment,
+        side,
+        to_client,
+        to_controller,
+        desk,
+    )?;
     Ok(Heard { answer, cut })
 }

@@ -4,7 +4,7 @@ ghost use Rattle.std.specs.Result.{is_err};
 ghost use Rattle.cf_outside.specs.Desk.{DeskValue};
 ghost use Rattle.cf_outside.specs.Frames.{EmitsAndLogs};
 ghost use Rattle.cf_lane.specs.Handled.{CountsBy, IsLaneOf};
-ghost use Rattle.cf_leg.specs.Event.{moment};
+ghost use Rattle.cf_leg.specs.Event as leg_event;
 ghost use Rattle.cf_packet.specs.Packet.{packet_value};
 ghost use Rattle.cf_session.specs.Broken.{BreaksPacket};
 ghost use Rattle.cf_session.specs.Event.{IsTick};
@@ -32,21 +32,21 @@ impl Session {
     pub fn on_packet<D: Desk>(
         &mut self,
         asset: &Asset,
-        now: u64,
+        moment: u64,
         side: Side,
         packet: &Packet<'_>,
         desk: &mut D,
     ) -> Result<Life, WriteFault>
         requires sound { IsSound asset.now self.old }
         requires text { length packet.now.text.now ≤ 65535 }
-        requires moment { now < moment_limit }
+        requires moment { moment < moment_limit }
         requires whole { DeskValue.whole (D.value desk.old) ≡ true }
         ensures hears { IfOk result (λ life. (flow : Flow) (earlier : List SessionEvent) (half : SessionEvent) → flow.asset ≡ asset.now
-            → IsSessionOf flow earlier half self.old → IsTick flow earlier half.client.tick half → moment half.client ≡ now
+            → IsSessionOf flow earlier half self.old → IsTick flow earlier half.client.tick half → leg_event.moment half.client ≡ moment
             → HearsBy flow (SessionValue.limit self.old) earlier half side (packet_value packet.now) self.new (told (D.value desk.old))
             (told (D.value desk.new)) life) }
         ensures broken { OnErr result ((flow : Flow) (earlier : List SessionEvent) (half : SessionEvent) → flow.asset ≡ asset.now
-            → IsSessionOf flow earlier half self.old → IsTick flow earlier half.client.tick half → moment half.client ≡ now
+            → IsSessionOf flow earlier half self.old → IsTick flow earlier half.client.tick half → leg_event.moment half.client ≡ moment
             → BreaksPacket flow (SessionValue.limit self.old) earlier half side (packet_value packet.now) (D.value desk.old)
             (D.value desk.new)) }
         ensures sound { IfOk result (λ life. IsLife life → IsSound asset.now self.new) }
@@ -55,7 +55,7 @@ impl Session {
             × (SessionValue.source self.new ≡ SessionValue.source self.old) }
         ensures frame { EmitsAndLogs (D.value desk.old) (D.value desk.new) (is_err result) }
     {
-        let heard = self.hear(asset, now, side, packet, desk)?;
+        let heard = self.hear(asset, moment, side, packet, desk)?;
         base_counts_the_taken();
         let full = self.full();
         if let Some(reason) = why(
@@ -65,10 +65,14 @@ impl Session {
             heard.cut,
             full,
         ) {
-            return self.cut_at(asset, now, reason, desk);
+            return self.cut_at(asset, moment, reason, desk);
         }
-        self.speak(now, greeting_number(side, heard.answer, packet.seq), desk)?;
-        self.close(asset, now, desk)?;
+        self.speak(
+            moment,
+            greeting_number(side, heard.answer, packet.seq),
+            desk,
+        )?;
+        self.close(asset, moment, desk)?;
         Ok(life_of(self.closed))
     }
 
@@ -76,21 +80,21 @@ impl Session {
     fn hear<D: Desk>(
         &mut self,
         asset: &Asset,
-        now: u64,
+        moment: u64,
         side: Side,
         packet: &Packet<'_>,
         desk: &mut D,
     ) -> Result<Heard, WriteFault>
         requires sound { IsSound asset.now self.old }
         requires text { length packet.now.text.now ≤ 65535 }
-        requires moment { now < moment_limit }
+        requires moment { moment < moment_limit }
         requires whole { DeskValue.whole (D.value desk.old) ≡ true }
         ensures hears { IfOk result (λ heard. (flow : Flow) (earlier : List SessionEvent) (half : SessionEvent) → flow.asset ≡ asset.now
-            → IsHalf half → moment half.client ≡ now → AreParts flow earlier half self.old
+            → IsHalf half → leg_event.moment half.client ≡ moment → AreParts flow earlier half self.old
             → HeardBy flow earlier half side (packet_value packet.now) self.new heard.answer heard.cut (told (D.value desk.old))
             (told (D.value desk.new))) }
         ensures broken { OnErr result ((flow : Flow) (earlier : List SessionEvent) (half : SessionEvent) → flow.asset ≡ asset.now
-            → IsHalf half → moment half.client ≡ now → AreParts flow earlier half self.old
+            → IsHalf half → leg_event.moment half.client ≡ moment → AreParts flow earlier half self.old
             → HeardAmid flow earlier half side (packet_value packet.now) (D.value desk.old) (D.value desk.new)) }
         ensures steady { IfOk result (λ heard. IsSteady self.new heard.cut) }
         ensures serves { OnOk result (IsLaneOf asset.now (SessionValue.lane self.new)) }
@@ -106,7 +110,7 @@ impl Session {
                     &mut self.client,
                     &mut self.lane,
                     asset,
-                    now,
+                    moment,
                     Side::Client,
                     packet,
                     &mut self.to_client,
@@ -120,7 +124,7 @@ impl Session {
                     &mut self.controller,
                     &mut self.lane,
                     asset,
-                    now,
+                    moment,
                     Side::Controller,
                     packet,
                     &mut self.to_client,

@@ -74,29 +74,29 @@ impl Session {
     pub fn begin<D: Desk>(
         alloc: Global,
         asset: &Asset,
-        now: u64,
+        moment: u64,
         limit: i64,
         syn: &Packet<'_>,
         desk: &mut D,
     ) -> Result<Session, BeginFault>
         requires within { IsAssetWithin asset.now }
-        requires moment { (1 ≤ now) × (now < moment_limit) }
+        requires moment { (1 ≤ moment) × (moment < moment_limit) }
         requires limit { (pos 1 ≤ℤ limit) × (limit ≤ℤ pos (2 ^ 30)) }
         requires whole { DeskValue.whole (D.value desk.old) ≡ true }
-        ensures begins { IfOk result (λ s. Begins (record { asset = asset.now; syn = packet_value syn.now }) (now - 1) s
+        ensures begins { IfOk result (λ s. Begins (record { asset = asset.now; syn = packet_value syn.now }) (moment - 1) s
             (told (D.value desk.old)) (told (D.value desk.new))) }
         ensures limit { IfOk result (λ s. limit ≡ pos s.limit) }
         ensures client { IfOk result (λ s. s.source ≡ syn.now.source) }
         ensures sound { IfOk result (λ s. IsSound asset.now s) }
         ensures nothing { IsErrOf result BeginFault.NoMemory → desk.new ≡ desk.old }
         ensures broken { IsErrOf result BeginFault.Write
-            → BreaksBeginning (record { asset = asset.now; syn = packet_value syn.now }) (now - 1) (D.value desk.old) (D.value desk.new) }
+            → BreaksBeginning (record { asset = asset.now; syn = packet_value syn.now }) (moment - 1) (D.value desk.old) (D.value desk.new) }
         ensures frame { EmitsAndLogs (D.value desk.old) (D.value desk.new) (has_failed result) }
     {
         let Ok(mut session) = Session::made(alloc, asset, limit as u64, syn) else {
             return Err(BeginFault::NoMemory);
         };
-        match session.greet_controller(asset, now, syn.seq, desk) {
+        match session.greet_controller(asset, moment, syn.seq, desk) {
             Ok(()) => Ok(session),
             Err(_) => Err(BeginFault::Write),
         }
@@ -130,7 +130,7 @@ impl Session {
     fn greet_controller<D: Desk>(
         &mut self,
         asset: &Asset,
-        now: u64,
+        moment: u64,
         number: u32,
         desk: &mut D,
     ) -> Result<(), WriteFault>
@@ -138,22 +138,22 @@ impl Session {
         requires made { (self.old.controller).phase ≡ Phase.Made }
         requires role { (self.old.controller).ends.role ≡ Role.Active number }
         requires base { base_of (self.old.controller).window ≡ 0 }
-        requires moment { (1 ≤ now) × (now < moment_limit) }
+        requires moment { (1 ≤ moment) × (moment < moment_limit) }
         requires whole { DeskValue.whole (D.value desk.old) ≡ true }
         ensures begins { OnOk result ((flow : Flow) → flow.asset ≡ asset.now → flow.syn.seq ≡ number → IsMade flow self.old
-            → Begins flow (now - 1) self.new (told (D.value desk.old)) (told (D.value desk.new))) }
+            → Begins flow (moment - 1) self.new (told (D.value desk.old)) (told (D.value desk.new))) }
         ensures broken { OnErr result ((flow : Flow) → flow.asset ≡ asset.now → flow.syn.seq ≡ number → IsMade flow self.old
-            → BreaksBeginning flow (now - 1) (D.value desk.old) (D.value desk.new)) }
+            → BreaksBeginning flow (moment - 1) (D.value desk.old) (D.value desk.new)) }
         ensures window { OnOk result (Widens true (self.old.controller).window (self.new.controller).window) }
         ensures queue { OnOk result (self.new.to_controller ≡ record self.old.to_controller { sent = (self.new.to_controller).sent }) }
         ensures same { OnOk result (self.new ≡ record self.old { controller = self.new.controller; to_controller = self.new.to_controller }) }
         ensures frame { EmitsAndLogs (D.value desk.old) (D.value desk.new) (is_err result) }
     {
         events_begin();
-        self.controller.greet(now, number, desk)?;
+        self.controller.greet(moment, number, desk)?;
         self.controller
-            .speak(now, true, &mut self.to_controller, desk)?;
-        log_line(asset, self.source, now, What::Begun, desk)?;
+            .speak(moment, true, &mut self.to_controller, desk)?;
+        log_line(asset, self.source, moment, What::Begun, desk)?;
         Ok(())
     }
 

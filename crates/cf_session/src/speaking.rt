@@ -1,7 +1,8 @@
 //! Both ends speak, that of the controller first, and the client is greeted where the controller's end has opened.
 ghost use Rattle.std.specs.Prelude.{◌≡◌, ◌*◌, ◌^◌, ◌<◌, true, List, ◌∷◌, [], OnErr, OnOk, None};
 ghost use Rattle.std.specs.Result.{is_err};
-ghost use Rattle.cf_leg.specs.Event.{LegEvent, Unspoken, moment};
+ghost use Rattle.cf_leg.specs.Event.{LegEvent, Unspoken};
+ghost use Rattle.cf_leg.specs.Event as leg_event;
 ghost use Rattle.cf_outq.specs.SendQueue.{IsQueueOf};
 ghost use Rattle.cf_outside.specs.Desk.{DeskValue};
 ghost use Rattle.cf_outside.specs.Frames.{EmitsAndLogs};
@@ -25,21 +26,21 @@ impl Session {
     /// Greets the client with the number of the controller's SYN, where there is one.
     fn greet_client<D: Desk>(
         &mut self,
-        now: u64,
+        moment: u64,
         number: Option<u32>,
         desk: &mut D,
     ) -> Result<(), WriteFault>
         requires steady { IsSteady self.old None }
-        requires moment { now < moment_limit }
+        requires moment { moment < moment_limit }
         requires whole { DeskValue.whole (D.value desk.old) ≡ true }
-        ensures greets { OnOk result ((flow : Flow) (d : LegEvent) (ds : List LegEvent) → now ≡ moment d → MayGreet number d ds
+        ensures greets { OnOk result ((flow : Flow) (d : LegEvent) (ds : List LegEvent) → moment ≡ leg_event.moment d → MayGreet number d ds
             → IsLegBetween (client_ends flow) (SessionValue.client self.old) (SessionValue.to_client self.old)
             (record d { ending = Unspoken } ∷ ds)
-            → GreetsClient flow now number d ds self.new (told (D.value desk.old)) (told (D.value desk.new))) }
-        ensures broken { OnErr result ((flow : Flow) (d : LegEvent) (ds : List LegEvent) → now ≡ moment d → MayGreet number d ds
+            → GreetsClient flow moment number d ds self.new (told (D.value desk.old)) (told (D.value desk.new))) }
+        ensures broken { OnErr result ((flow : Flow) (d : LegEvent) (ds : List LegEvent) → moment ≡ leg_event.moment d → MayGreet number d ds
             → IsLegBetween (client_ends flow) (SessionValue.client self.old) (SessionValue.to_client self.old)
             (record d { ending = Unspoken } ∷ ds)
-            → BreaksAmid (at now (greetings flow number)) [] (D.value desk.old) (D.value desk.new)) }
+            → BreaksAmid (at moment (greetings flow number)) [] (D.value desk.old) (D.value desk.new)) }
         ensures steady { OnOk result (IsSteady self.new None) }
         ensures window { OnOk result ((SessionValue.client self.new).window ≡ record (SessionValue.client self.old).window
             { edge = (SessionValue.client self.new).window.edge }) }
@@ -53,7 +54,7 @@ impl Session {
         if !self.client.is_made() {
             return Ok(());
         }
-        self.client.greet(now, number, desk)?;
+        self.client.greet(moment, number, desk)?;
         Ok(())
     }
 
@@ -61,19 +62,19 @@ impl Session {
     /// greeted with it.
     pub(crate) fn speak<D: Desk>(
         &mut self,
-        now: u64,
+        moment: u64,
         number: Option<u32>,
         desk: &mut D,
     ) -> Result<(), WriteFault>
         requires steady { IsSteady self.old None }
-        requires moment { now < moment_limit }
+        requires moment { moment < moment_limit }
         requires whole { DeskValue.whole (D.value desk.old) ≡ true }
         ensures says { OnOk result ((flow : Flow) (c d : LegEvent) (cs ds : List LegEvent) (w v : Stream)
-            → now ≡ moment c → now ≡ moment d → MayGreet number d ds → MaySpeak flow c d cs ds w v self.old
-            → SaysBoth flow now number c cs d ds w v (is_roomy self.old) self.new (told (D.value desk.old)) (told (D.value desk.new))) }
+            → moment ≡ leg_event.moment c → moment ≡ leg_event.moment d → MayGreet number d ds → MaySpeak flow c d cs ds w v self.old
+            → SaysBoth flow moment number c cs d ds w v (is_roomy self.old) self.new (told (D.value desk.old)) (told (D.value desk.new))) }
         ensures broken { OnErr result ((flow : Flow) (c d : LegEvent) (cs ds : List LegEvent) (w v : Stream)
-            → now ≡ moment c → now ≡ moment d → MayGreet number d ds → MaySpeak flow c d cs ds w v self.old
-            → SaysAmid flow now number c cs d ds w v (is_roomy self.old) (D.value desk.old) (D.value desk.new)) }
+            → moment ≡ leg_event.moment c → moment ≡ leg_event.moment d → MayGreet number d ds → MaySpeak flow c d cs ds w v self.old
+            → SaysAmid flow moment number c cs d ds w v (is_roomy self.old) (D.value desk.old) (D.value desk.new)) }
         ensures client_stands { OnOk result ((w : Stream) → IsQueueOf (SessionValue.to_client self.old) w
             → IsQueueOf (SessionValue.to_client self.new) w) }
         ensures controller_stands { OnOk result ((w : Stream) → IsQueueOf (SessionValue.to_controller self.old) w
@@ -88,9 +89,9 @@ impl Session {
         let _ended = (has_ended(&self.client), has_ended(&self.controller));
         let roomy = are_small(&self.to_client, &self.to_controller);
         self.controller
-            .speak(now, roomy, &mut self.to_controller, desk)?;
-        self.greet_client(now, number, desk)?;
-        self.client.speak(now, roomy, &mut self.to_client, desk)?;
+            .speak(moment, roomy, &mut self.to_controller, desk)?;
+        self.greet_client(moment, number, desk)?;
+        self.client.speak(moment, roomy, &mut self.to_client, desk)?;
         Ok(())
     }
 }

@@ -1,18 +1,15 @@
 -- A sifting that took an element.
-use Rattle.cf_lane.specs.Rings.{KnowsRules}
-use Rattle.std.proofs.Common.{◌≡◌, ◌≤◌, ◌+◌, ◌<◌, ℕ, Bool, true, false, None, Some, Option, List, [], ◌∷◌, ◌++◌, length, take, drop, refl, sym, ap, ◌∙◌, subst, inl, inr, arith, cond}
+use Rattle.std.proofs.Common.{◌≡◌, ◌≤◌, ◌+◌, ◌<◌, ℕ, true, false, None, Some, Option, List, [], ◌∷◌, ◌++◌, length, take, drop, refl, sym, ap, ◌∙◌, subst, inl, inr, arith, cond}
 use Rattle.std.specs.Option.{option_or}
 use Rattle.std.specs.Prelude.{◌||◌}
 use Rattle.std.proofs.Math.Seq.{take-append-add, drop-append-add}
-use Rattle.std.proofs.lemmas.List.{append-nil, length-append, length-drop}
+use Rattle.std.proofs.lemmas.List.{append-nil, length-append, length-drop, nil_from_length}
 use Rattle.cf_audit.specs.declared.line.CutReason.{CutReason}
 use Rattle.cf_driver.proofs.Histories.{ended_of-append, letters_more}
 use Rattle.cf_driver.proofs.Limits.{limit_is}
 use Rattle.cf_driver.proofs.Whole.{adds_whole}
 use Rattle.cf_driver.specs.Takes.{Takes}
-use Rattle.cf_lane.specs.Follows.{AreJudged, AreRests, Began, Follows}
-use Rattle.cf_lane.specs.Handled.{LaneValue}
-use Rattle.cf_lane.specs.Kept.{KnowsWire}
+use Rattle.cf_lane.specs.Follows.{AreJudged, Began, Follows}
 use Rattle.cf_lane.specs.History.{Element, bytes_at, end_at, ended_of, taken}
 use Rattle.cf_lane.specs.Judged.{Judged}
 use Rattle.cf_lane.specs.Laws.{GoOn, StreamsGoOn}
@@ -34,7 +31,7 @@ use Rattle.cf_sift.specs.Names.{SiftNamesValue}
 use Rattle.cf_sift.specs.Sifted.{ElementFails, HasLines, LineFails}
 use Rattle.cf_sift.specs.Stored.{cut_behind}
 use Rattle.cf_sift.specs.declared.sifting.Sifting.{Sifting}
-use Rattle.cf_sift.proofs.Logs.{lines_begun, lines_told}
+use Rattle.cf_sift.proofs.Logs.{lines_begun, lines_now}
 
 -- a drained queue has all of its bytes acknowledged
 acked_all : (q : Queue) (w : Stream) → IsDrained q → IsQueueOf q w → q.acked ≡ length w.bytes
@@ -68,15 +65,12 @@ file_part_more v w more kept first c d goes is had (k, now) = (
 
 nothing_more : (xs ys more : List ℕ) → ys ≡ xs ++ more → length ys ≡ length xs → ys ≡ xs
 nothing_more xs ys more is size =
-    let none : length more ≡ 0 = (let both = ap length is ∙ length-append xs more in omega (arith, both, size)) in
-    is ∙ ap (λ l. xs ++ l) (empty more none) ∙ append-nil xs
-  where
-    empty : (l : List ℕ) → length l ≡ 0 → l ≡ []
-    empty [] e = refl
-    empty (x ∷ l) e = cc
+    let both = ap length is ∙ length-append xs more in
+    is ∙ ap (λ l. xs ++ l) (nil_from_length more (omega (arith, both, size))) ∙ append-nil xs
 
-pub neither : (a b : Option CutReason) → option_or a b ≡ None → b ≡ None
-neither None b e = e
+-- a cut that is none is none of its parts
+pub neither : (a b : Option CutReason) → option_or a b ≡ None → (a ≡ None) × (b ≡ None)
+neither None b e = (refl, e)
 neither (Some x) b e = cc
 
 -- a queue all of whose bytes were moved
@@ -152,8 +146,7 @@ module _ (asset : Asset) (client : Endpoint) (names : SiftNamesValue) (first : L
           let of_lines : file_lines (now names.log) ≡ with_lines (file_lines (first names.log)) (lines asset client [] are) =
           fed.of_lines ∙ ap (λ (p : Endpoint). with_lines (file_lines (first names.log)) (lines asset p [] are)) (takes.client ∙ before.of_client) in
           subst (HasLines (lines asset client [] are ++ []) (first names.log)) (sym same)
-          (subst (λ ls. HasLines ls (first names.log) (now names.log)) (sym (append-nil (lines asset client [] are)))
-          (lines_told (first names.log) (now names.log) (lines asset client [] are) before.log_first whole of_lines))
+          (lines_now (first names.log) (now names.log) (lines asset client [] are) before.log_first whole of_lines)
 
       -- the queues got what the element put out
       module _ (client_drained : IsDrained sifting.to_client) (controller_drained : IsDrained sifting.to_controller) where
@@ -166,71 +159,70 @@ module _ (asset : Asset) (client : Endpoint) (names : SiftNamesValue) (first : L
             (outputs asset side.Controller were goes.ms) controller_drained before.follows.controller_stream takes.to_controller.acked fed.controller_stream goes.to_controller
 
         -- an append failed
-        pub moves_fail : (new : List ℕ → Content) → new names.log ≡ now names.log → MovesFail names mid now new →
+        pub moves_fail : (new : List ℕ → Content) (last : Sifting) → new names.log ≡ now names.log → MovesFail names mid last now new →
             ElementFails asset client names first new h were e
-        moves_fail new log (inl (part, same)) = inr (inl (record {
+        moves_fail new last log (inl (part, still, same)) = inr (inl (record {
           judged = are;
           are_judged = are_judged;
           of_out = file_part_more (outputs asset side.Controller [] were) (outputs asset side.Controller [] are) (outputs asset side.Controller were goes.ms)
-              mid.to_controller.kept (first names.out) (now names.out) (new names.out) goes.to_controller controller_kept (out ∙ before.of_out) part;
+              mid.to_controller.kept (first names.out) (now names.out) (new names.out) goes.to_controller controller_kept (out ∙ before.of_out) (part.gone + part.more, part.file);
           of_replies = same ∙ replies ∙ before.of_replies;
           of_log = has_lines new log;
         }))
-        moves_fail new log (inr (all, part)) = inr (inr (inl (record {
+        moves_fail new last log (inr (all, part)) = inr (inr (inl (record {
           judged = are;
           are_judged = are_judged;
           of_out = file_more (outputs asset side.Controller [] were) (outputs asset side.Controller [] are) (outputs asset side.Controller were goes.ms)
-              mid.to_controller.kept (first names.out) (now names.out) (new names.out) goes.to_controller controller_kept (out ∙ before.of_out) all;
+              mid.to_controller.kept (first names.out) (now names.out) (new names.out) goes.to_controller controller_kept (out ∙ before.of_out) all.file;
           of_replies = file_part_more (outputs asset side.Client [] were) (outputs asset side.Client [] are) (outputs asset side.Client were goes.ms)
-              mid.to_client.kept (first names.replies) (now names.replies) (new names.replies) goes.to_client client_kept (replies ∙ before.of_replies) part;
+              mid.to_client.kept (first names.replies) (now names.replies) (new names.replies) goes.to_client client_kept (replies ∙ before.of_replies) (part.gone + part.more, part.file);
           of_log = has_lines new log;
         })))
 
         -- all bytes were moved
-        module _ (new : List ℕ → Content) (last : Sifting) (same : last ≡ record mid { to_client = last.to_client; to_controller = last.to_controller })
-            (log : new names.log ≡ now names.log)
-            (client_drains : Drains mid.to_client last.to_client (now names.replies) (new names.replies))
-            (controller_drains : Drains mid.to_controller last.to_controller (now names.out) (new names.out))
-            (client_stands : (w : Stream) → IsQueueOf mid.to_client w → IsQueueOf last.to_client w)
-            (controller_stands : (w : Stream) → IsQueueOf mid.to_controller w → IsQueueOf last.to_controller w)
+        module _ (new : List ℕ → Content) (to_client to_controller : Queue) (log : new names.log ≡ now names.log)
+            (client_drains : Drains mid.to_client to_client (now names.replies) (new names.replies))
+            (controller_drains : Drains mid.to_controller to_controller (now names.out) (new names.out))
+            (client_stands : (w : Stream) → IsQueueOf mid.to_client w → IsQueueOf to_client w)
+            (controller_stands : (w : Stream) → IsQueueOf mid.to_controller w → IsQueueOf to_controller w)
             (letters : mid.heard.letters ≡ letter_count (taken side.Client (h ++ e ∷ []))) (quiet : letter_count (taken side.Controller (h ++ e ∷ [])) ≡ 0) where
-          lane_same : last.lane ≡ mid.lane
-          lane_same = ap (λ (f : Sifting). f.lane) same
+          abbrev moved : Sifting
+          moved = record mid { to_client = to_client; to_controller = to_controller }
 
-          follows : Follows asset (h ++ e ∷ []) (client_rests last.heard.rest.items) cut (file_lines (first names.log)) (state_of last (new names.log))
+          follows : Follows asset (h ++ e ∷ []) (client_rests mid.heard.rest.items) cut (file_lines (first names.log)) (state_of moved (new names.log))
           follows = record {
             judged = are;
-            are_judged = subst (λ (l : LaneValue). AreJudged asset l.client.address (h ++ e ∷ []) are) (sym lane_same) fed.are_judged;
+            are_judged = fed.are_judged;
             is_cut = fed.is_cut;
-            are_rests = subst (λ r. AreRests asset.protocol (h ++ e ∷ []) (client_rests r) cut) (sym (ap (λ (f : Sifting). f.heard.rest.items) same)) fed.are_rests;
+            are_rests = fed.are_rests;
             knows = record {
-              admitted = ap (λ (l : LaneValue). l.admitted) lane_same ∙ fed.knows.admitted;
-              refused = ap (λ (l : LaneValue). l.refused) lane_same ∙ fed.knows.refused;
+              admitted = fed.knows.admitted;
+              refused = fed.knows.refused;
               client_ended = client_drains.ended ∙ fed.knows.client_ended;
               controller_ended = controller_drains.ended ∙ fed.knows.controller_ended;
-              rules = subst (λ (l : LaneValue). KnowsRules l.rules are) (sym lane_same) fed.knows.rules;
-              wire = λ none. subst (λ (l : LaneValue). KnowsWire asset l.wire are) (sym lane_same) (fed.knows.wire none);
+              rules = fed.knows.rules;
+              wire = fed.knows.wire;
             };
             client_stream = client_stands (stream_to asset side.Client are) fed.client_stream;
             controller_stream = controller_stands (stream_to asset side.Controller are) fed.controller_stream;
-            of_lines = ap file_lines log ∙ fed.of_lines ∙ ap (λ (l : LaneValue). with_lines (file_lines (first names.log)) (lines asset l.client [] are)) (sym lane_same);
+            of_lines = ap file_lines log ∙ fed.of_lines;
           }
 
-          pub sifting_of : IsSiftingOf asset client names first new (h ++ e ∷ []) cut last
+          pub sifting_of : (last : Sifting) → last ≡ moved → IsSiftingOf asset client names first new (h ++ e ∷ []) cut last
           unfolding follows
-          sifting_of = record {
+          sifting_of last same = subst (IsSiftingOf asset client names first new (h ++ e ∷ []) cut) (sym same) (record {
             follows = follows;
-            of_client = ap (λ (l : LaneValue). l.client) lane_same ∙ takes.client ∙ before.of_client;
+            of_client = takes.client ∙ before.of_client;
             of_out = file_more (outputs asset side.Controller [] were) (outputs asset side.Controller [] are) (outputs asset side.Controller were goes.ms)
                 mid.to_controller.kept (first names.out) (now names.out) (new names.out) goes.to_controller controller_kept (out ∙ before.of_out) controller_drains.file;
             of_replies = file_more (outputs asset side.Client [] were) (outputs asset side.Client [] are) (outputs asset side.Client were goes.ms)
                 mid.to_client.kept (first names.replies) (now names.replies) (new names.replies) goes.to_client client_kept (replies ∙ before.of_replies) client_drains.file;
             log_first = before.log_first;
             log_now = ap ends_with_line log ∙ whole;
-            letters = ap (λ (f : Sifting). f.heard.letters) same ∙ letters;
+            letters = letters;
             ends = controller_drains.ended ∙ ends_after;
             quiet = quiet;
-          }
+          })
 
       -- nothing came of it
       pub sifting_ended : mid.to_client.pushed ≡ sifting.to_client.pushed → mid.to_controller.pushed ≡ sifting.to_controller.pushed →

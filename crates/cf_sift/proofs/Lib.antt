@@ -1,7 +1,6 @@
 mod Draining
 mod Elements
 mod Logs
-mod Missing
 mod Sifted
 mod Stored
 mod Streams

@@ -1,5 +1,5 @@
 -- Logs that got lines, or a beginning of them.
-use Rattle.std.proofs.Common.{◌≡◌, ◌+◌, arith, ℕ, true, List, [], ◌++◌, length, take, drop, sym, ap, ◌∙◌, append_assoc}
+use Rattle.std.proofs.Common.{◌≡◌, ◌+◌, arith, ℕ, true, List, [], ◌++◌, length, take, drop, refl, sym, ap, ◌∙◌, append_assoc}
 use Rattle.std.specs.List.{concat}
 use Rattle.std.proofs.Math.Seq.{take-append-add}
 use Rattle.std.proofs.lemmas.List.{append-nil, take-append-drop, take_all}
@@ -17,6 +17,22 @@ octets_are all = sym (lines_from-rest [] all)
 whole_lines : (all : List ℕ) → ends_with_line (holds all) ≡ true → all ≡ concat (lines_from [] all)
 whole_lines all whole = octets_are all ∙ ap (λ rest. concat (lines_from [] all) ++ rest) (nothing (rest_from [] all) whole) ∙ append-nil (concat (lines_from [] all))
 
+nothing_after : (now : Content) → ends_with_line now ≡ true → file_part now ≡ []
+nothing_after untold n = refl
+nothing_after absent n = refl
+nothing_after (holds x) n = nothing (rest_from [] x) n
+
+-- a log whose lines go on: it holds what it held, these lines, and what stands after its last line feed
+goes_on : (all : List ℕ) (now : Content) (ls : List (List ℕ)) → ends_with_line (holds all) ≡ true →
+    file_lines now ≡ with_lines (file_lines (holds all)) ls → now ≡ holds (all ++ (concat ls ++ file_part now))
+goes_on all untold ls f is = cc
+goes_on all absent ls f is = cc
+goes_on all (holds x) ls f is =
+    let same : lines_from [] x ≡ lines_from [] all ++ ls = cc in
+    let front : concat (lines_from [] all ++ ls) ≡ all ++ concat ls =
+    concat-append (lines_from [] all) ls ∙ ap (λ xs. xs ++ concat ls) (sym (whole_lines all f)) in
+    ap holds (octets_are x ∙ ap (λ xs. xs ++ rest_from [] x) (ap concat same ∙ front) ∙ append_assoc all (concat ls) (rest_from [] x))
+
 -- the first of some lines, and a beginning of what follows, are a beginning of all
 begins : (ls : List (List ℕ)) (count some : ℕ) →
     concat (take count ls) ++ take some (concat (drop count ls)) ≡ take (length (concat (take count ls)) + some) (concat ls)
@@ -28,56 +44,39 @@ pub lines_told : (first now : Content) (ls : List (List ℕ)) → ends_with_line
     file_lines now ≡ with_lines (file_lines first) ls → HasLines ls first now
 lines_told untold now ls f n is = tt
 lines_told absent now ls f n is = tt
-lines_told (holds all) untold ls f n is = cc
-lines_told (holds all) absent ls f n is = cc
-lines_told (holds all) (holds x) ls f n is =
-    let same : lines_from [] x ≡ lines_from [] all ++ ls = cc in
-    ap holds (whole_lines x n ∙ ap concat same ∙ concat-append (lines_from [] all) ls ∙ ap (λ xs. xs ++ concat ls) (sym (whole_lines all f)))
+lines_told (holds all) now ls f n is =
+    goes_on all now ls f is ∙ ap (λ rest. holds (all ++ (concat ls ++ rest))) (nothing_after now n) ∙ ap (λ xs. holds (all ++ xs)) (append-nil (concat ls))
+
+-- and no more
+pub lines_now : (first now : Content) (ls : List (List ℕ)) → ends_with_line first ≡ true → ends_with_line now ≡ true →
+    file_lines now ≡ with_lines (file_lines first) ls → HasLines (ls ++ []) first now
+lines_now first now ls f n is = lines_told first now (ls ++ []) f n (is ∙ ap (with_lines (file_lines first)) (sym (append-nil ls)))
 
 pub lines_begun : (first now : Content) (ls : List (List ℕ)) (count some : ℕ) → ends_with_line first ≡ true →
     file_lines now ≡ with_lines (file_lines first) (take count ls) → file_part now ≡ take some (concat (drop count ls)) → BeginsLines ls first now
 lines_begun untold now ls count some f is part = tt
 lines_begun absent now ls count some f is part = tt
-lines_begun (holds all) untold ls count some f is part = cc
-lines_begun (holds all) absent ls count some f is part = cc
-lines_begun (holds all) (holds x) ls count some f is part =
-    let same : lines_from [] x ≡ lines_from [] all ++ take count ls = cc in (
-      length (concat (take count ls)) + some,
-      ap holds (octets_are x ∙ ap (λ l. concat l ++ rest_from [] x) same
-          ∙ ap (λ p. concat (lines_from [] all ++ take count ls) ++ p) part
-          ∙ ap (λ c. c ++ take some (concat (drop count ls))) (concat-append (lines_from [] all) (take count ls) ∙ ap (λ xs. xs ++ concat (take count ls)) (sym (whole_lines all f)))
-          ∙ append_assoc all (concat (take count ls)) (take some (concat (drop count ls)))
-          ∙ ap (λ xs. all ++ xs) (begins ls count some)),
-    )
+lines_begun (holds all) now ls count some f is part = (
+  length (concat (take count ls)) + some,
+  goes_on all now (take count ls) f is ∙ ap (λ p. holds (all ++ (concat (take count ls) ++ p))) part
+      ∙ ap (λ xs. holds (all ++ xs)) (begins ls count some),
+)
 
 -- lines, and octets after them that are a beginning of more
 pub lines_then : (first now : Content) (ls more : List (List ℕ)) (k : ℕ) → ends_with_line first ≡ true →
     file_lines now ≡ with_lines (file_lines first) ls → file_part now ≡ take k (concat more) → HasLinesThen ls more first now
 lines_then untold now ls more k f is part = tt
 lines_then absent now ls more k f is part = tt
-lines_then (holds all) untold ls more k f is part = cc
-lines_then (holds all) absent ls more k f is part = cc
-lines_then (holds all) (holds x) ls more k f is part =
-    let same : lines_from [] x ≡ lines_from [] all ++ ls = cc in (
-      k,
-      ap holds (octets_are x ∙ ap (λ l. concat l ++ rest_from [] x) same
-          ∙ ap (λ p. concat (lines_from [] all ++ ls) ++ p) part
-          ∙ ap (λ c. c ++ take k (concat more)) (concat-append (lines_from [] all) ls ∙ ap (λ xs. xs ++ concat ls) (sym (whole_lines all f)))
-          ∙ append_assoc all (concat ls) (take k (concat more))),
-    )
+lines_then (holds all) now ls more k f is part = (k, goes_on all now ls f is ∙ ap (λ p. holds (all ++ (concat ls ++ p))) part)
 
 -- all of it, where the lines go on with them
 pub lines_all : (first now : Content) (ls more : List (List ℕ)) → ends_with_line first ≡ true →
     file_lines now ≡ with_lines (file_lines first) (ls ++ more) → file_part now ≡ [] → HasLinesThen ls more first now
 lines_all untold now ls more f is part = tt
 lines_all absent now ls more f is part = tt
-lines_all (holds all) untold ls more f is part = cc
-lines_all (holds all) absent ls more f is part = cc
-lines_all (holds all) (holds x) ls more f is part =
-    let same : lines_from [] x ≡ lines_from [] all ++ (ls ++ more) = cc in (
-      length (concat more),
-      ap holds (octets_are x ∙ ap (λ l. concat l ++ rest_from [] x) same
-          ∙ ap (λ p. concat (lines_from [] all ++ (ls ++ more)) ++ p) part ∙ append-nil (concat (lines_from [] all ++ (ls ++ more)))
-          ∙ concat-append (lines_from [] all) (ls ++ more) ∙ ap (λ xs. xs ++ concat (ls ++ more)) (sym (whole_lines all f))
-          ∙ ap (λ c. all ++ c) (concat-append ls more) ∙ ap (λ c. all ++ (concat ls ++ c)) (sym (take_all (length (concat more)) (concat more) (omega arith)))),
-    )
+lines_all (holds all) now ls more f is part = (
+  length (concat more),
+  goes_on all now (ls ++ more) f is ∙ ap (λ p. holds (all ++ (concat (ls ++ more) ++ p))) part
+      ∙ ap (λ xs. holds (all ++ xs)) (append-nil (concat (ls ++ more)) ∙ concat-append ls more
+      ∙ ap (λ xs. concat ls ++ xs) (sym (take_all (length (concat more)) (concat more) (omega arith)))),
+)

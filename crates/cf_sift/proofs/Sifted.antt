@@ -1,5 +1,5 @@
 -- A stored stream from the creation of its outputs to the line of its cut.
-use Rattle.std.proofs.Common.{◌≡◌, ◌≢◌, ℕ, true, false, None, Some, Option, Result, Ok, Err, List, [], ◌∷◌, ◌++◌, map, refl, sym, ap, ◌∙◌, append_assoc, subst, inl, inr}
+use Rattle.std.proofs.Common.{◌≡◌, ℕ, true, false, None, Some, Option, Result, Ok, Err, List, [], ◌∷◌, ◌++◌, map, refl, sym, ap, ◌∙◌, append_assoc, subst, inl, inr}
 use Rattle.std.specs.Prelude.{IsErrAnd, IsErrOf, IsSome}
 use Rattle.cf_audit.specs.declared.line.CutReason.{CutReason}
 use Rattle.cf_lane.specs.Follows.{Follows}
@@ -10,15 +10,16 @@ use Rattle.cf_lane.specs.Judged.{Judged, place_of}
 use Rattle.cf_lane.specs.Log.{lines, with_lines}
 use Rattle.cf_lane.specs.Output.{outputs}
 use Rattle.cf_outside.specs.Files.{Content, IsWhole, with_appended}
+use Rattle.cf_outside.specs.Frames.{KeepsOtherFiles}
 use Rattle.cf_outside.specs.Lines.{ends_with_line, file_lines, file_part}
 use Rattle.cf_outside.proofs.Content.{with_appended-nothing}
 use Rattle.cf_outside.proofs.Lines.{ends_with_line-create}
 use Rattle.cf_policy.specs.declared.Asset.{Asset}
 use Rattle.cf_view.specs.declared.Endpoint.{Endpoint}
 use Rattle.cf_view.specs.declared.Side.TheVariants as side
-use Rattle.cf_sift.specs.Sifting.{IsSiftingOf, client_rests}
+use Rattle.cf_sift.specs.Sifting.{IsSiftingOf, client_rests, state_of}
 use Rattle.cf_sift.specs.Names.{AreApart, SiftNamesValue, sift_output_names}
-use Rattle.cf_sift.specs.Outputs.{AreCreated, KeepsAllBut}
+use Rattle.cf_sift.specs.Outputs.{AreCreated}
 use Rattle.cf_sift.specs.Sifted.{HasLines, HasLinesThen, IsReadUpTo, IsSifted, IsWrittenUpTo, SiftEnds, created, cut_lines, stored_client}
 use Rattle.cf_sift.specs.Stream.{HasStream}
 use Rattle.cf_sift.specs.Taken.{IsTakenWhole, ReadStops, WriteStops}
@@ -52,7 +53,7 @@ lines_partly first mid now ls more f is (inr (all, part)) =
     lines_all first now ls more f (all ∙ ap (λ log. with_lines log more) is ∙ with_lines-twice (file_lines first) ls more) part
 
 module _ (asset : Asset) (client : ℕ) (names : SiftNamesValue) (before mid : List ℕ → Content) (are : AreCreated before mid (sift_output_names names))
-    (kept : KeepsAllBut before mid (sift_output_names names)) (apart : AreApart names) where
+    (kept : KeepsOtherFiles (sift_output_names names) before mid) (apart : AreApart names) where
   abbrev who : Endpoint
   who = stored_client client
 
@@ -60,26 +61,11 @@ module _ (asset : Asset) (client : ℕ) (names : SiftNamesValue) (before mid : L
   pub starts_sifting : (sifting : Sifting) → ((first : Option (List (List ℕ))) → Follows asset [] (client_rests sifting.heard.rest.items) None first (state sifting.lane sifting.to_client sifting.to_controller first)) →
       sifting.lane.client ≡ who → sifting.heard.letters ≡ 0 → sifting.to_controller.ended ≡ false → IsSiftingOf asset who names (created before) mid [] None sifting
   starts_sifting sifting follows same letters goes =
-      let f = follows (file_lines (created before names.log)) in
+      let f = subst (λ (l : Content). Follows asset [] (client_rests sifting.heard.rest.items) None (file_lines (created before names.log)) (state_of sifting l))
+      (sym are.1.1.0) (follows (file_lines (created before names.log))) in
       let none : f.judged ≡ [] = none_judged f.judged f.are_judged.dropped (sym f.are_judged.are_items ∙ f.are_judged.are_first) in
       record {
-        follows = record {
-          judged = f.judged;
-          are_judged = f.are_judged;
-          is_cut = f.is_cut;
-          are_rests = f.are_rests;
-          knows = record {
-            admitted = f.knows.admitted;
-            refused = f.knows.refused;
-            client_ended = f.knows.client_ended;
-            controller_ended = f.knows.controller_ended;
-            rules = f.knows.rules;
-            wire = f.knows.wire;
-          };
-          client_stream = f.client_stream;
-          controller_stream = f.controller_stream;
-          of_lines = ap file_lines are.1.1.0 ∙ f.of_lines;
-        };
+        follows = f;
         of_client = same;
         of_out = are.0 ∙ sym (with_appended-nothing (created before names.out)) ∙ ap (λ js. with_appended (created before names.out) (outputs asset side.Controller [] js)) (sym none);
         of_replies = are.1.0 ∙ sym (with_appended-nothing (created before names.replies)) ∙ ap (λ js. with_appended (created before names.replies) (outputs asset side.Client [] js)) (sym none);
@@ -91,12 +77,12 @@ module _ (asset : Asset) (client : ℕ) (names : SiftNamesValue) (before mid : L
       }
 
   same_stream : mid names.stream ≡ before names.stream
-  same_stream = kept names.stream apart.stream_out apart.stream_replies apart.stream_log
+  same_stream = kept names.stream (apart.stream_out, (apart.stream_replies, (apart.stream_log, tt)))
 
-  kept_both : (new : List ℕ → Content) → KeepsAllBut mid new (sift_output_names names) → KeepsAllBut before new (sift_output_names names)
-  kept_both new more other a b c = more other a b c ∙ kept other a b c
+  kept_both : (new : List ℕ → Content) → KeepsOtherFiles (sift_output_names names) mid new → KeepsOtherFiles (sift_output_names names) before new
+  kept_both new more other none = more other none ∙ kept other none
 
-  pub read_ends : (new : List ℕ → Content) → KeepsAllBut mid new (sift_output_names names) → ReadStops asset who names (created before) mid new →
+  pub read_ends : (new : List ℕ → Content) → KeepsOtherFiles (sift_output_names names) mid new → ReadStops asset who names (created before) mid new →
       IsReadUpTo asset client names before new
   read_ends new more s = record {
     bytes = s.bytes;
@@ -111,7 +97,7 @@ module _ (asset : Asset) (client : ℕ) (names : SiftNamesValue) (before mid : L
     others = kept_both new more;
   }
 
-  pub write_ends : (new : List ℕ → Content) → KeepsAllBut mid new (sift_output_names names) → WriteStops asset who names (created before) mid new →
+  pub write_ends : (new : List ℕ → Content) → KeepsOtherFiles (sift_output_names names) mid new → WriteStops asset who names (created before) mid new →
       IsWrittenUpTo asset client names before new
   write_ends new more s = record {
     bytes = s.bytes;
@@ -129,7 +115,7 @@ module _ (asset : Asset) (client : ℕ) (names : SiftNamesValue) (before mid : L
 
   -- a fault of the stream is the fault of the call
   pub fault_ends : (new : List ℕ → Content) (s : Result (Option CutReason) SiftFault) (x : SiftFault) (r : Result SiftDone SiftFault) →
-      KeepsAllBut mid new (sift_output_names names) → s ≡ Err x → IsErrAnd r (λ y. y ≡ x) →
+      KeepsOtherFiles (sift_output_names names) mid new → s ≡ Err x → IsErrAnd r (λ y. y ≡ x) →
       (IsErrOf s fault.Read → ReadStops asset who names (created before) mid new) →
       (IsErrOf s fault.Write → WriteStops asset who names (created before) mid new) → (IsErrOf s fault.NoMemory → ⊥) →
       SiftEnds asset client names before new r
@@ -141,7 +127,7 @@ module _ (asset : Asset) (client : ℕ) (names : SiftNamesValue) (before mid : L
   fault_ends new s fault.NoMemory (Err y) more is same reads writes memory = absurd (memory (subst (λ q. IsErrOf q fault.NoMemory) (sym is) refl))
 
   module _ (done : List ℕ → Content) (cut : Option CutReason) (sifting : Sifting) (t : IsTakenWhole asset who names (created before) mid done cut sifting)
-      (kept_done : KeepsAllBut mid done (sift_output_names names)) where
+      (kept_done : KeepsOtherFiles (sift_output_names names) mid done) where
     abbrev js : List Judged
     js = t.after.sifting_of.follows.judged
 
@@ -155,11 +141,11 @@ module _ (asset : Asset) (client : ℕ) (names : SiftNamesValue) (before mid : L
     whole : IsWhole (before names.stream) t.bytes
     whole = subst (λ f. IsWhole f t.bytes) same_stream t.whole
 
-    log_apart : (new : List ℕ → Content) → ((other : List ℕ) → other ≢ names.log → new other ≡ done other) → KeepsAllBut before new (sift_output_names names)
-    log_apart new kept_log other a b c = kept_log other c ∙ kept_done other a b c ∙ kept other a b c
+    log_apart : (new : List ℕ → Content) → KeepsOtherFiles (names.log ∷ []) done new → KeepsOtherFiles (sift_output_names names) before new
+    log_apart new kept_log other none = kept_log other (none.1.1.0, tt) ∙ kept_done other none ∙ kept other none
 
     -- all is written, and the line of the cut
-    pub sifted : (new : List ℕ → Content) (admitted refused : ℕ) → ((other : List ℕ) → other ≢ names.log → new other ≡ done other) →
+    pub sifted : (new : List ℕ → Content) (admitted refused : ℕ) → KeepsOtherFiles (names.log ∷ []) done new →
         file_lines (new names.log) ≡ with_lines (file_lines (done names.log)) (cut_lines asset who cut) → ends_with_line (new names.log) ≡ true →
         admitted ≡ sifting.lane.admitted → refused ≡ sifting.lane.refused →
         IsSifted asset client names before new (record { cut = cut; admitted = admitted; refused = refused })
@@ -170,8 +156,8 @@ module _ (asset : Asset) (client : ℕ) (names : SiftNamesValue) (before mid : L
       judged = js;
       goes = t.goes;
       have = record {
-        of_out = kept_log names.out apart.out_log ∙ t.after.sifting_of.of_out;
-        of_replies = kept_log names.replies apart.replies_log ∙ t.after.sifting_of.of_replies;
+        of_out = kept_log names.out (apart.out_log, tt) ∙ t.after.sifting_of.of_out;
+        of_replies = kept_log names.replies (apart.replies_log, tt) ∙ t.after.sifting_of.of_replies;
         of_log = lines_more (created before names.log) (done names.log) (new names.log) (lines asset who [] js) (cut_lines asset who cut)
             (ends_with_line-create (before names.log)) ends told_lines more;
       };
@@ -181,12 +167,12 @@ module _ (asset : Asset) (client : ℕ) (names : SiftNamesValue) (before mid : L
     }
 
     -- the line of the cut failed
-    pub cut_fails : (new : List ℕ → Content) (why : CutReason) → cut ≡ Some why → ((other : List ℕ) → other ≢ names.log → new other ≡ done other) →
+    pub cut_fails : (new : List ℕ → Content) (why : CutReason) → cut ≡ Some why → KeepsOtherFiles (names.log ∷ []) done new →
         MayHaveMore (cut_lines asset who cut) (file_lines (done names.log)) (file_lines (new names.log)) (file_part (new names.log)) →
         IsWrittenUpTo asset client names before new
     cut_fails new why is kept_log more = record {
       bytes = t.bytes;
-      stream = whole_is (before names.stream) whole;
+      stream = whole_stream (before names.stream) t.bytes whole;
       earlier = t.earlier;
       element = t.element;
       later = t.goes.later;
@@ -199,19 +185,16 @@ module _ (asset : Asset) (client : ℕ) (names : SiftNamesValue) (before mid : L
         are_judged = of_client asset who names (created before) done h t.after.by_item sifting t.after.sifting_of;
         reason = why;
         is_cut = t.after.is_cut ∙ is;
-        of_out = kept_log names.out apart.out_log ∙ t.after.sifting_of.of_out;
-        of_replies = kept_log names.replies apart.replies_log ∙ t.after.sifting_of.of_replies;
+        of_out = kept_log names.out (apart.out_log, tt) ∙ t.after.sifting_of.of_out;
+        of_replies = kept_log names.replies (apart.replies_log, tt) ∙ t.after.sifting_of.of_replies;
         of_log = lines_partly (created before names.log) (done names.log) (new names.log) (lines asset who [] js) (cut_lines asset who (Some why))
             (ends_with_line-create (before names.log)) told_lines
             (subst (λ c. MayHaveMore (cut_lines asset who c) (file_lines (done names.log)) (file_lines (new names.log)) (file_part (new names.log))) is more);
       })));
       others = log_apart new kept_log;
     }
-      where
-        whole_is : (file : Content) → IsWhole file t.bytes → HasStream file t.bytes
-        whole_is file w = whole_stream file t.bytes w
 
-    pub some_fails : (new : List ℕ → Content) → IsSome cut → ((other : List ℕ) → other ≢ names.log → new other ≡ done other) →
+    pub some_fails : (new : List ℕ → Content) → IsSome cut → KeepsOtherFiles (names.log ∷ []) done new →
         MayHaveMore (cut_lines asset who cut) (file_lines (done names.log)) (file_lines (new names.log)) (file_part (new names.log)) →
         IsWrittenUpTo asset client names before new
     some_fails new some kept_log more = by_case cut refl some
@@ -219,8 +202,3 @@ module _ (asset : Asset) (client : ℕ) (names : SiftNamesValue) (before mid : L
         by_case : (c : Option CutReason) → cut ≡ c → IsSome c → IsWrittenUpTo asset client names before new
         by_case None is some = cc
         by_case (Some why) is some = cut_fails new why is kept_log more
-
-  pub write_fault : (new : List ℕ → Content) (r : Result SiftDone SiftFault) → IsErrAnd r (λ y. y ≡ fault.Write) → IsWrittenUpTo asset client names before new →
-      SiftEnds asset client names before new r
-  write_fault new (Ok d) same w = absurd same
-  write_fault new (Err y) same w = subst (λ z. SiftEnds asset client names before new (Err z)) (sym same) (inr w)

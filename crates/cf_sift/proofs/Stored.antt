@@ -1,7 +1,6 @@
 -- Histories that are cut in two, and the history of a stored stream.
 use Rattle.std.proofs.Common.{◌≡◌, ◌+◌, ◌≤◌, ◌<◌, ◌⊎◌, ℕ, zero, suc, None, Option, List, [], ◌∷◌, ◌++◌, length, take, drop, refl, sym, ap, ◌∙◌, append_assoc, subst, inl, inr, arith}
-use Rattle.std.proofs.Math.Seq.{take-append_seam, drop-append-add}
-use Rattle.std.proofs.lemmas.List.{append-nil, length-append, length-drop, take_all}
+use Rattle.std.proofs.lemmas.List.{append-nil, drop_at, length-append, length-drop, nil_from_length, same_from_push, take_all, take_at}
 use Rattle.cf_audit.specs.declared.line.CutReason.{CutReason}
 use Rattle.cf_lane.specs.Follows.{AreJudged}
 use Rattle.cf_lane.specs.History.{Element, bytes_at, end_at}
@@ -13,14 +12,15 @@ use Rattle.cf_sift.specs.Laws.{HasOneCut}
 use Rattle.cf_sift.specs.Stored.{GoesUpTo, IsUncut, cut_behind, pieces_within, stored_history}
 
 module _ {X : Type 0} where
+  -- of no elements each part has none
+  pub no_parts : (a b : List X) → a ++ b ≡ [] → (a ≡ []) × (b ≡ [])
+  no_parts [] b is = (refl, is)
+  no_parts (x ∷ a) b is = cc
+
   -- a beginning of a list and one more is the whole of it, or a beginning of the list
   pub split_last : (front back h : List X) (e : X) → h ++ e ∷ [] ≡ front ++ back → (back ≡ []) ⊎ ((b : List X) × (h ≡ front ++ b))
   split_last [] back h e is = inr (h, refl)
-  split_last (x ∷ front) back [] e is = inl (none front back cc)
-    where
-      none : (f b : List X) → [] ≡ f ++ b → b ≡ []
-      none [] b is = sym is
-      none (y ∷ f) b is = cc
+  split_last (x ∷ front) back [] e is = inl (no_parts front back cc).1
   split_last (x ∷ front) back (y ∷ h) e is =
       elim (split_last front back h e cc) [
         | inl none ↦ inl none
@@ -46,14 +46,6 @@ module _ {X : Type 0} where
         | inr more ↦ inr (x ∷ more.0, more.1, ap (λ l. x ∷ l) more.2)
       ]
 
-  pub same_fronts : (f g : List X) (d e : X) → f ++ d ∷ [] ≡ g ++ e ∷ [] → f ≡ g
-  same_fronts [] [] d e is = refl
-  same_fronts [] (y ∷ []) d e is = cc
-  same_fronts [] (y ∷ z ∷ g) d e is = cc
-  same_fronts (x ∷ []) [] d e is = cc
-  same_fronts (x ∷ z ∷ f) [] d e is = cc
-  same_fronts (x ∷ f) (y ∷ g) d e is = let rest = same_fronts f g d e cc in cc
-
 module _ (one : HasOneJudgement) (asset : Asset) (client : ℕ) where
   -- a history that is not cut, and no more after one more element
   pub uncut_more : (h : List Element) (e : Element) (judged : List Judged) → IsUncut asset client h → AreJudged asset client (h ++ e ∷ []) judged →
@@ -76,7 +68,7 @@ module _ (one : HasOneJudgement) (asset : Asset) (client : ℕ) where
     begins = begins;
     are_judged = are;
     is_cut = is;
-    first = λ front last same. subst (IsUncut asset client) (same_fronts h front e last same) uncut;
+    first = λ front last same. subst (IsUncut asset client) (same_from_push h front e last same).0 uncut;
     all = all;
   }
 
@@ -90,13 +82,8 @@ module _ (one : HasOneJudgement) (asset : Asset) (client : ℕ) where
             let (front, last, is) = more in
             let longer : k ≡ (h ++ front) ++ last ∷ [] = goes ∙ ap (λ l. h ++ l) is ∙ sym (append_assoc h front (last ∷ [])) in
             let none : cut ≡ None = sym x.is_cut ∙ y.first (h ++ front) last longer h front js refl x.are_judged in
-            let nothing : m ++ d ≡ [] = sym later ∙ x.all none in
-            empty m d nothing
+            (no_parts m d (sym later ∙ x.all none)).0
       ]
-    where
-      empty : (m d : List Element) → m ++ d ≡ [] → m ≡ []
-      empty [] d is = refl
-      empty (e ∷ m) d is = cc
 
   one_place : (whole h k : List Element) (cut other : Option CutReason) (js ks : List Judged) → GoesUpTo asset client whole cut h js →
       GoesUpTo asset client whole other k ks → h ≡ k
@@ -112,25 +99,26 @@ has_one_cut one asset client whole h k cut other js ks x y =
     let same = one asset client k js ks (subst (λ l. AreJudged asset client l js) place x.are_judged) y.are_judged in
     (place, same, sym x.is_cut ∙ ap (λ l. cut_behind asset l js) place ∙ ap (cut_behind asset k) same ∙ y.is_cut)
 
+no_pieces : (n : ℕ) → pieces_within n [] ≡ []
+no_pieces zero = refl
+no_pieces (suc n) = refl
+
 -- pieces are the same however many are allowed, where there are enough
 enough : (n m : ℕ) (bytes : List ℕ) → length bytes ≤ n → length bytes ≤ m → pieces_within n bytes ≡ pieces_within m bytes
-enough zero zero bytes p q = refl
-enough zero (suc m) [] p q = refl
-enough zero (suc m) (x ∷ xs) p q = absurd (omega (arith, p))
-enough (suc n) zero [] p q = refl
+enough n m [] p q = no_pieces n ∙ sym (no_pieces m)
+enough zero m (x ∷ xs) p q = absurd (omega (arith, p))
 enough (suc n) zero (x ∷ xs) p q = absurd (omega (arith, q))
-enough (suc n) (suc m) [] p q = refl
 enough (suc n) (suc m) (x ∷ xs) p q =
-    ap (λ l. bytes_at 0 side.Client (take 4096 (x ∷ xs)) ∷ l) (enough n m (drop 4096 (x ∷ xs)) (omega (arith, p, length-drop 4096 (x ∷ xs))) (omega (arith, q, length-drop 4096 (x ∷ xs))))
+    let size = length-drop 4096 (x ∷ xs) in
+    ap (λ l. bytes_at 0 side.Client (take 4096 (x ∷ xs)) ∷ l) (enough n m (drop 4096 (x ∷ xs)) (omega (arith, p, size)) (omega (arith, q, size)))
 
 -- a piece that is full, and what follows it
 pub full_piece : (piece rest : List ℕ) → length piece ≡ 4096 → stored_history (piece ++ rest) ≡ bytes_at 0 side.Client piece ∷ stored_history rest
 full_piece [] rest full = absurd (omega (arith, full))
 full_piece (x ∷ xs) rest full =
     let size : length ((x ∷ xs) ++ rest) ≡ 4096 + length rest = length-append (x ∷ xs) rest ∙ ap (λ n. n + length rest) full in
-    let front : take 4096 ((x ∷ xs) ++ rest) ≡ x ∷ xs = ap (λ n. take n ((x ∷ xs) ++ rest)) (sym full) ∙ take-append_seam (x ∷ xs) rest in
-    let count : 4096 ≡ length (x ∷ xs) + 0 = omega (arith, full) in
-    let behind : drop 4096 ((x ∷ xs) ++ rest) ≡ rest = ap (λ n. drop n ((x ∷ xs) ++ rest)) count ∙ drop-append-add (x ∷ xs) rest 0 in
+    let front : take 4096 ((x ∷ xs) ++ rest) ≡ x ∷ xs = take_at (x ∷ xs) rest 4096 full in
+    let behind : drop 4096 ((x ∷ xs) ++ rest) ≡ rest = drop_at (x ∷ xs) rest 4096 full in
     ap (λ p. bytes_at 0 side.Client p ∷ (pieces_within (length (xs ++ rest)) (drop 4096 ((x ∷ xs) ++ rest)) ++ end_at 0 side.Client ∷ [])) front
     ∙ ap (λ l. bytes_at 0 side.Client (x ∷ xs) ∷ (pieces_within (length (xs ++ rest)) l ++ end_at 0 side.Client ∷ [])) behind
     ∙ ap (λ l. bytes_at 0 side.Client (x ∷ xs) ∷ (l ++ end_at 0 side.Client ∷ [])) (enough (length (xs ++ rest)) (length rest) rest (omega (arith, size)) (omega arith))
@@ -140,13 +128,5 @@ pub last_piece : (piece : List ℕ) → 0 < length piece → length piece ≤ 40
 last_piece [] some short = absurd (omega (arith, some))
 last_piece (x ∷ xs) some short =
     ap (λ p. bytes_at 0 side.Client p ∷ (pieces_within (length xs) (drop 4096 (x ∷ xs)) ++ end_at 0 side.Client ∷ [])) (take_all 4096 (x ∷ xs) short)
-    ∙ ap (λ l. bytes_at 0 side.Client (x ∷ xs) ∷ (pieces_within (length xs) l ++ end_at 0 side.Client ∷ [])) (nothing (drop 4096 (x ∷ xs)) (omega (arith, short, length-drop 4096 (x ∷ xs))))
-    ∙ ap (λ l. bytes_at 0 side.Client (x ∷ xs) ∷ (l ++ end_at 0 side.Client ∷ [])) (none (length xs))
-  where
-    nothing : (l : List ℕ) → length l ≡ 0 → l ≡ []
-    nothing [] e = refl
-    nothing (y ∷ l) e = cc
-
-    none : (n : ℕ) → pieces_within n [] ≡ []
-    none zero = refl
-    none (suc n) = refl
+    ∙ ap (λ l. bytes_at 0 side.Client (x ∷ xs) ∷ (pieces_within (length xs) l ++ end_at 0 side.Client ∷ [])) (nil_from_length (drop 4096 (x ∷ xs)) (omega (arith, short, length-drop 4096 (x ∷ xs))))
+    ∙ ap (λ l. bytes_at 0 side.Client (x ∷ xs) ∷ (l ++ end_at 0 side.Client ∷ [])) (no_pieces (length xs))

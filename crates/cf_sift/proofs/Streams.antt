@@ -1,11 +1,10 @@
 -- A stored stream that is taken piece by piece.
-use Rattle.std.proofs.Common.{◌≡◌, ◌+◌, ◌≤◌, ◌<◌, ℕ, Bool, true, false, None, Some, Option, List, [], ◌∷◌, ◌++◌, length, min, take, drop, refl, sym, ap, ◌∙◌, append_assoc, subst, inl, inr, arith}
-use Rattle.std.specs.Option.{option_or}
+use Rattle.std.proofs.Common.{◌≡◌, ◌+◌, ◌≤◌, ◌<◌, ℕ, None, Option, List, [], ◌∷◌, ◌++◌, length, min, take, drop, refl, sym, ap, ◌∙◌, append_assoc, subst, inl, inr, arith}
 use Rattle.std.proofs.lemmas.Bool.{cases_lt}
-use Rattle.std.proofs.lemmas.List.{append-nil, length-append, length-take, take_all, take-append-drop}
+use Rattle.std.proofs.lemmas.List.{append-nil, length-append, length-take, nil_from_length, take-append-drop, take_all, take_min}
 use Rattle.cf_audit.specs.declared.line.CutReason.{CutReason}
 use Rattle.cf_driver.proofs.Limits.{limit_none}
-use Rattle.cf_lane.specs.Follows.{AreJudged, AreRests}
+use Rattle.cf_lane.specs.Follows.{AreJudged}
 use Rattle.cf_lane.specs.History.{Element, bytes_at, end_at}
 use Rattle.cf_lane.specs.Laws.{HasOneJudgement}
 use Rattle.cf_lane.specs.Log.{lines, with_lines}
@@ -18,25 +17,20 @@ use Rattle.cf_outside.proofs.Content.{begins_more}
 use Rattle.cf_policy.specs.declared.Asset.{Asset}
 use Rattle.cf_view.specs.declared.Endpoint.{Endpoint}
 use Rattle.cf_view.specs.declared.Side.TheVariants as side
-use Rattle.cf_sift.specs.Sifting.{IsSiftingAfter, IsSiftingOf, IsReady, client_rests}
+use Rattle.cf_sift.specs.Sifting.{FailsElement, IsReady, IsSiftingAfter, IsSiftingOf, TakesElement}
 use Rattle.cf_sift.specs.Names.{SiftNamesValue}
-use Rattle.cf_sift.specs.Sifted.{ElementFails, HasLines, HaveOutput}
+use Rattle.cf_sift.specs.Sifted.{HaveOutput}
 use Rattle.cf_sift.specs.Stored.{IsUncut, cut_behind, stored_history}
 use Rattle.cf_sift.specs.Stream.{HasStream}
 use Rattle.cf_sift.specs.Taken.{IsTakenTo, IsTakenWhole, ReadStops, WriteStops}
 use Rattle.cf_sift.specs.declared.sifting.Sifting.{Sifting}
-use Rattle.cf_sift.proofs.Elements.{cut_known}
-use Rattle.cf_sift.proofs.Logs.{lines_told}
-use Rattle.cf_sift.proofs.Stored.{full_piece, goes_up, last_piece, uncut_more}
+use Rattle.cf_sift.proofs.Elements.{cut_known, neither}
+use Rattle.cf_sift.proofs.Logs.{lines_now}
+use Rattle.cf_sift.proofs.Stored.{full_piece, goes_up, last_piece, no_parts, uncut_more}
 
 -- a list that is the first of another is so many of its first
 take_own : (n : ℕ) (d p : List ℕ) → p ≡ take n d → take (length p) d ≡ p
-take_own n d p is =
-    let size : length p ≡ min n (length d) = ap length is ∙ length-take n d in
-    elim (cases_lt n (length d)) [
-      | inl less ↦ ap (λ k. take k d) (omega (arith, size)) ∙ sym is
-      | inr more ↦ take_all (length p) d (omega (arith, size)) ∙ sym (take_all n d more) ∙ sym is
-    ]
+take_own n d p is = ap (λ k. take k d) (ap length is ∙ length-take n d) ∙ take_min n d ∙ sym is
 
 -- what is read after the beginning of a file goes on with it
 pub read_more : (file : Content) (bytes p : List ℕ) → BeginsWith file bytes → IsFilled file (length bytes) 4096 p → BeginsWith file (bytes ++ p)
@@ -65,11 +59,7 @@ filled_at file now place at size p same is full filled =
 -- a stream goes on after its beginning
 pub stream_of : (file : Content) (bytes : List ℕ) → BeginsWith file bytes → (rest : List ℕ) × HasStream file (bytes ++ rest)
 stream_of untold bytes begins = ([], tt)
-stream_of absent bytes begins = ([], append-nil bytes ∙ empty bytes begins)
-  where
-    empty : (l : List ℕ) → length l ≡ 0 → l ≡ []
-    empty [] e = refl
-    empty (x ∷ l) e = cc
+stream_of absent bytes begins = ([], append-nil bytes ∙ nil_from_length bytes begins)
 stream_of (holds all) bytes begins = (drop (length bytes) all, ap (λ l. l ++ drop (length bytes) all) (sym begins) ∙ take-append-drop (length bytes) all)
 
 -- the same of a file that was read
@@ -96,11 +86,6 @@ piece_at file bytes p begins filled some short =
           (more.0, subst (IsWhole file) (append_assoc bytes p more.0) more.1, (stored_history more.0, full_piece p more.0 (omega (arith, full, short))))
     ]
 
--- a cut that is none is none of its parts
-first_none : (a b : Option CutReason) → option_or a b ≡ None → a ≡ None
-first_none None b e = refl
-first_none (Some x) b e = cc
-
 module _ (asset : Asset) (client : Endpoint) (names : SiftNamesValue) (first : List ℕ → Content) where
   pub of_client : (now : List ℕ → Content) (h : List Element) (cut : Option CutReason) (sifting : Sifting) (f : IsSiftingOf asset client names first now h cut sifting) →
       AreJudged asset client.address h f.follows.judged
@@ -116,37 +101,63 @@ module _ (asset : Asset) (client : Endpoint) (names : SiftNamesValue) (first : L
       record {
         of_out = f.of_out;
         of_replies = f.of_replies;
-        of_log = subst (λ ls. HasLines ls (first names.log) (now names.log)) (sym (append-nil (lines asset client [] js)))
-            (lines_told (first names.log) (now names.log) (lines asset client [] js) f.log_first f.log_now of_lines);
+        of_log = lines_now (first names.log) (now names.log) (lines asset client [] js) f.log_first f.log_now of_lines;
       }
 
   -- a sifting that nothing cuts
   pub uncut_sifting : (now : List ℕ → Content) (h : List Element) (sifting : Sifting) → IsSiftingAfter asset client names first now h None sifting →
       IsSiftingOf asset client names first now h None sifting
   uncut_sifting now h sifting after =
-      let f = after.sifting_of in
-      let none : after.by_item ≡ None = first_none after.by_item _ (sym (cut_known asset client names first now h after.by_item sifting f) ∙ after.is_cut) in
+      let none = (neither after.by_item _ (sym (cut_known asset client names first now h after.by_item sifting after.sifting_of) ∙ after.is_cut)).0 in
+      subst (λ c. IsSiftingOf asset client names first now h c sifting) none after.sifting_of
+
+-- the file was read whole, up to the element that is next, after which these come
+pub record ComesNext (asset : Asset) (client : Endpoint) (names : SiftNamesValue) (first old now : List ℕ → Content) (sifting : Sifting) (element : Element)
+    (later : List Element) : Type 0 where
+  pub bytes : List ℕ
+  pub whole : IsWhole (old names.stream) bytes
+  pub history : List Element
+  pub begins : stored_history bytes ≡ history ++ element ∷ later
+  pub sifting_of : IsSiftingOf asset client names first now history None sifting
+  pub uncut : IsUncut asset client.address history
+
+module _ {asset : Asset} {client : Endpoint} {names : SiftNamesValue} {first old now : List ℕ → Content} {sifting : Sifting} {element : Element} {later : List Element}
+    (x : ComesNext asset client names first old now sifting element later) where
+  -- a write failed at it
+  pub stops : (new : List ℕ → Content) → FailsElement asset names element sifting now new → WriteStops asset client names first old new
+  stops new fails = record {
+    bytes = x.bytes;
+    stream = whole_stream (old names.stream) x.bytes x.whole;
+    earlier = x.history;
+    element = element;
+    later = later;
+    begins = x.begins;
+    uncut = x.uncut;
+    judged = x.sifting_of.follows.judged;
+    are_judged = of_client asset client names first now x.history None sifting x.sifting_of;
+    fails = fails client first x.history x.sifting_of;
+  }
+
+  -- it was taken: the stream is cut after it, or ends with it
+  pub ends : HasOneJudgement → (new : List ℕ → Content) (last : Sifting) (cut : Option CutReason) → (cut ≡ None → later ≡ []) →
+      TakesElement asset names element sifting last now new cut → IsTakenWhole asset client names first old new cut last
+  ends one new last cut all takes =
+      let after = takes client first x.history x.sifting_of in
       record {
-        follows = record {
-          judged = f.follows.judged;
-          are_judged = f.follows.are_judged;
-          is_cut = f.follows.is_cut ∙ none;
-          are_rests = subst (AreRests asset.protocol h (client_rests sifting.heard.rest.items)) none f.follows.are_rests;
-          knows = f.follows.knows;
-          client_stream = f.follows.client_stream;
-          controller_stream = f.follows.controller_stream;
-          of_lines = f.follows.of_lines;
-        };
-        of_client = f.of_client;
-        of_out = f.of_out;
-        of_replies = f.of_replies;
-        log_first = f.log_first;
-        log_now = f.log_now;
-        letters = f.letters;
-        ends = f.ends;
-        quiet = f.quiet;
+        bytes = x.bytes;
+        whole = x.whole;
+        earlier = x.history;
+        element = element;
+        uncut = x.uncut;
+        judged = x.sifting_of.follows.judged;
+        are_judged = of_client asset client names first now x.history None sifting x.sifting_of;
+        after = after;
+        goes = goes_up one asset client.address (stored_history x.bytes) x.history later element cut after.sifting_of.follows.judged x.uncut
+            (x.begins ∙ sym (append_assoc x.history (element ∷ []) later))
+            (of_client asset client names first new (x.history ++ element ∷ []) after.by_item last after.sifting_of) after.is_cut all;
       }
 
+module _ (asset : Asset) (client : Endpoint) (names : SiftNamesValue) (first : List ℕ → Content) where
   module _ (one : HasOneJudgement) where
     -- before the first piece
     pub starts : (old : List ℕ → Content) (sifting : Sifting) → IsReady asset sifting → IsSiftingOf asset client names first old [] None sifting →
@@ -159,8 +170,8 @@ module _ (asset : Asset) (client : Endpoint) (names : SiftNamesValue) (first : L
       goes_on = λ rest. refl;
       sifting_of = f;
       uncut = λ front back ks is are.
-          let none : front ≡ [] = empty front back is in
-          let same : ks ≡ f.follows.judged = one asset client.address [] ks f.follows.judged (subst (λ l. AreJudged asset client.address l ks) none are) (of_client old [] None sifting f) in
+          let none = (no_parts front back (sym is)).0 in
+          let same : ks ≡ f.follows.judged = one asset client.address [] ks f.follows.judged (subst (λ l. AreJudged asset client.address l ks) none are) (of_client asset client names first old [] None sifting f) in
           ap (λ l. cut_behind asset l ks) none ∙ ap (cut_behind asset []) same ∙ cut_known asset client names first old [] None sifting f
           ∙ limit_none LETTER_LIMIT sifting.heard.letters 0 (queue_length sifting.to_client) (queue_length sifting.to_controller) ready.few (omega arith) ready.client.few ready.controller.few;
     }
@@ -169,10 +180,6 @@ module _ (asset : Asset) (client : Endpoint) (names : SiftNamesValue) (first : L
         nothing_read untold = tt
         nothing_read absent = refl
         nothing_read (holds all) = refl
-
-        empty : (f b : List Element) → [] ≡ f ++ b → f ≡ []
-        empty [] b is = refl
-        empty (x ∷ f) b is = cc
 
     module _ (old now : List ℕ → Content) (at : ℕ) (sifting : Sifting) (t : IsTakenTo asset client names first old now at sifting) where
       -- a read failed
@@ -187,120 +194,64 @@ module _ (asset : Asset) (client : Endpoint) (names : SiftNamesValue) (first : L
             begins = t.goes_on more.0;
             uncut = t.uncut;
             judged = t.sifting_of.follows.judged;
-            are_judged = of_client now t.history None sifting t.sifting_of;
-            have = have_output now t.history None sifting t.sifting_of;
+            are_judged = of_client asset client names first now t.history None sifting t.sifting_of;
+            have = have_output asset client names first now t.history None sifting t.sifting_of;
           }
 
       module _ (p : List ℕ) (filled : IsFilled (old names.stream) (length t.bytes) 4096 p) where
-        -- a write failed at a piece
-        pub piece_stops : (new : List ℕ → Content) → 0 < length p → length p ≤ 4096 →
-            ElementFails asset client names first new t.history t.sifting_of.follows.judged (bytes_at 0 side.Client p) → WriteStops asset client names first old new
-        piece_stops new some short fails =
-            let (rest, whole, (later, splits)) = piece_at (old names.stream) t.bytes p t.begins filled some short in
-            record {
-              bytes = t.bytes ++ (p ++ rest);
-              stream = whole_stream (old names.stream) (t.bytes ++ (p ++ rest)) whole;
-              earlier = t.history;
-              element = bytes_at 0 side.Client p;
-              later = later;
-              begins = t.goes_on (p ++ rest) ∙ ap (λ l. t.history ++ l) splits;
-              uncut = t.uncut;
-              judged = t.sifting_of.follows.judged;
-              are_judged = of_client now t.history None sifting t.sifting_of;
-              fails = fails;
-            }
+        -- it is not empty: it is next
+        pub piece_next : 0 < length p → length p ≤ 4096 → (later : List Element) × ComesNext asset client names first old now sifting (bytes_at 0 side.Client p) later
+        piece_next some short =
+            let (rest, whole, (later, splits)) = piece_at (old names.stream) t.bytes p t.begins filled some short in (
+              later,
+              record {
+                bytes = t.bytes ++ (p ++ rest);
+                whole = whole;
+                history = t.history;
+                begins = t.goes_on (p ++ rest) ∙ ap (λ l. t.history ++ l) splits;
+                sifting_of = t.sifting_of;
+                uncut = t.uncut;
+              },
+            )
 
-        -- a piece cuts
-        pub piece_cuts : (new : List ℕ → Content) (last : Sifting) (why : CutReason) → 0 < length p → length p ≤ 4096 →
-            IsSiftingAfter asset client names first new (t.history ++ bytes_at 0 side.Client p ∷ []) (Some why) last →
-            IsTakenWhole asset client names first old new (Some why) last
-        piece_cuts new last why some short after =
-            let (rest, whole, (later, splits)) = piece_at (old names.stream) t.bytes p t.begins filled some short in
-            let element = bytes_at 0 side.Client p in
-            record {
-              bytes = t.bytes ++ (p ++ rest);
-              whole = whole;
-              earlier = t.history;
-              element = element;
-              uncut = t.uncut;
-              judged = t.sifting_of.follows.judged;
-              are_judged = of_client now t.history None sifting t.sifting_of;
-              after = after;
-              goes = goes_up one asset client.address (stored_history (t.bytes ++ (p ++ rest))) t.history later element (Some why) after.sifting_of.follows.judged t.uncut
-                  (t.goes_on (p ++ rest) ∙ ap (λ l. t.history ++ l) splits ∙ sym (append_assoc t.history (element ∷ []) later))
-                  (of_client new (t.history ++ element ∷ []) after.by_item last after.sifting_of) after.is_cut (λ e. cc);
-            }
-
-        -- after a piece that does not cut
-        uncut_piece : (new : List ℕ → Content) (last : Sifting) (after : IsSiftingAfter asset client names first new (t.history ++ bytes_at 0 side.Client p ∷ []) None last) →
-            IsUncut asset client.address (t.history ++ bytes_at 0 side.Client p ∷ [])
-        uncut_piece new last after =
-            uncut_more one asset client.address t.history (bytes_at 0 side.Client p) after.sifting_of.follows.judged t.uncut
-            (of_client new (t.history ++ bytes_at 0 side.Client p ∷ []) after.by_item last after.sifting_of) after.is_cut
-
-        pub goes_on : (new : List ℕ → Content) (last : Sifting) → length p ≡ 4096 →
-            IsSiftingAfter asset client names first new (t.history ++ bytes_at 0 side.Client p ∷ []) None last →
-            IsTakenTo asset client names first old new (at + length p) last
-        goes_on new last full after = record {
+        -- it is empty: End is next
+        pub none_next : length p ≡ 0 → ComesNext asset client names first old now sifting (end_at 0 side.Client) []
+        none_next none = record {
           bytes = t.bytes ++ p;
-          size = length-append t.bytes p ∙ ap (λ n. n + length p) t.size;
-          begins = read_more (old names.stream) t.bytes p t.begins filled;
-          history = t.history ++ bytes_at 0 side.Client p ∷ [];
-          goes_on = λ rest. ap stored_history (append_assoc t.bytes p rest) ∙ t.goes_on (p ++ rest) ∙ ap (λ l. t.history ++ l) (full_piece p rest full)
-              ∙ sym (append_assoc t.history (bytes_at 0 side.Client p ∷ []) (stored_history rest));
-          sifting_of = uncut_sifting new (t.history ++ bytes_at 0 side.Client p ∷ []) last after;
-          uncut = uncut_piece new last after;
+          whole = read_last (old names.stream) t.bytes p t.begins filled (omega (arith, none));
+          history = t.history;
+          begins = t.goes_on p ∙ ap (λ l. t.history ++ stored_history l) (nil_from_length p none);
+          sifting_of = t.sifting_of;
+          uncut = t.uncut;
         }
 
-        -- all bytes were read
-        pub read_all : length p < 4096 → IsWhole (old names.stream) (t.bytes ++ p)
-        read_all short = read_last (old names.stream) t.bytes p t.begins filled short
+        -- it was taken, and nothing cuts after it
+        module _ (new : List ℕ → Content) (last : Sifting) (after : IsSiftingAfter asset client names first new (t.history ++ bytes_at 0 side.Client p ∷ []) None last) where
+          stays_uncut : IsUncut asset client.address (t.history ++ bytes_at 0 side.Client p ∷ [])
+          stays_uncut =
+              uncut_more one asset client.address t.history (bytes_at 0 side.Client p) after.sifting_of.follows.judged t.uncut
+              (of_client asset client names first new (t.history ++ bytes_at 0 side.Client p ∷ []) after.by_item last after.sifting_of) after.is_cut
 
-        pub none_behind : length p ≡ 0 → stored_history (t.bytes ++ p) ≡ t.history ++ end_at 0 side.Client ∷ []
-        none_behind none = t.goes_on p ∙ ap (λ l. t.history ++ stored_history l) (empty p none)
-          where
-            empty : (l : List ℕ) → length l ≡ 0 → l ≡ []
-            empty [] e = refl
-            empty (x ∷ l) e = cc
+          pub goes_on : length p ≡ 4096 → IsTakenTo asset client names first old new (at + length p) last
+          goes_on full = record {
+            bytes = t.bytes ++ p;
+            size = length-append t.bytes p ∙ ap (λ n. n + length p) t.size;
+            begins = read_more (old names.stream) t.bytes p t.begins filled;
+            history = t.history ++ bytes_at 0 side.Client p ∷ [];
+            goes_on = λ rest. ap stored_history (append_assoc t.bytes p rest) ∙ t.goes_on (p ++ rest) ∙ ap (λ l. t.history ++ l) (full_piece p rest full)
+                ∙ sym (append_assoc t.history (bytes_at 0 side.Client p ∷ []) (stored_history rest));
+            sifting_of = uncut_sifting asset client names first new (t.history ++ bytes_at 0 side.Client p ∷ []) last after;
+            uncut = stays_uncut;
+          }
 
-        pub last_behind : 0 < length p → length p ≤ 4096 → stored_history (t.bytes ++ p) ≡ (t.history ++ bytes_at 0 side.Client p ∷ []) ++ end_at 0 side.Client ∷ []
-        last_behind some short = t.goes_on p ∙ ap (λ l. t.history ++ l) (last_piece p some short)
-            ∙ sym (append_assoc t.history (bytes_at 0 side.Client p ∷ []) (end_at 0 side.Client ∷ []))
-
-        pub uncut_last : (new : List ℕ → Content) (last : Sifting) (after : IsSiftingAfter asset client names first new (t.history ++ bytes_at 0 side.Client p ∷ []) None last) →
-            IsUncut asset client.address (t.history ++ bytes_at 0 side.Client p ∷ [])
-        uncut_last = uncut_piece
-
-    -- after all pieces stands End
-    module _ (old now : List ℕ → Content) (sifting : Sifting) (bytes : List ℕ) (h : List Element) (whole : IsWhole (old names.stream) bytes)
-        (begins : stored_history bytes ≡ h ++ end_at 0 side.Client ∷ []) (f : IsSiftingOf asset client names first now h None sifting) (uncut : IsUncut asset client.address h) where
-      pub end_stops : (new : List ℕ → Content) → ElementFails asset client names first new h f.follows.judged (end_at 0 side.Client) →
-          WriteStops asset client names first old new
-      end_stops new fails = record {
-        bytes = bytes;
-        stream = whole_stream (old names.stream) bytes whole;
-        earlier = h;
-        element = end_at 0 side.Client;
-        later = [];
-        begins = begins;
-        uncut = uncut;
-        judged = f.follows.judged;
-        are_judged = of_client now h None sifting f;
-        fails = fails;
-      }
-
-      pub end_taken : (new : List ℕ → Content) (last : Sifting) (cut : Option CutReason) →
-          IsSiftingAfter asset client names first new (h ++ end_at 0 side.Client ∷ []) cut last → IsTakenWhole asset client names first old new cut last
-      end_taken new last cut after = record {
-        bytes = bytes;
-        whole = whole;
-        earlier = h;
-        element = end_at 0 side.Client;
-        uncut = uncut;
-        judged = f.follows.judged;
-        are_judged = of_client now h None sifting f;
-        after = after;
-        goes = goes_up one asset client.address (stored_history bytes) h [] (end_at 0 side.Client) cut after.sifting_of.follows.judged uncut
-            (begins ∙ sym (append-nil (h ++ end_at 0 side.Client ∷ [])))
-            (of_client new (h ++ end_at 0 side.Client ∷ []) after.by_item last after.sifting_of) after.is_cut (λ e. refl);
-      }
+          -- it is not full: End is next
+          pub last_next : 0 < length p → length p < 4096 → ComesNext asset client names first old new last (end_at 0 side.Client) []
+          last_next some short = record {
+            bytes = t.bytes ++ p;
+            whole = read_last (old names.stream) t.bytes p t.begins filled short;
+            history = t.history ++ bytes_at 0 side.Client p ∷ [];
+            begins = t.goes_on p ∙ ap (λ l. t.history ++ l) (last_piece p some (omega (arith, short)))
+                ∙ sym (append_assoc t.history (bytes_at 0 side.Client p ∷ []) (end_at 0 side.Client ∷ []));
+            sifting_of = uncut_sifting asset client names first new (t.history ++ bytes_at 0 side.Client p ∷ []) last after;
+            uncut = stays_uncut;
+          }

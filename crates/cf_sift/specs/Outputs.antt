@@ -1,5 +1,5 @@
 -- Files that are created in their order: AreCreated and CreationFails.
-use Rattle.std.specs.Prelude.{◌≡◌, ◌≢◌, ◌⊎◌, ℕ, List, [], ◌∷◌}
+use Rattle.std.specs.Prelude.{◌≡◌, ◌⊎◌, ℕ, List, [], ◌∷◌}
 use Rattle.cf_outside.specs.Files.{Content, content_after_create}
 
 module _ (before after : List ℕ → Content) where
@@ -19,12 +19,3 @@ module _ (before after : List ℕ → Content) where
   CreationFails (name ∷ names) =
       (((after name ≡ before name) ⊎ (after name ≡ content_after_create (before name))) × AreSame names)
       ⊎ ((after name ≡ content_after_create (before name)) × CreationFails names)
-
-  -- the other of these is none of the names, and is as it was
-  abbrev pub IsSameBeside : List ℕ → List (List ℕ) → Type 0
-  IsSameBeside other [] = after other ≡ before other
-  IsSameBeside other (name ∷ names) = other ≢ name → IsSameBeside other names
-
-  -- every file of another name is as it was
-  abbrev pub KeepsAllBut : List (List ℕ) → Type 0
-  KeepsAllBut names = (other : List ℕ) → IsSameBeside other names

@@ -9,11 +9,12 @@ use Rattle.cf_lane.specs.Judged.{Judged, is_admitted, is_refused}
 use Rattle.cf_lane.specs.Log.{line_about, lines}
 use Rattle.cf_lane.specs.Output.{outputs}
 use Rattle.cf_outside.specs.Files.{Content, untold, absent, holds, IsWhole, content_after_create, with_appended}
+use Rattle.cf_outside.specs.Frames.{KeepsOtherFiles}
 use Rattle.cf_policy.specs.declared.Asset.{Asset}
 use Rattle.cf_view.specs.declared.Endpoint.{Endpoint}
 use Rattle.cf_view.specs.declared.Side.TheVariants as side
 use Rattle.cf_sift.specs.Names.{SiftNamesValue, sift_output_names}
-use Rattle.cf_sift.specs.Outputs.{CreationFails, KeepsAllBut}
+use Rattle.cf_sift.specs.Outputs.{CreationFails}
 use Rattle.cf_sift.specs.Stored.{GoesUpTo, IsUncut, cut_behind, stored_history}
 use Rattle.cf_sift.specs.Stream.{HasStream}
 use Rattle.cf_sift.specs.declared.sift.SiftDone.{SiftDone}
@@ -146,7 +147,7 @@ module _ (asset : Asset) (client : ℕ) (names : SiftNamesValue) (before after :
     pub have : HaveOutput asset (stored_client client) names (created before) after judged (cut_lines asset (stored_client client) done.cut)
     pub admitted : done.admitted ≡ count_by (λ j. is_admitted j.fate) judged
     pub refused : done.refused ≡ count_by (λ j. is_refused j.fate) judged
-    pub others : KeepsAllBut before after (sift_output_names names)
+    pub others : KeepsOtherFiles (sift_output_names names) before after
 
   -- a read failed: the outputs have what the items of the elements before it put out, none of which cuts
   pub record IsReadUpTo : Type 0 where
@@ -159,7 +160,7 @@ module _ (asset : Asset) (client : ℕ) (names : SiftNamesValue) (before after :
     pub judged : List Judged
     pub are_judged : AreJudged asset client history judged
     pub have : HaveOutput asset (stored_client client) names (created before) after judged []
-    pub others : KeepsAllBut before after (sift_output_names names)
+    pub others : KeepsOtherFiles (sift_output_names names) before after
 
   -- a write failed at an element, before which nothing cuts
   pub record IsWrittenUpTo : Type 0 where
@@ -173,12 +174,12 @@ module _ (asset : Asset) (client : ℕ) (names : SiftNamesValue) (before after :
     pub judged : List Judged
     pub are_judged : AreJudged asset client earlier judged
     pub fails : ElementFails asset (stored_client client) names (created before) after earlier judged element
-    pub others : KeepsAllBut before after (sift_output_names names)
+    pub others : KeepsOtherFiles (sift_output_names names) before after
 
   -- a creation failed, and nothing was written
   pub record IsUncreated : Type 0 where
     pub fails : CreationFails before after (sift_output_names names)
-    pub others : KeepsAllBut before after (sift_output_names names)
+    pub others : KeepsOtherFiles (sift_output_names names) before after
 
   -- want of memory comes before the first creation
   abbrev pub SiftEnds : Result SiftDone SiftFault → Type 0

@@ -5,13 +5,13 @@ use Rattle.cf_lane.specs.Follows.{Follows, Rests}
 use Rattle.cf_lane.specs.Handled.{IsLaneOf, State, debt, debt_limit, rest_limit, state}
 use Rattle.cf_lane.specs.History.{Element, ended_of, taken}
 use Rattle.cf_outq.specs.SendQueue.{Queue, queue_length}
-use Rattle.cf_outside.specs.Files.{Content, with_appended}
-use Rattle.cf_outside.specs.Lines.{ends_with_line, file_lines, file_part}
+use Rattle.cf_outside.specs.Files.{Content}
+use Rattle.cf_outside.specs.Lines.{ends_with_line, file_lines}
 use Rattle.cf_policy.specs.declared.Asset.{Asset}
 use Rattle.cf_stream.specs.Stream.{letter_count}
 use Rattle.cf_view.specs.declared.Endpoint.{Endpoint}
 use Rattle.cf_view.specs.declared.Side.TheVariants as side
-use Rattle.cf_sift.specs.Drained.{MovesPart}
+use Rattle.cf_sift.specs.Drained.{Drains, MovesPart}
 use Rattle.cf_sift.specs.Names.{SiftNamesValue}
 use Rattle.cf_sift.specs.Sifted.{ElementFails, HasOut, HasReplies}
 use Rattle.cf_sift.specs.Stored.{cut_behind}
@@ -74,9 +74,10 @@ FailsElement asset names element old before after =
     (client : Endpoint) (first : List ℕ → Content) (h : List Element) → (was : IsSiftingOf asset client names first before h None old) →
     ElementFails asset client names first after h was.follows.judged element
 
--- an append to OUT failed; or one to REPLIES did, and OUT has all
-abbrev pub MovesFail : SiftNamesValue → Sifting → (old new : List ℕ → Content) → Type 0
-MovesFail names sifting old new =
-    (MovesPart sifting.to_controller (old names.out) (new names.out) × (new names.replies ≡ old names.replies))
-    ⊎ ((new names.out ≡ with_appended (old names.out) sifting.to_controller.kept)
-    × MovesPart sifting.to_client (old names.replies) (new names.replies))
+-- an append to OUT failed, and nothing was done for REPLIES; or one to REPLIES did, and OUT has all
+abbrev pub MovesFail : SiftNamesValue → (old new : Sifting) → (before after : List ℕ → Content) → Type 0
+MovesFail names old new before after =
+    (MovesPart old.to_controller new.to_controller (before names.out) (after names.out)
+    × (new.to_client ≡ old.to_client) × (after names.replies ≡ before names.replies))
+    ⊎ (Drains old.to_controller new.to_controller (before names.out) (after names.out)
+    × MovesPart old.to_client new.to_client (before names.replies) (after names.replies))

@@ -1,8 +1,7 @@
 //! A queue moved into a file.
-ghost use Rattle.std.specs.Prelude.{◌≡◌, OnOk, OnErr, IsErr, length};
+ghost use Rattle.std.specs.Prelude.{◌≡◌, ◌∷◌, [], OnOk, OnErr, IsErr, length};
 ghost use Rattle.cf_outq.specs.SendQueue.{IsQueueOf};
-ghost use Rattle.cf_outside.specs.Faults.{HasCause};
-ghost use Rattle.cf_outside.specs.Files.{KeepsOthers};
+ghost use Rattle.cf_outside.specs.Frames.{OnlyWrites};
 ghost use Rattle.cf_stream.specs.Stream.{Stream};
 ghost use Rattle.cf_sift.specs.Drained.{Drains, MovesPart};
 
@@ -14,17 +13,15 @@ use cf_view::WriteFault;
 /// Moves all bytes of a queue to the end of a file, through a buffer of 4,096 bytes.
 pub(crate) fn drain<F: Files>(
     queue: &mut Outq,
-    files: &mut F,
     name: &str,
     buffer: &mut [u8],
+    files: &mut F,
 ) -> Result<(), WriteFault>
     requires buffer { length buffer.old ≡ 4096 }
     ensures drains { OnOk result (Drains queue.old queue.new (F.content files.old name.now) (F.content files.new name.now)) }
-    ensures partly { OnErr result (MovesPart queue.old (F.content files.old name.now) (F.content files.new name.now)) }
+    ensures partly { OnErr result (MovesPart queue.old queue.new (F.content files.old name.now) (F.content files.new name.now)) }
     ensures stands { (whole : Stream) → IsQueueOf queue.old whole → IsQueueOf queue.new whole }
-    ensures others { KeepsOthers name.now (F.content files.old) (F.content files.new) }
-    ensures cause { HasCause (F.write_faults files.old) (F.write_faults files.new) (IsErr result) }
-    ensures reads { F.read_faults files.new ≡ F.read_faults files.old }
+    ensures writes { OnlyWrites (name.now ∷ []) F.content F.read_faults F.write_faults files.old files.new (IsErr result) }
     ensures buffer { length buffer.new ≡ 4096 }
 {
     'pieces: loop {

@@ -1,8 +1,8 @@
 //! The filter of a stored stream of one client.
-ghost use Rattle.std.specs.Prelude.{◌≡◌, Some, true, IfOk, IsErr, IsErrOf, IsSome, OnErr, OnOk, vec_len};
+ghost use Rattle.std.specs.Prelude.{◌≡◌, ◌∷◌, [], Some, true, IfOk, IsErr, IsErrOf, IsSome, OnErr, OnOk, vec_len};
 ghost use Rattle.cf_lane.specs.Handled.{MayHaveMore};
 ghost use Rattle.cf_outside.specs.Faults.{HasCause};
-ghost use Rattle.cf_outside.specs.Files.{KeepsOthers};
+ghost use Rattle.cf_outside.specs.Frames.{OnlyWrites};
 ghost use Rattle.cf_outside.specs.Lines.{ends_with_line, file_lines, file_part};
 ghost use Rattle.cf_lane.specs.Log.{with_lines};
 ghost use Rattle.cf_policy.specs.Within.{IsAssetWithin};
@@ -96,8 +96,8 @@ pub fn sift_stream<F: Files>(
     let mut sifting = Sifting::new(alloc, asset, client)?;
     let mut piece = zeros(alloc)?;
     let mut buffer = zeros(alloc)?;
-    create_outputs(files, names)?;
-    let cut = take_stream(&mut sifting, asset, names, files, &mut piece, &mut buffer)?;
+    create_outputs(names, files)?;
+    let cut = take_stream(&mut sifting, asset, names, &mut piece, &mut buffer, files)?;
     log_cut(asset, client, &cut, names.log, files)?;
     Ok(SiftDone {
         cut,
@@ -122,9 +122,7 @@ fn log_cut<F: Files>(
         (file_lines (F.content files.new log.now)) (file_part (F.content files.new log.now))) }
     ensures some { OnErr result (IsSome cut.now) }
     ensures whole { OnOk result (ends_with_line (F.content files.new log.now) ≡ true) }
-    ensures others { KeepsOthers log.now (F.content files.old) (F.content files.new) }
-    ensures cause { HasCause (F.write_faults files.old) (F.write_faults files.new) (IsErr result) }
-    ensures reads { F.read_faults files.new ≡ F.read_faults files.old }
+    ensures writes { OnlyWrites (log.now ∷ []) F.content F.read_faults F.write_faults files.old files.new (IsErr result) }
 {
     match cut {
         None => Ok(()),
@@ -147,9 +145,7 @@ fn log_reason<F: Files>(
     ensures fails { OnErr result (MayHaveMore (cut_lines asset.now client (Some reason)) (file_lines (F.content files.old log.now))
         (file_lines (F.content files.new log.now)) (file_part (F.content files.new log.now))) }
     ensures whole { OnOk result (ends_with_line (F.content files.new log.now) ≡ true) }
-    ensures others { KeepsOthers log.now (F.content files.old) (F.content files.new) }
-    ensures cause { HasCause (F.write_faults files.old) (F.write_faults files.new) (IsErr result) }
-    ensures reads { F.read_faults files.new ≡ F.read_faults files.old }
+    ensures writes { OnlyWrites (log.now ∷ []) F.content F.read_faults F.write_faults files.old files.new (IsErr result) }
 {
     let mut desk = log_desk(log, files);
     log_line(asset, client, 0, What::Cut(reason), &mut desk)

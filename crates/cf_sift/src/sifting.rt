@@ -6,15 +6,13 @@ ghost use Rattle.cf_lane.specs.Handled.{state};
 ghost use Rattle.cf_lane.specs.History.{bytes_at, end_at};
 ghost use Rattle.cf_lane.specs.Limit.{limit_by};
 ghost use Rattle.cf_outq.specs.SendQueue.{IsQueueOf, after_end, queue_length};
-ghost use Rattle.cf_outside.specs.Faults.{HasCause};
-ghost use Rattle.cf_outside.specs.Files.{KeepsOthers};
+ghost use Rattle.cf_outside.specs.Frames.{OnlyWrites};
 ghost use Rattle.cf_outside.specs.Lines.{ends_with_line, file_lines, file_part};
 ghost use Rattle.cf_policy.specs.Within.{IsAssetWithin};
 ghost use Rattle.cf_stream.specs.Stream.{Stream};
 ghost use Rattle.cf_sift.specs.Sifting.{IsReady, MovesFail, client_rests, state_of};
 ghost use Rattle.cf_sift.specs.Drained.{Drains};
 ghost use Rattle.cf_sift.specs.Names.{AreApart, sift_names_value, sift_output_names};
-ghost use Rattle.cf_sift.specs.Outputs.{KeepsAllBut};
 
 use crate::log::log_desk;
 use crate::names::SiftNames;
@@ -92,11 +90,10 @@ impl Sifting {
         ensures misses { OnErr result (MissesPiece asset.now 0 Side.Client piece.now self.old.heard.rest.items
             (state_of self.old (F.content files.old log.now)) (file_lines (F.content files.new log.now))
             (file_part (F.content files.new log.now))) }
+        ensures stays { OnErr result (self.new.heard.rest ≡ self.old.heard.rest) }
         ensures letters { self.new.heard.letters ≡ self.old.heard.letters + length piece.now }
         ensures whole { OnOk result (ends_with_line (F.content files.new log.now) ≡ true) }
-        ensures others { KeepsOthers log.now (F.content files.old) (F.content files.new) }
-        ensures cause { HasCause (F.write_faults files.old) (F.write_faults files.new) (IsErr result) }
-        ensures reads { F.read_faults files.new ≡ F.read_faults files.old }
+        ensures writes { OnlyWrites (log.now ∷ []) F.content F.read_faults F.write_faults files.old files.new (IsErr result) }
     {
         let mut desk = log_desk(log, files);
         self.heard.feed(
@@ -131,10 +128,13 @@ impl Sifting {
           to_controller = after_end self.old.to_controller;
           heard = record self.old.heard { letters = self.old.heard.letters + 1 };
         }) }
+        ensures stays { OnErr result (self.new ≡ record self.old {
+          to_client = self.new.to_client;
+          to_controller = self.new.to_controller;
+          heard = record self.old.heard { letters = self.old.heard.letters + 1 };
+        }) }
         ensures whole { OnOk result (ends_with_line (F.content files.new log.now) ≡ true) }
-        ensures others { KeepsOthers log.now (F.content files.old) (F.content files.new) }
-        ensures cause { HasCause (F.write_faults files.old) (F.write_faults files.new) (IsErr result) }
-        ensures reads { F.read_faults files.new ≡ F.read_faults files.old }
+        ensures writes { OnlyWrites (log.now ∷ []) F.content F.read_faults F.write_faults files.old files.new (IsErr result) }
     {
         let mut desk = log_desk(log, files);
         self.heard.end(
@@ -152,8 +152,8 @@ impl Sifting {
     pub(crate) fn drain<F: Files>(
         &mut self,
         names: &SiftNames<'_>,
-        files: &mut F,
         buffer: &mut [u8],
+        files: &mut F,
     ) -> Result<(), WriteFault>
         requires apart { AreApart (sift_names_value names.now) }
         requires buffer { length buffer.old ≡ 4096 }
@@ -161,19 +161,17 @@ impl Sifting {
             (F.content files.new names.now.replies.now)) }
         ensures to_controller { OnOk result (Drains self.old.to_controller self.new.to_controller (F.content files.old names.now.out.now)
             (F.content files.new names.now.out.now)) }
-        ensures client_stands { OnOk result ((whole : Stream) → IsQueueOf self.old.to_client whole → IsQueueOf self.new.to_client whole) }
-        ensures controller_stands { OnOk result ((whole : Stream) → IsQueueOf self.old.to_controller whole
-            → IsQueueOf self.new.to_controller whole) }
-        ensures same { OnOk result (self.new
-            ≡ record self.old { to_client = self.new.to_client; to_controller = self.new.to_controller }) }
-        ensures fails { OnErr result (MovesFail (sift_names_value names.now) self.old (F.content files.old) (F.content files.new)) }
+        ensures client_stands { (whole : Stream) → IsQueueOf self.old.to_client whole → IsQueueOf self.new.to_client whole }
+        ensures controller_stands { (whole : Stream) → IsQueueOf self.old.to_controller whole → IsQueueOf self.new.to_controller whole }
+        ensures same { self.new ≡ record self.old { to_client = self.new.to_client; to_controller = self.new.to_controller } }
+        ensures fails { OnErr result (MovesFail (sift_names_value names.now) self.old self.new (F.content files.old)
+            (F.content files.new)) }
         ensures log { F.content files.new names.now.log.now ≡ F.content files.old names.now.log.now }
-        ensures others { KeepsAllBut (F.content files.old) (F.content files.new) (sift_output_names (sift_names_value names.now)) }
-        ensures cause { HasCause (F.write_faults files.old) (F.write_faults files.new) (IsErr result) }
-        ensures reads { F.read_faults files.new ≡ F.read_faults files.old }
+        ensures writes { OnlyWrites (sift_output_names (sift_names_value names.now)) F.content F.read_faults F.write_faults
+            files.old files.new (IsErr result) }
         ensures buffer { length buffer.new ≡ 4096 }
     {
-        drain(&mut self.to_controller, files, names.out, buffer)?;
-        drain(&mut self.to_client, files, names.replies, buffer)
+        drain(&mut self.to_controller, names.out, buffer, files)?;
+        drain(&mut self.to_client, names.replies, buffer, files)
     }
 }

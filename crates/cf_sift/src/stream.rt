@@ -1,13 +1,12 @@
 //! A stored stream, taken element by element.
-ghost use Rattle.std.specs.Prelude.{◌≡◌, ◌+◌, ◌^◌, ◌<◌, ◌≤◌, ◌++◌, ◌∷◌, [], None, true, IfOk, OnOk, OnErr, IsErr, IsErrOf, length};
+ghost use Rattle.std.specs.Prelude.{◌≡◌, ◌+◌, ◌<◌, ◌≤◌, None, true, IfOk, OnOk, OnErr, IsErr, IsErrOf, length};
 ghost use Rattle.cf_lane.specs.History.{bytes_at, end_at};
 ghost use Rattle.cf_outside.specs.Faults.{HasCause};
+ghost use Rattle.cf_outside.specs.Frames.{KeepsOtherFiles, OnlyWrites};
 ghost use Rattle.cf_outside.specs.Lines.{ends_with_line};
 ghost use Rattle.cf_policy.specs.Within.{IsAssetWithin};
-ghost use Rattle.cf_view.specs.declared.Endpoint.{Endpoint as EndpointOf};
 ghost use Rattle.cf_sift.specs.Sifting.{FailsElement, IsReady, TakesElement};
 ghost use Rattle.cf_sift.specs.Names.{AreApart, sift_names_value, sift_output_names};
-ghost use Rattle.cf_sift.specs.Outputs.{KeepsAllBut};
 ghost use Rattle.cf_sift.specs.Taken.{IsTakenWhole, OfEachSifting, ReadStops, WriteStops};
 
 use crate::names::SiftNames;
@@ -27,9 +26,9 @@ pub(crate) fn take_stream<F: Files>(
     sifting: &mut Sifting,
     asset: &Asset,
     names: &SiftNames<'_>,
-    files: &mut F,
     piece: &mut [u8],
     buffer: &mut [u8],
+    files: &mut F,
 ) -> Result<Option<CutReason>, SiftFault>
     requires ready { IsReady asset.now sifting.old }
     requires fresh { sifting.old.heard.letters ≡ 0 }
@@ -47,20 +46,20 @@ pub(crate) fn take_stream<F: Files>(
         (λ client first. WriteStops asset.now client (sift_names_value names.now) first (F.content files.old) (F.content files.new)) }
     ensures memory { IsErrOf result SiftFault.NoMemory → ⊥ }
     ensures log { OnOk result (ends_with_line (F.content files.new names.now.log.now) ≡ true) }
-    ensures others { KeepsAllBut (F.content files.old) (F.content files.new) (sift_output_names (sift_names_value names.now)) }
+    ensures others { KeepsOtherFiles (sift_output_names (sift_names_value names.now)) (F.content files.old) (F.content files.new) }
     ensures read_cause { HasCause (F.read_faults files.old) (F.read_faults files.new) (IsErrOf result SiftFault.Read) }
     ensures write_cause { HasCause (F.write_faults files.old) (F.write_faults files.new) (IsErrOf result SiftFault.Write) }
 {
     has_one_judgement();
     let mut at = 0;
     'pieces: loop {
-        let Some(count) = fill(files, names.stream, at, piece, 0, PIECE) else {
+        let Some(count) = fill(names.stream, at, 0, PIECE, piece, files) else {
             return Err(SiftFault::Read);
         };
         if count == 0 {
             return Ok(take_end(sifting, asset, names, files)?);
         }
-        if let Some(reason) = take_piece(sifting, asset, &piece[..count], names, files, buffer)? {
+        if let Some(reason) = take_piece(sifting, asset, names, &piece[..count], buffer, files)? {
             return Ok(Some(reason));
         }
         if count < PIECE {
@@ -74,10 +73,10 @@ pub(crate) fn take_stream<F: Files>(
 fn take_piece<F: Files>(
     sifting: &mut Sifting,
     asset: &Asset,
-    piece: &[u8],
     names: &SiftNames<'_>,
-    files: &mut F,
+    piece: &[u8],
     buffer: &mut [u8],
+    files: &mut F,
 ) -> Result<Option<CutReason>, WriteFault>
     requires ready { IsReady asset.now sifting.old }
     requires within { IsAssetWithin asset.now }
@@ -90,16 +89,15 @@ fn take_piece<F: Files>(
     ensures fails { OnErr result (FailsElement asset.now (sift_names_value names.now) (bytes_at 0 Side.Client piece.now)
         sifting.old (F.content files.old) (F.content files.new)) }
     ensures ready { IfOk result (λ cut. cut ≡ None → IsReady asset.now sifting.new) }
-    ensures letters { OnOk result (sifting.new.heard.letters ≡ sifting.old.heard.letters + length piece.now) }
+    ensures letters { sifting.new.heard.letters ≡ sifting.old.heard.letters + length piece.now }
     ensures whole { OnOk result (ends_with_line (F.content files.new names.now.log.now) ≡ true) }
-    ensures others { KeepsAllBut (F.content files.old) (F.content files.new) (sift_output_names (sift_names_value names.now)) }
-    ensures cause { HasCause (F.write_faults files.old) (F.write_faults files.new) (IsErr result) }
-    ensures reads { F.read_faults files.new ≡ F.read_faults files.old }
+    ensures writes { OnlyWrites (sift_output_names (sift_names_value names.now)) F.content F.read_faults F.write_faults
+        files.old files.new (IsErr result) }
     ensures buffer { length buffer.new ≡ 4096 }
 {
     streams_go_on();
     let cut = sifting.feed(asset, piece, names.log, files)?;
-    sifting.drain(names, files, buffer)?;
+    sifting.drain(names, buffer, files)?;
     Ok(cut.or(sifting.length_cut()))
 }
 
@@ -119,9 +117,8 @@ fn take_end<F: Files>(
     ensures fails { OnErr result (FailsElement asset.now (sift_names_value names.now) (end_at 0 Side.Client)
         sifting.old (F.content files.old) (F.content files.new)) }
     ensures whole { OnOk result (ends_with_line (F.content files.new names.now.log.now) ≡ true) }
-    ensures others { KeepsAllBut (F.content files.old) (F.content files.new) (sift_output_names (sift_names_value names.now)) }
-    ensures cause { HasCause (F.write_faults files.old) (F.write_faults files.new) (IsErr result) }
-    ensures reads { F.read_faults files.new ≡ F.read_faults files.old }
+    ensures writes { OnlyWrites (sift_output_names (sift_names_value names.now)) F.content F.read_faults F.write_faults
+        files.old files.new (IsErr result) }
 {
     streams_go_on();
     sifting.end(asset, names.log, files)?;

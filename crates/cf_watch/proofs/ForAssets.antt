@@ -5,9 +5,9 @@ use Rattle.std.proofs.lemmas.List.Quantifiers.{position-Some}
 use Rattle.std.proofs.lemmas.Option.{none-some}
 use Rattle.cf_packet.specs.Packet.{PacketValue, read_record}
 use Rattle.cf_packet.specs.declared.packet.PacketRefusal.{PacketRefusal}
-use Rattle.cf_run.specs.Capture.{Record}
-use Rattle.cf_run.specs.Entries.{asset_place}
-use Rattle.cf_run.specs.Table.{is_opening}
+use Rattle.cf_records.specs.Capture.{Record}
+use Rattle.cf_leg.specs.Segment.{is_opening}
+use Rattle.cf_policy.specs.AtEndpoint.{asset_place}
 use Rattle.cf_view.specs.Endpoints.{same_endpoint}
 use Rattle.cf_policy.specs.declared.Asset.{Asset}
 use Rattle.cf_watch.specs.Flow.{AreFlowsOf}

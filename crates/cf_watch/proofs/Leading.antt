@@ -2,12 +2,12 @@
 use Rattle.std.proofs.Common.{ℕ, zero, suc, ◌+◌, List, [], ◌∷◌, ◌++◌, drop, Some, None, Ok, refl, subst, ap, append_assoc}
 use Rattle.std.proofs.lemmas.List.{append-nil, drop-drop}
 use Rattle.cf_outside.specs.Files.{Content, untold, absent, holds}
-use Rattle.cf_run.proofs.Behind.{StandsBehind}
-use Rattle.cf_run.specs.Capture.{AreRecords, AtPlace, IsLast, LastPlace, Record, form_behind}
-use Rattle.cf_run.specs.Form.{first_place}
-use Rattle.cf_run.specs.Reader.{FindsRecord, HasForm, PassesTo, ReaderValue}
-use Rattle.cf_run.specs.declared.Form.{Form}
-use Rattle.cf_run.specs.declared.NextRecord.TheVariants as next
+use Rattle.cf_records.proofs.Behind.{StandsBehind}
+use Rattle.cf_records.specs.Capture.{AreRecords, AtPlace, IsLast, LastPlace, Record, form_behind}
+use Rattle.cf_records.specs.Form.{first_place}
+use Rattle.cf_records.specs.Reader.{FindsRecord, HasForm, PassesTo, ReaderValue}
+use Rattle.cf_records.specs.declared.Form.{Form}
+use Rattle.cf_records.specs.declared.NextRecord.TheVariants as next
 use Rattle.cf_watch.specs.Watch.{HasRecords}
 
 -- with these records in front, the records from a place on are those of the file, as far as it is told; there its form is this one

@@ -8,13 +8,13 @@ use Rattle.cf_pcapng.proofs.Insides.{is_inside}
 use Rattle.cf_pcapng.specs.Block.{Begins, Describes, Found, Holds, Is, Needs, Other, Refuses, block_at, size_at}
 use Rattle.cf_pcapng.specs.Section.{Section}
 use Rattle.cf_pcapng.specs.declared.block.TheConstants.{REFUSED_INTERFACE, REFUSED_LENGTH, REFUSED_RESOLUTION, REFUSED_SECTION}
-use Rattle.cf_run.proofs.Behind.{StandsBehind}
-use Rattle.cf_run.specs.Capture.{AtPlace, Clock, Cut, FileEnd, Fits, Large, Passes, Record, Refused, TooLong, at_place, by_block, by_size, classic_at, is_past}
-use Rattle.cf_run.specs.Reader.{FindsRecord, ReaderValue}
-use Rattle.cf_run.specs.declared.BlockRefusal.TheVariants as block
-use Rattle.cf_run.specs.declared.Form.{Form}
-use Rattle.cf_run.specs.declared.Form.TheVariants as form
-use Rattle.cf_run.specs.declared.NextRecord.TheVariants as next
+use Rattle.cf_records.proofs.Behind.{StandsBehind}
+use Rattle.cf_records.specs.Capture.{AtPlace, Clock, Cut, FileEnd, Fits, Large, Passes, Record, Refused, TooLong, at_place, by_block, by_size, classic_at, is_past}
+use Rattle.cf_records.specs.Reader.{FindsRecord, ReaderValue}
+use Rattle.cf_records.specs.declared.BlockRefusal.TheVariants as block
+use Rattle.cf_records.specs.declared.Form.{Form}
+use Rattle.cf_records.specs.declared.Form.TheVariants as form
+use Rattle.cf_records.specs.declared.NextRecord.TheVariants as next
 
 -- what stands at a place says of the number of octets from there on
 abbrev Says : (place count : ℕ) → AtPlace → Type 0

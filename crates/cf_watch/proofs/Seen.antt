@@ -3,8 +3,8 @@ use Rattle.std.proofs.Common.{◌≡◌, ◌+◌, ◌∙◌, ℕ, List, [], ◌�
 use Rattle.cf_packet.specs.Packet.{PacketValue, read_record}
 use Rattle.cf_packet.specs.declared.packet.PacketRefusal.{PacketRefusal}
 use Rattle.cf_policy.specs.declared.Asset.{Asset}
-use Rattle.cf_run.specs.Capture.{Record}
-use Rattle.cf_run.specs.Entries.{asset_place}
+use Rattle.cf_records.specs.Capture.{Record}
+use Rattle.cf_policy.specs.AtEndpoint.{asset_place}
 use Rattle.cf_watch.specs.Seen.{goes_from, goes_to_asset, seen_by, with_frame}
 use Rattle.cf_watch.specs.Watched.{Watched, goes, goes_at, last_place, watched, with_record}
 use Rattle.cf_watch.specs.declared.scope.Scope.TheVariants as scope

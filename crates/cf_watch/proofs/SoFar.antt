@@ -4,13 +4,13 @@ use Rattle.std.proofs.lemmas.List.{map-append, reverse-append}
 use Rattle.std.proofs.lemmas.List.Elements.{All-from_recursion}
 use Rattle.cf_outside.specs.Files.{Content, IsAtEnd}
 use Rattle.cf_policy.specs.declared.Asset.{Asset}
-use Rattle.cf_run.proofs.Behind.{StandsBehind}
-use Rattle.cf_run.specs.Capture.{AtPlace, FileEnd, IsLast, Record}
-use Rattle.cf_run.specs.Form.{first_place}
-use Rattle.cf_run.specs.Reader.{FindsRecord, HasForm, ReaderValue}
-use Rattle.cf_run.specs.declared.Form.{Form}
-use Rattle.cf_run.specs.declared.Form.TheVariants as form
-use Rattle.cf_run.specs.declared.NextRecord.TheVariants as next
+use Rattle.cf_records.proofs.Behind.{StandsBehind}
+use Rattle.cf_records.specs.Capture.{AtPlace, FileEnd, IsLast, Record}
+use Rattle.cf_records.specs.Form.{first_place}
+use Rattle.cf_records.specs.Reader.{FindsRecord, HasForm, ReaderValue}
+use Rattle.cf_records.specs.declared.Form.{Form}
+use Rattle.cf_records.specs.declared.Form.TheVariants as form
+use Rattle.cf_records.specs.declared.NextRecord.TheVariants as next
 use Rattle.cf_watch.specs.Flow.{AreFlowsOf}
 use Rattle.cf_watch.specs.FlowValue.{IsForAsset, flow_value}
 use Rattle.cf_watch.specs.Trail.{IsHeard, IsWatchOf}

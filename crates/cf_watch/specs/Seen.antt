@@ -7,8 +7,8 @@ use Rattle.cf_leg.specs.Segment.{has_rst, has_syn}
 use Rattle.cf_packet.specs.Packet.{PacketValue, read_record}
 use Rattle.cf_packet.specs.declared.packet.PacketRefusal.{PacketRefusal}
 use Rattle.cf_policy.specs.declared.Asset.{Asset}
-use Rattle.cf_run.specs.Capture.{Record}
-use Rattle.cf_run.specs.Entries.{asset_place}
+use Rattle.cf_records.specs.Capture.{Record}
+use Rattle.cf_policy.specs.AtEndpoint.{asset_place}
 use Rattle.cf_view.specs.declared.LinkKind.{LinkKind}
 use Rattle.cf_watch.specs.Tagged.{untagged}
 use Rattle.cf_watch.specs.Watched.{Watched, goes_at, last_place, with_packet}

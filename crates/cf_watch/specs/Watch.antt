@@ -2,10 +2,10 @@
 use Rattle.std.specs.Prelude.{◌≡◌, ℕ, List, map, reverse, drop, Result, Ok, Err}
 use Rattle.cf_outside.specs.Files.{Content, IsAtEnd, IsLongerThan, absent, holds, untold}
 use Rattle.cf_policy.specs.declared.Asset.{Asset}
-use Rattle.cf_run.specs.Capture.{AreRecords, AtPlace, Cut, FileEnd, LastPlace, Record, Refused, TooLong}
-use Rattle.cf_run.specs.Form.{first_place}
-use Rattle.cf_run.specs.Reader.{HasForm}
-use Rattle.cf_run.specs.declared.Form.{Form}
+use Rattle.cf_records.specs.Capture.{AreRecords, AtPlace, Cut, FileEnd, LastPlace, Record, Refused, TooLong}
+use Rattle.cf_records.specs.Form.{first_place}
+use Rattle.cf_records.specs.Reader.{HasForm}
+use Rattle.cf_records.specs.declared.Form.{Form}
 use Rattle.cf_watch.specs.Flow.{AreFlowsOf}
 use Rattle.cf_watch.specs.FlowValue.{FlowValue}
 use Rattle.cf_watch.specs.Seen.{seen_by}

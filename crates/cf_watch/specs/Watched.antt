@@ -7,10 +7,9 @@ use Rattle.cf_packet.specs.declared.packet.PacketRefusal.{PacketRefusal}
 use Rattle.cf_policy.specs.declared.Asset.{Asset}
 use Rattle.cf_stream.specs.Position.{position as position_of}
 use Rattle.cf_view.specs.declared.Endpoint.{Endpoint}
-use Rattle.cf_leg.specs.Segment.{has_ack, has_syn, letters_in}
-use Rattle.cf_run.specs.Capture.{Record}
-use Rattle.cf_run.specs.Entries.{asset_place}
-use Rattle.cf_run.specs.Table.{is_opening}
+use Rattle.cf_leg.specs.Segment.{has_ack, has_syn, letters_in, is_opening}
+use Rattle.cf_records.specs.Capture.{Record}
+use Rattle.cf_policy.specs.AtEndpoint.{asset_place}
 use Rattle.cf_view.specs.Endpoints.{same_endpoint}
 use Rattle.cf_watch.specs.Carried.{Carried, top_of}
 

@@ -1,6 +1,6 @@
 //! Why the flows of a capture are not told.
 
-use cf_run::{BlockRefusal, FormRefusal, OpenFault};
+use cf_records::{BlockRefusal, FormRefusal, OpenFault};
 
 /// How many octets a capture that is watched has at most: 64 MiB. This project's own.
 pub const CAPTURE_LIMIT: u64 = 67_108_864;

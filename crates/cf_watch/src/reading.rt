@@ -3,8 +3,8 @@ ghost use Rattle.std.specs.Prelude.{◌≡◌, ◌+◌, ◌-◌, ◌*◌, ◌^�
 ghost use Rattle.std.specs.Prelude.{IsErrOf, length, map, IfOk, IfErr};
 ghost use Rattle.cf_outside.specs.Faults.{HasCause};
 ghost use Rattle.cf_outside.specs.Files.{IsAtEnd, IsLongerThan};
-ghost use Rattle.cf_run.specs.Form.{first_place};
-ghost use Rattle.cf_run.specs.Reader.{HasForm};
+ghost use Rattle.cf_records.specs.Form.{first_place};
+ghost use Rattle.cf_records.specs.Reader.{HasForm};
 ghost use Rattle.cf_watch.specs.FlowValue.{IsForAsset, flow_value};
 ghost use Rattle.cf_watch.specs.Watch.{IsRecordingFor, IsRecordingOf, WatchesAs};
 
@@ -14,7 +14,7 @@ use crate::scope::Scope;
 use crate::watching::Watch;
 use cf_outside::{Files, ReadAnswer};
 use cf_policy::{Asset, Policy};
-use cf_run::{NextRecord, RecordReader};
+use cf_records::{NextRecord, RecordReader};
 use cf_view::NoMemory;
 use std::alloc::Global;
 
@@ -88,7 +88,7 @@ fn watch_for<F: Files>(
         Some(true) => return Err(WatchFault::Refused(WatchRefusal::Long)),
         None => return Err(WatchFault::Read),
     }
-    match RecordReader::open(alloc, files, capture) {
+    match RecordReader::open(alloc, capture, files) {
         Ok(mut reader) => {
             let assets = policy.assets.as_slice();
             watch_records(alloc, scope, assets, capture, &mut reader, files)
@@ -152,7 +152,7 @@ fn watch_records<F: Files>(
     let mut kept = Vec::new(alloc);
     let mut number: u64 = 0;
     'records: loop {
-        match reader.next(files, name) {
+        match reader.next(name, files) {
             NextRecord::Whole(stamp) => {
                 if reader.place() > CAPTURE_LIMIT {
                     // The file has grown since it was opened.

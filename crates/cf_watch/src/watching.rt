@@ -8,7 +8,7 @@ ghost use Rattle.std.specs.BTreeMap.{get};
 ghost use Rattle.std.specs.Ordering.{is_eq};
 ghost use Rattle.cf_watch.specs.Trail.{HasHeard, IsHeard, IsWatchOf, key_cmp, key_of};
 ghost use Rattle.cf_leg.specs.Segment.{has_ack};
-ghost use Rattle.cf_run.specs.Entries.{asset_place};
+ghost use Rattle.cf_policy.specs.AtEndpoint.{asset_place};
 ghost use Rattle.cf_watch.specs.Seen.{begins_amid, begun_with, frame_by, goes_from, goes_to_asset, with_frame};
 ghost use Rattle.cf_watch.specs.Watched.{Watched, begins_anew, goes_at, with_packet};
 

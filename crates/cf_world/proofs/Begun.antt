@@ -2,14 +2,14 @@
 use Rattle.std.proofs.Common.{◌≡◌, ℕ, ◌+◌, ◌<◌, ◌≤◌, List, length, inl, inr, sym, subst, arith}
 use Rattle.std.proofs.lemmas.Bool.{cases_lt}
 use Rattle.cf_world.specs.Capture.{IsSyn}
-use Rattle.cf_world.specs.Making.{IsNext, IsSent, made_record}
+use Rattle.cf_world.specs.Making.{IsNext, made_record}
 use Rattle.cf_world.specs.declared.next.Next.{Next}
 use Rattle.cf_world.specs.declared.next.Next.TheVariants as next
 
 module _ (begun sessions last losses moment : ℕ) (packet : List ℕ) where
-  is_sent : begun < sessions → sessions ≤ 200 → last + 2000 ≤ moment → moment ≤ last + 10000000 → length packet ≤ 1500 →
-      IsSyn begun (made_record moment packet) → IsSent begun sessions last moment (begun + 1) packet
-  is_sent fewer few later soon short syn = record {
+  pub begins_next : (found : Next) → found ≡ next.Sends moment (begun + 1) → begun < sessions → sessions ≤ 200 → last + 2000 ≤ moment → moment ≤ last + 10000000 →
+      length packet ≤ 1500 → IsSyn begun (made_record moment packet) → IsNext begun sessions last losses packet found
+  begins_next found is fewer few later soon short syn = subst (IsNext begun sessions last losses packet) (sym is) (record {
     later = later;
     soon = soon;
     short = short;
@@ -22,8 +22,4 @@ module _ (begun sessions last losses moment : ℕ) (packet : List ℕ) where
           let same : begun ≡ session = omega (arith, below, now) in
           inr (subst (λ s. IsSyn s (made_record moment packet)) same syn)
     ];
-  }
-
-  pub begins_next : (found : Next) → found ≡ next.Sends moment (begun + 1) → begun < sessions → sessions ≤ 200 → last + 2000 ≤ moment → moment ≤ last + 10000000 →
-      length packet ≤ 1500 → IsSyn begun (made_record moment packet) → IsNext begun sessions last losses packet found
-  begins_next found is fewer few later soon short syn = subst (λ f. IsNext begun sessions last losses packet f) (sym is) (is_sent fewer few later soon short syn)
+  })

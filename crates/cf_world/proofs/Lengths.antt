@@ -2,7 +2,7 @@
 use Rattle.std.proofs.Common.{◌≡◌, ℕ, ◌+◌, ◌≤◌, Bool, true, false, ◌&&◌, List, [], ◌∷◌, length, length-append, refl, arith}
 use Rattle.std.proofs.lemmas.Bool.{and_parts, false≢true}
 use Rattle.std.specs.Fmt.{signed_decimal}
-use Rattle.toml.specs.Data.{Data, string, integer, float, boolean, datetime, array, table, Items, no_items, item}
+use Rattle.toml.specs.Data.{Data, string, integer, array, Items, no_items, item}
 use Rattle.toml.specs.Tables.{Definition, key_value, std_table, array_table, Expression}
 use Rattle.toml.specs.Text.{IsValueText, IsItemsText, IsLineText, IsLinesText, breaks_lines}
 use Rattle.toml_parser.specs.Strings.{Key}
@@ -56,13 +56,10 @@ mutual
   value_short : (d : Data) (text : List ℕ) → is_plain d ≡ true → IsValueText false d text → length text ≤ value_room d
   value_short (string s) text plain h = rw h (omega arith)
   value_short (integer z) text plain h = rw h.0 (omega arith)
-  value_short (float x) text plain h = absurd (false≢true plain)
-  value_short (boolean b) text plain h = absurd (false≢true plain)
-  value_short (datetime dt) text plain h = absurd (false≢true plain)
   value_short (array ds) text plain h =
       let inner : length h.0 ≤ items_room ds = items_short true ds h.0 plain (rw unbroken at h.2) in
       rw h.1 (omega arith)
-  value_short (table ms) text plain h = absurd (false≢true plain)
+  value_short d text plain h = absurd (false≢true plain)
 
   items_short : (is_first : Bool) (ds : Items) (text : List ℕ) → are_plain ds ≡ true → IsItemsText false false is_first ds text → length text ≤ items_room ds
   items_short is_first no_items text plain h = rw h (omega arith)

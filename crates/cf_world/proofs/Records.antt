@@ -1,9 +1,7 @@
 -- The octets of records that are made are a capture.
 use Rattle.std.proofs.Common.{◌≡◌, ℕ, ◌+◌, ◌*◌, ◌^◌, ◌<◌, ◌≤◌, nat_eq, nat_lt, true, false, Ok, Some, List, [], ◌∷◌, ◌++◌, length, drop, map, refl, sym, ap, ◌∙◌, subst, arith, inl, inr}
-use Rattle.std.specs.List.{AllByRecursion, flat_map}
-use Rattle.std.proofs.lemmas.Grind.{flat_map-append}
-use Rattle.std.proofs.lemmas.List.{append-nil, length-append}
-use Rattle.std.proofs.lemmas.List.Concat.{flat_map-cons}
+use Rattle.std.specs.List.{AllByRecursion}
+use Rattle.std.proofs.lemmas.List.{drop_at, flat_map_more, length-append}
 use Rattle.std.proofs.Math.Seq.{take-append_seam, drop-append_seam}
 use Rattle.std.proofs.lemmas.Bool.{cases_Bool}
 use Rattle.std.proofs.lemmas.Bool.Decides.{nat_tests}
@@ -11,9 +9,9 @@ use Rattle.cf_pcap.specs.Header.{header_of, output_header, output_octets}
 use Rattle.cf_pcap.specs.Record.{Need, RecordAnswerValue, TooLong as NotAllowed, Whole, captured_at, record_of}
 use Rattle.cf_view.specs.Moment.{moment_limit}
 use Rattle.cf_pcap.specs.declared.Header.{Header}
-use Rattle.cf_run.specs.Capture.{AtPlace, Cut, FileEnd, Fits, Record, TooLong, classic_at, is_past, records_among}
-use Rattle.cf_run.specs.Moments.{AreTimed, AreTimedPieces, first_moment, moment_from, timed}
-use Rattle.cf_run.specs.declared.Form.TheVariants as form
+use Rattle.cf_records.specs.Capture.{AtPlace, Cut, FileEnd, Fits, Record, TooLong, classic_at, is_past, records_among}
+use Rattle.cf_records.specs.Moments.{AreTimed, AreTimedPieces, first_moment, moment_from, timed}
+use Rattle.cf_records.specs.declared.Form.TheVariants as form
 use Rattle.cf_world.specs.Capture.{AreSpaced, HasPacket, IsCaptureOf}
 use Rattle.cf_world.specs.Making.{AreMade, IsMade, least_after, record_octets, records_octets}
 
@@ -27,9 +25,7 @@ after_more least [] r = refl
 after_more least (q ∷ rs) r = after_more (q.stamp + 2000) rs r
 
 pub octets_more : (rs : List Record) (r : Record) → records_octets (rs ++ r ∷ []) ≡ records_octets rs ++ record_octets r
-octets_more rs r =
-    let one : flat_map record_octets (r ∷ []) ≡ record_octets r = flat_map-cons record_octets r [] ∙ append-nil (record_octets r) in
-    flat_map-append record_octets rs (r ∷ []) ∙ ap (λ xs. records_octets rs ++ xs) one
+octets_more rs r = sym (flat_map_more record_octets [] rs r)
 
 -- a smaller least stamp
 made_earlier : (least less : ℕ) (rs : List Record) → less ≤ least → AreMade least rs → AreMade less rs
@@ -39,14 +35,10 @@ made_earlier least less (r ∷ rs) below (a, b, made) = (omega (arith, a), b, ma
 record_long : (r : Record) → length (record_octets r) ≡ 16 + length r.body
 record_long r = omega arith
 
-octets_first : (r : Record) (rs : List Record) → records_octets (r ∷ rs) ≡ record_octets r ++ records_octets rs
-octets_first r rs = flat_map-cons record_octets r rs
-
 pub octets_short : (least : ℕ) (rs : List Record) → AreMade least rs → length (records_octets rs) ≤ 1516 * length rs
 octets_short least [] made = omega arith
 octets_short least (r ∷ rs) (a, b, made) =
-    let all : length (records_octets (r ∷ rs)) ≡ length (record_octets r) + length (records_octets rs) =
-    ap length (octets_first r rs) ∙ length-append (record_octets r) (records_octets rs) in
+    let all : length (records_octets (r ∷ rs)) ≡ length (record_octets r) + length (records_octets rs) = length-append (record_octets r) (records_octets rs) in
     omega (arith, all, record_long r, b.short, octets_short (r.stamp + 2000) rs made)
 
 -- what stands at a place of a classic file that ends at place 2^40 or before
@@ -91,22 +83,17 @@ timed_pieces : (least place : ℕ) (rs : List Record) → AreMade least rs → p
 timed_pieces least place [] made near = (omega arith, refl, tt)
 timed_pieces least place (r ∷ rs) (a, b, made) near =
     let rest = records_octets rs in
-    let first = octets_first r rs in
     let used : length (record_octets r) ≡ 16 + length r.body = record_long r in
     let all : length (records_octets (r ∷ rs)) ≡ 16 + length r.body + length rest =
-    ap length first ∙ length-append (record_octets r) rest ∙ ap (λ n. n + length rest) used in
-    let here : timed least (classic_at output_header place (records_octets (r ∷ rs))) ≡ Fits r (16 + length r.body) =
-    subst (λ xs. timed least (classic_at output_header place xs) ≡ Fits r (16 + length r.body)) (sym first)
-    (timed_here least place r rest a b (omega (arith, near, all, ap length first))) in
-    let behind : drop (16 + length r.body) (records_octets (r ∷ rs)) ≡ rest =
-    ap (λ xs. drop (16 + length r.body) xs) first ∙ ap (λ n. drop n (record_octets r ++ rest)) (sym used) ∙ drop-append_seam (record_octets r) rest in
+    length-append (record_octets r) rest ∙ ap (λ n. n + length rest) used in
+    let behind : drop (16 + length r.body) (records_octets (r ∷ rs)) ≡ rest = drop_at (record_octets r) rest (16 + length r.body) used in
     let same : place + (16 + length r.body) + length rest ≡ place + length (records_octets (r ∷ rs)) = omega (arith, all) in
     let moment : moment_from least r ≡ r.stamp = omega (arith, a) in
     let later = made_earlier (r.stamp + 2000) (moment_from least r + 2) rs (omega (arith, moment)) made in
     let more = timed_pieces (moment_from least r + 2) (place + (16 + length r.body)) rs later (omega (arith, near, same)) in
     let there = subst (λ n. AreTimedPieces (form.Classic output_header) (moment_from least r + 2) (place + (16 + length r.body)) rest (map Some rs) (record { place = n; found = FileEnd })) same more in (
       16 + length r.body,
-      here,
+      timed_here least place r rest a b near,
       subst (λ xs. AreTimedPieces (form.Classic output_header) (moment_from least r + 2) (place + (16 + length r.body)) xs (map Some rs)
           (record { place = place + length (records_octets (r ∷ rs)); found = FileEnd })) (sym behind) there,
     )
@@ -120,13 +107,10 @@ pub are_timed : (least place : ℕ) (rs : List Record) → AreMade least rs → 
     AreTimed (form.Classic output_header) least place (records_octets rs) rs (record { place = place + length (records_octets rs); found = FileEnd })
 are_timed least place rs made near = (map Some rs, timed_pieces least place rs made near, all_among rs)
 
-are_packets : (least : ℕ) (rs : List Record) → AreMade least rs → AllByRecursion HasPacket rs
-are_packets least [] made = tt
-are_packets least (r ∷ rs) (a, b, made) = (b.packet, are_packets (r.stamp + 2000) rs made)
-
-are_spaced : (least : ℕ) (rs : List Record) → AreMade least rs → AreSpaced least rs
-are_spaced least [] made = tt
-are_spaced least (r ∷ rs) (a, b, made) = (a, are_spaced (r.stamp + 2000) rs made)
+-- and a packet, at its distance from the one before
+are_kept : (least : ℕ) (rs : List Record) → AreMade least rs → AllByRecursion HasPacket rs × AreSpaced least rs
+are_kept least [] made = (tt, tt)
+are_kept least (r ∷ rs) (a, b, made) = let (packets, spaced) = are_kept (r.stamp + 2000) rs made in ((b.packet, packets), (a, spaced))
 
 -- the header and the octets of records that are made, of which there are not too many
 
@@ -145,6 +129,6 @@ is_capture rs made few =
       header = take-append_seam output_octets xs;
       read = header_read xs;
       timed = rw behind (subst (λ n. AreTimed (form.Classic output_header) first_moment 24 xs rs (record { place = n; found = FileEnd })) size timed);
-      packets = are_packets first_moment rs made;
-      apart = are_spaced first_moment rs made;
+      packets = (are_kept first_moment rs made).0;
+      apart = (are_kept first_moment rs made).1;
     }

@@ -3,12 +3,13 @@ use Rattle.std.proofs.Common.{◌≡◌, ◌≢◌, ◌⊎◌, ℕ, ◌+◌, ◌
 use Rattle.std.proofs.lemmas.List.{length-append, take_all}
 use Rattle.std.proofs.lemmas.List.Elements.{Contains-append_left, Contains-push}
 use Rattle.std.proofs.Math.Seq.{take-append-add}
-use Rattle.cf_outside.specs.Files.{Content, IsPartly, KeepsOthers, content_after_create, content_after_write, with_appended}
+use Rattle.cf_outside.specs.Files.{Content, IsPartly, content_after_create, content_after_write, with_appended}
+use Rattle.cf_outside.specs.Frames.{KeepsOtherFiles}
 use Rattle.cf_outside.proofs.Content.{with_appended-twice, with_appended-nothing}
 use Rattle.cf_pcap.specs.Header.{output_octets}
-use Rattle.cf_run.specs.Capture.{Record}
+use Rattle.cf_records.specs.Capture.{Record}
 use Rattle.cf_view.specs.Moment.{moment_limit}
-use Rattle.cf_run.specs.Moments.{first_moment}
+use Rattle.cf_records.specs.Moments.{first_moment}
 use Rattle.cf_world.specs.Capture.{BeginsEach, IsSyn}
 use Rattle.cf_world.specs.Making.{AppendsAll, AppendsPart, AppendsRecords, AreMade, IsReadAgain, IsSent, least_after, made_record, record_octets, records_octets}
 use Rattle.cf_world.specs.World.{HoldsCapture, HoldsCapturePart, HoldsPolicy, LeavesCapturePart, MakesWorld, WorldNamesValue}
@@ -44,22 +45,6 @@ begins_more begun after rs r begins is session below =
       | inr now ↦ (r, Contains-push rs r, now)
     ]
 
-pub one_so_far : (count begun sessions last moment after : ℕ) (packet : List ℕ) (old now new : Content) → SoFar count begun last old now →
-    IsSent begun sessions last moment after packet → moment < moment_limit → IsReadAgain (made_record moment packet) →
-    new ≡ with_appended now (record_octets (made_record moment packet)) → SoFar (count + 1) after moment old new
-one_so_far count begun sessions last moment after packet old now new so_far sent below again appended =
-    let r : Record = made_record moment packet in
-    let rs = so_far.records in
-    record {
-      records = rs ++ r ∷ [];
-      made = made_more first_moment rs r so_far.made (omega (arith, so_far.behind, sent.later)) (record { link = refl; below = below; short = sent.short; packet = sent.has; again = again });
-      counted = length-append rs (r ∷ []) ∙ ap (λ n. n + 1) so_far.counted;
-      behind = omega (arith, after_more first_moment rs r);
-      begins = begins_more begun after rs r so_far.begins sent.begins;
-      in_file = appended ∙ ap (λ file. with_appended file (record_octets r)) so_far.in_file
-          ∙ with_appended-twice old (records_octets rs) (record_octets r) ∙ ap (λ xs. with_appended old xs) (sym (octets_more rs r));
-    }
-
 -- a whole append is one of all its first octets
 pub whole_part : (old new : Content) (xs : List ℕ) → new ≡ with_appended old xs → (k : ℕ) × (new ≡ with_appended old (take k xs))
 whole_part old new xs appended = (length xs, appended ∙ ap (λ ys. with_appended old ys) (sym (take_all (length xs) xs (omega arith))))
@@ -75,22 +60,42 @@ all_made count begun last sessions old now so_far few all = record {
   in_file = so_far.in_file;
 }
 
--- and what is made where the last record is appended in part
-pub part_made : (count begun sessions last moment after : ℕ) (packet : List ℕ) (old now new : Content) → SoFar count begun last old now → count < 1000000 →
-    IsSent begun sessions last moment after packet → moment < moment_limit → IsReadAgain (made_record moment packet) →
-    ((k : ℕ) × (new ≡ with_appended now (take k (record_octets (made_record moment packet))))) → AppendsPart old new
-part_made count begun sessions last moment after packet old now new so_far fewer sent below again (k, appended) =
-    let r : Record = made_record moment packet in
-    let rs = so_far.records in
-    let xs = records_octets rs in
-    record {
-      records = rs ++ r ∷ [];
-      made = made_more first_moment rs r so_far.made (omega (arith, so_far.behind, sent.later)) (record { link = refl; below = below; short = sent.short; packet = sent.has; again = again });
-      few = omega (arith, length-append rs (r ∷ []), so_far.counted, fewer);
-      count = length xs + k;
-      in_file = appended ∙ ap (λ file. with_appended file (take k (record_octets r))) so_far.in_file ∙ with_appended-twice old xs (take k (record_octets r))
-          ∙ ap (λ ys. with_appended old ys) (sym (ap (λ ys. take (length xs + k) ys) (octets_more rs r) ∙ take-append-add xs (record_octets r) k));
-    }
+-- one more record is appended
+module _ (count begun sessions last moment after : ℕ) (packet : List ℕ) (old now new : Content) (so_far : SoFar count begun last old now)
+    (sent : IsSent begun sessions last moment after packet) (below : moment < moment_limit) (again : IsReadAgain (made_record moment packet)) where
+  abbrev r : Record
+  r = made_record moment packet
+
+  abbrev rs : List Record
+  rs = so_far.records
+
+  made : AreMade first_moment (rs ++ r ∷ [])
+  made = made_more first_moment rs r so_far.made (omega (arith, so_far.behind, sent.later))
+      (record { link = refl; below = below; short = sent.short; packet = sent.has; again = again })
+
+  pub one_so_far : new ≡ with_appended now (record_octets r) → SoFar (count + 1) after moment old new
+  one_so_far appended = record {
+    records = rs ++ r ∷ [];
+    made = made;
+    counted = length-append rs (r ∷ []) ∙ ap (λ n. n + 1) so_far.counted;
+    behind = omega (arith, after_more first_moment rs r);
+    begins = begins_more begun after rs r so_far.begins sent.begins;
+    in_file = appended ∙ ap (λ file. with_appended file (record_octets r)) so_far.in_file
+        ∙ with_appended-twice old (records_octets rs) (record_octets r) ∙ ap (λ xs. with_appended old xs) (sym (octets_more rs r));
+  }
+
+  -- or a part of it
+  pub part_made : count < 1000000 → ((k : ℕ) × (new ≡ with_appended now (take k (record_octets r)))) → AppendsPart old new
+  part_made fewer (k, appended) =
+      let xs = records_octets rs in
+      record {
+        records = rs ++ r ∷ [];
+        made = made;
+        few = omega (arith, length-append rs (r ∷ []), so_far.counted, fewer);
+        count = length xs + k;
+        in_file = appended ∙ ap (λ file. with_appended file (take k (record_octets r))) so_far.in_file ∙ with_appended-twice old xs (take k (record_octets r))
+            ∙ ap (λ ys. with_appended old ys) (sym (ap (λ ys. take (length xs + k) ys) (octets_more rs r) ∙ take-append-add xs (record_octets r) k));
+      }
 
 -- the file with its header in front of them
 holds_capture : (sessions : ℕ) (before first after : Content) → first ≡ content_after_write before output_octets → AppendsAll sessions first after →
@@ -126,9 +131,9 @@ holds_nothing before after partly = record { octets = output_octets; records = [
 
 -- the policy was written, and the capture was begun after it
 module _ (sessions : ℕ) (names : WorldNamesValue) (before mid first : List ℕ → Content) (apart : names.policy ≢ names.capture)
-    (policy : HoldsPolicy (before names.policy) (mid names.policy)) (kept : KeepsOthers names.policy before mid) (begun : KeepsOthers names.capture mid first) where
+    (policy : HoldsPolicy (before names.policy) (mid names.policy)) (kept : KeepsOtherFiles (names.policy ∷ []) before mid) (begun : KeepsOtherFiles (names.capture ∷ []) mid first) where
   untouched : mid names.capture ≡ before names.capture
-  untouched = kept names.capture (λ same. apart (sym same))
+  untouched = kept names.capture ((λ same. apart (sym same)), tt)
 
   holds_policy : (after : List ℕ → Content) → after names.policy ≡ mid names.policy → HoldsPolicy (before names.policy) (after names.policy)
   holds_policy after same = subst (λ file. HoldsPolicy (before names.policy) file) (sym same) policy
@@ -136,18 +141,18 @@ module _ (sessions : ℕ) (names : WorldNamesValue) (before mid first : List ℕ
   -- its header was written in part
   pub header_part : IsPartly output_octets (mid names.capture) (first names.capture) → LeavesCapturePart sessions names before first
   header_part partly = record {
-    policy = holds_policy first (begun names.policy apart);
+    policy = holds_policy first (begun names.policy (apart, tt));
     capture = holds_nothing (before names.capture) (first names.capture) (subst (λ file. IsPartly output_octets file (first names.capture)) untouched partly);
   }
 
   -- records were made after its header
   pub world_made : (after : List ℕ → Content) (result : Result Unit WorldFault) → first names.capture ≡ content_after_write (mid names.capture) output_octets →
-      KeepsOthers names.capture first after → AppendsRecords sessions (first names.capture) (after names.capture) result → MakesWorld sessions names before after result
+      KeepsOtherFiles (names.capture ∷ []) first after → AppendsRecords sessions (first names.capture) (after names.capture) result → MakesWorld sessions names before after result
   world_made after (Ok _) header others all = record {
-    policy = holds_policy after (others names.policy apart ∙ begun names.policy apart);
+    policy = holds_policy after (others names.policy (apart, tt) ∙ begun names.policy (apart, tt));
     capture = holds_capture sessions (before names.capture) (first names.capture) (after names.capture) (header ∙ ap (λ file. content_after_write file output_octets) untouched) all;
   }
   world_made after (Err fault) header others part = inr (inr (record {
-    policy = holds_policy after (others names.policy apart ∙ begun names.policy apart);
+    policy = holds_policy after (others names.policy (apart, tt) ∙ begun names.policy (apart, tt));
     capture = holds_part (before names.capture) (first names.capture) (after names.capture) (header ∙ ap (λ file. content_after_write file output_octets) untouched) part;
   }))

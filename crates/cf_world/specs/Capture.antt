@@ -4,10 +4,10 @@ use Rattle.std.specs.Prelude.{◌≡◌, ◌≤◌, ◌<◌, ◌⊎◌, ℕ, ◌
 use Rattle.std.specs.List.{AllByRecursion, Contains}
 use Rattle.cf_packet.specs.Packet.{PacketValue, read_record}
 use Rattle.cf_pcap.specs.Header.{header_of, output_header, output_octets}
-use Rattle.cf_run.specs.Capture.{FileEnd, Record}
-use Rattle.cf_run.specs.Moments.{AreTimed, first_moment}
-use Rattle.cf_run.specs.Table.{is_opening}
-use Rattle.cf_run.specs.declared.Form.TheVariants as form
+use Rattle.cf_records.specs.Capture.{FileEnd, Record}
+use Rattle.cf_records.specs.Moments.{AreTimed, first_moment}
+use Rattle.cf_leg.specs.Segment.{is_opening}
+use Rattle.cf_records.specs.declared.Form.TheVariants as form
 use Rattle.cf_world.specs.Flows.{client_endpoint, controller_endpoint}
 
 -- the octets of a record are this packet

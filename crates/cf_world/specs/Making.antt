@@ -5,8 +5,8 @@ use Rattle.cf_outside.specs.Files.{Content, with_appended}
 use Rattle.cf_pcap.specs.Header.{output_header}
 use Rattle.cf_pcap.specs.Record.{Whole, head_octets, record_of}
 use Rattle.cf_view.specs.Moment.{moment_limit}
-use Rattle.cf_run.specs.Capture.{Record}
-use Rattle.cf_run.specs.Moments.{first_moment}
+use Rattle.cf_records.specs.Capture.{Record}
+use Rattle.cf_records.specs.Moments.{first_moment}
 use Rattle.cf_world.specs.Capture.{BeginsEach, HasPacket, IsSyn}
 use Rattle.cf_world.specs.declared.next.Next.{Next}
 use Rattle.cf_world.specs.declared.next.Next.TheVariants as next

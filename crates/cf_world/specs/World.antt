@@ -1,7 +1,7 @@
 -- What the making of a world leaves in its two files: MakesWorld.
 use Rattle.std.specs.Prelude.{◌≡◌, ◌<◌, ◌⊎◌, ℕ, List, length, Result, Ok, Err}
 use Rattle.cf_outside.specs.Files.{Content, IsPartly, content_after_write}
-use Rattle.cf_run.specs.Capture.{Record}
+use Rattle.cf_records.specs.Capture.{Record}
 use Rattle.cf_world.specs.Capture.{BeginsEach, IsCaptureOf}
 use Rattle.cf_world.specs.Document.{IsDocument}
 use Rattle.cf_world.specs.declared.world.TheConstants.{RECORD_LIMIT}

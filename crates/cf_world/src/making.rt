@@ -1,7 +1,6 @@
 //! The making of the capture, record by record.
-ghost use Rattle.std.specs.Prelude.{◌≡◌, ◌≤◌, ◌<◌, ◌+◌, ◌*◌, ◌^◌, IsErrOf, OnOk, length};
-ghost use Rattle.cf_outside.specs.Faults.{HasCause};
-ghost use Rattle.cf_outside.specs.Files.{KeepsOthers};
+ghost use Rattle.std.specs.Prelude.{◌≡◌, ◌≤◌, ◌<◌, ◌+◌, ◌∷◌, [], IsErrOf, OnOk, length};
+ghost use Rattle.cf_outside.specs.Frames.{OnlyWrites};
 ghost use Rattle.cf_policy.specs.Within.{AreAssetsWithin};
 ghost use Rattle.cf_run.specs.Step.{IsSoundEngine};
 ghost use Rattle.cf_view.specs.Moment.{moment_limit};
@@ -34,9 +33,8 @@ pub(crate) fn make_records<F: Files>(
     requires sound { IsSoundEngine policy.now.assets engine.old }
     requires first { engine.old.last ≡ 0 }
     ensures made { AppendsRecords sessions (F.content files.old capture.now) (F.content files.new capture.now) result }
-    ensures others { KeepsOthers capture.now (F.content files.old) (F.content files.new) }
-    ensures cause { HasCause (F.write_faults files.old) (F.write_faults files.new) (IsErrOf result WorldFault.Write) }
-    ensures reads { F.read_faults files.new ≡ F.read_faults files.old }
+    ensures writes { OnlyWrites (capture.now ∷ []) F.content F.read_faults F.write_faults
+        files.old files.new (IsErrOf result WorldFault.Write) }
 {
     let mut packet = ArrayVec::new();
     let mut records = 0;
@@ -85,11 +83,10 @@ fn send<F: Files>(
     ensures again { IsReadAgain (made_record moment packet.now) }
     ensures sound { OnOk result (IsSoundEngine policy.now.assets engine.new) }
     ensures last { OnOk result (engine.new.last ≡ moment) }
-    ensures others { KeepsOthers capture.now (F.content files.old) (F.content files.new) }
-    ensures cause { HasCause (F.write_faults files.old) (F.write_faults files.new) (IsErrOf result WorldFault.Write) }
-    ensures reads { F.read_faults files.new ≡ F.read_faults files.old }
+    ensures writes { OnlyWrites (capture.now ∷ []) F.content F.read_faults F.write_faults
+        files.old files.new (IsErrOf result WorldFault.Write) }
 {
-    if let WriteAnswer::Failed = append_record(files, capture, moment, packet) {
+    if let WriteAnswer::Failed = append_record(capture, moment, packet, files) {
         return Err(WorldFault::Write);
     }
     match engine.step(alloc, policy, moment, &LinkKind::RawIp, packet, hosts) {

@@ -1,7 +1,7 @@
 //! The records of the capture, and their file.
-ghost use Rattle.std.specs.Prelude.{◌≡◌, ◌<◌, ◌≤◌, length};
-ghost use Rattle.cf_outside.specs.Faults.{HasCause};
-ghost use Rattle.cf_outside.specs.Files.{Appends, KeepsOthers};
+ghost use Rattle.std.specs.Prelude.{◌≡◌, ◌<◌, ◌≤◌, ◌∷◌, [], length};
+ghost use Rattle.cf_outside.specs.Files.{Appends};
+ghost use Rattle.cf_outside.specs.Frames.{OnlyWrites};
 ghost use Rattle.cf_view.specs.Moment.{moment_limit};
 ghost use Rattle.cf_world.specs.Making.{IsReadAgain, made_record, record_octets};
 
@@ -10,19 +10,17 @@ use cf_run::packet_record;
 
 /// Appends the record of a packet of at most 1,500 octets, at a moment in microseconds.
 pub(crate) fn append_record<F: Files>(
-    files: &mut F,
     name: &str,
     moment: u64,
     packet: &[u8],
+    files: &mut F,
 ) -> WriteAnswer
     requires moment { moment < moment_limit }
     requires packet { length packet.now ≤ 1500 }
     ensures file { Appends (record_octets (made_record moment packet.now))
         (F.content files.old name.now) (F.content files.new name.now) result }
     ensures again { IsReadAgain (made_record moment packet.now) }
-    ensures others { KeepsOthers name.now (F.content files.old) (F.content files.new) }
-    ensures cause { HasCause (F.write_faults files.old) (F.write_faults files.new) (result ≡ WriteAnswer.Failed) }
-    ensures reads { F.read_faults files.new ≡ F.read_faults files.old }
+    ensures writes { OnlyWrites (name.now ∷ []) F.content F.read_faults F.write_faults files.old files.new (result ≡ WriteAnswer.Failed) }
 {
     let record = packet_record(moment, packet);
     files.append(name, &record)

@@ -1,16 +1,15 @@
 //! The making of a world: its policy and its capture.
 ghost use Rattle.std.specs.Prelude.{◌≡◌, ◌≢◌, ◌≤◌, ◌∷◌, [], IsErr, IsErrOf, OnErr, OnOk};
-ghost use Rattle.cf_outside.specs.Faults.{HasCause};
-ghost use Rattle.cf_outside.specs.Files.{IsPartly, KeepsOthers, content_after_write};
+ghost use Rattle.cf_outside.specs.Files.{IsPartly, content_after_write};
+ghost use Rattle.cf_outside.specs.Frames.{OnlyWrites};
 ghost use Rattle.cf_pcap.specs.Header.{output_octets};
-ghost use Rattle.cf_outside.specs.Frames.{KeepsOtherFiles};
 ghost use Rattle.cf_world.specs.World.{MakesWorld, world_names_value};
 
 use crate::document::make_document;
 use crate::hosts::Hosts;
 use crate::making::make_records;
 use cf_lane::LETTER_LIMIT;
-use cf_outside::{Files, WriteAnswer, append_all};
+use cf_outside::{Files, write_whole};
 use cf_pcap::write_header;
 use cf_run::Engine;
 use cf_view::WriteFault;
@@ -77,17 +76,16 @@ pub fn make_world<F: Files>(
     requires few { sessions ≤ 200 }
     requires apart { names.now.policy.now ≢ names.now.capture.now }
     ensures makes { MakesWorld sessions (world_names_value names.now) (F.content files.old) (F.content files.new) result }
-    ensures others { KeepsOtherFiles (names.now.policy.now ∷ names.now.capture.now ∷ []) (F.content files.old) (F.content files.new) }
-    ensures write { HasCause (F.write_faults files.old) (F.write_faults files.new) (IsErrOf result WorldFault.Write) }
-    ensures reads { F.read_faults files.new ≡ F.read_faults files.old }
+    ensures writes { OnlyWrites (names.now.policy.now ∷ names.now.capture.now ∷ []) F.content F.read_faults F.write_faults
+        files.old files.new (IsErrOf result WorldFault.Write) }
 {
     let document = make_document(alloc)?;
     let Ok(mut engine) = Engine::new(alloc, LETTER_LIMIT as i64) else {
         return Err(WorldFault::NoMemory);
     };
     let mut hosts = Hosts::new(alloc, seed, sessions)?;
-    begin_file(files, names.policy, document.text.as_bytes())?;
-    begin_capture(files, names.capture)?;
+    write_whole(names.policy, document.text.as_bytes(), files)?;
+    begin_capture(names.capture, files)?;
     make_records(
         alloc,
         &document.policy,
@@ -99,29 +97,13 @@ pub fn make_world<F: Files>(
     )
 }
 
-/// Creates a file, and writes its first octets.
-fn begin_file<F: Files>(files: &mut F, name: &str, octets: &[u8]) -> Result<(), WriteFault>
-    ensures done { OnOk result (F.content files.new name.now ≡ content_after_write (F.content files.old name.now) octets.now) }
-    ensures partly { OnErr result (IsPartly octets.now (F.content files.old name.now) (F.content files.new name.now)) }
-    ensures others { KeepsOthers name.now (F.content files.old) (F.content files.new) }
-    ensures cause { HasCause (F.write_faults files.old) (F.write_faults files.new) (IsErr result) }
-    ensures reads { F.read_faults files.new ≡ F.read_faults files.old }
-{
-    match files.create(name) {
-        WriteAnswer::Done => append_all(files, name, octets),
-        WriteAnswer::Failed => Err(WriteFault),
-    }
-}
-
 /// Creates the capture's file, and writes its header.
-fn begin_capture<F: Files>(files: &mut F, capture: &str) -> Result<(), WriteFault>
+fn begin_capture<F: Files>(capture: &str, files: &mut F) -> Result<(), WriteFault>
     ensures done { OnOk result (F.content files.new capture.now ≡ content_after_write (F.content files.old capture.now) output_octets) }
     ensures partly { OnErr result (IsPartly output_octets (F.content files.old capture.now) (F.content files.new capture.now)) }
-    ensures others { KeepsOthers capture.now (F.content files.old) (F.content files.new) }
-    ensures cause { HasCause (F.write_faults files.old) (F.write_faults files.new) (IsErr result) }
-    ensures reads { F.read_faults files.new ≡ F.read_faults files.old }
+    ensures writes { OnlyWrites (capture.now ∷ []) F.content F.read_faults F.write_faults files.old files.new (IsErr result) }
 {
     let mut header = [0u8; 24];
     write_header(&mut header);
-    begin_file(files, capture, &header)
+    write_whole(capture, &header, files)
 }

@@ -1,17 +1,14 @@
 //! The program `cmdwall`: the words that it was given, over the files, the standard output and the streams of the machine.
 #![tactic(auto)]
 
-mod help;
-mod remark;
 mod service;
-mod why;
 
-use crate::help::{Asked, print_help, print_topic, print_version, question_of};
 use crate::service::{is_service, serve};
-use crate::why::{expect_files, explain};
-use cf_box::status::{NO_MEMORY, WRITE_FAULT};
-use cf_box::{Command, box_main, read_words};
+use cf_box::box_main;
+use cf_help::{Asked, expect_files, explain, print_help, print_topic, print_version, question_of};
 use cf_machine::{Gather, LinkPair, RealFiles, RealSink};
+use cf_words::status::{NO_MEMORY, WRITE_FAULT};
+use cf_words::{Command, read_words};
 use std::env::Env;
 use std::process::ExitCode;
 use std::{env, io};

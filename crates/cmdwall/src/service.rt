@@ -1,13 +1,13 @@
 //! `serve`: the words of a service, over the files and the network of the machine.
 ghost use Rattle.std.specs.Prelude.{IfSome};
 
-use crate::why::{explain_fault, explain_policy, explain_words, policy_again};
 use cf_box::serve_main;
-use cf_box::status::{
+use cf_explain::asset_message;
+use cf_help::{explain_fault, explain_policy, explain_words, policy_again};
+use cf_machine::{Gather, RealFiles, RealLinks, RealSink};
+use cf_words::status::{
     LINK_FAULT, NO_MEMORY, POLICY_REFUSED, READ_FAULT, UNKNOWN_ASSET, USAGE, WRITE_FAULT,
 };
-use cf_explain::asset_message;
-use cf_machine::{Gather, RealFiles, RealLinks, RealSink};
 use std::io;
 use std::process::ExitCode;
 use std::rt::Files as FileSystem;

@@ -6,7 +6,7 @@ use cf_outside::MemoryFiles;
 use cf_packet::{Packet, read_packet};
 use cf_policy::Policy;
 use cf_policylang::read_policy;
-use cf_run::{NextRecord, RecordReader};
+use cf_records::{NextRecord, RecordReader};
 use cf_samples::rows::hex;
 use cf_view::LinkKind;
 use cf_world::{Draws, RECORD_LIMIT, WorldNames, make_document, make_world};
@@ -139,13 +139,13 @@ fn texts(alloc: Global, given: &str) -> Result<String, Fail> {
     };
     let mut files = MemoryFiles::new(alloc);
     make_world(alloc, seed.parse::<u64>()?, 1, &names, &mut files)?;
-    let mut reader = RecordReader::open(alloc, &mut files, "c")?;
+    let mut reader = RecordReader::open(alloc, "c", &mut files)?;
     let mut text = String::new(alloc);
     for _ in 0..RECORD_LIMIT {
         if text.lines().count() == count {
             break;
         }
-        let NextRecord::Whole(_) = reader.next(&mut files, "c") else {
+        let NextRecord::Whole(_) = reader.next("c", &mut files) else {
             break;
         };
         let packet = read_packet(&LinkKind::RawIp, reader.body())

@@ -171,7 +171,7 @@ pub(super) fn capture(alloc: Global, given: &str) -> Result<String, Fail> {
         let name = String::from_str(alloc, "c")?;
         files.files.insert(name, octets(alloc, spelled)?)?;
     }
-    match capture_message(alloc, &mut files, "c", command == "run")? {
+    match capture_message(alloc, "c", command == "run", &mut files)? {
         Some(message) => Ok(message),
         None => Ok(String::from_str(alloc, "nothing")?),
     }

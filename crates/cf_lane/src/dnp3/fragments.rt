@@ -1,7 +1,9 @@
 //! What becomes of a segment, and of the fragment that it completes.
-ghost use Rattle.std.specs.Prelude.{◌≡◌, ◌≢◌, ◌+◌, ◌<◌, ◌≤◌, ◌∷◌, [], true, false, IfOk, OnOk, OnErr, IsErr, length};
+ghost use Rattle.std.specs.Prelude.{◌≡◌, ◌≢◌, ◌+◌, ◌<◌, ◌≤◌, ◌∷◌, [], ℕ, List, true, false, IfOk, OnOk, OnErr, IsErr, length};
 ghost use Rattle.cf_dnplink.specs.LinkFrame.{IsFrame, frame_value};
 ghost use Rattle.cf_dnplink.specs.UserOctets.{user_of};
+ghost use Rattle.cf_dnptrans.specs.AssemblyValue.{IsAssemblyOf};
+ghost use Rattle.cf_dnptrans.specs.Transport.{answer_to};
 ghost use Rattle.cf_outq.specs.SendQueue.{Queue};
 ghost use Rattle.cf_outside.specs.Faults.{HasCause};
 ghost use Rattle.cf_outside.specs.Desk.{DeskValue};
@@ -24,7 +26,7 @@ use arrayvec::ArrayVec;
 use cf_audit::Why;
 use cf_dnplink::{Frame, copy_user, user_len};
 use cf_dnpobj::{reply_for, wants_reply};
-use cf_dnptrans::{DropReason, SegmentAnswer};
+use cf_dnptrans::{Assembly, DropReason, SegmentAnswer};
 use cf_outq::Outq;
 use cf_outside::Desk;
 use cf_policy::Asset;
@@ -36,13 +38,9 @@ impl Fragments {
         requires { IsFrame (frame_value frame.now) }
         ensures { AddsSegment side (user_of frame.now.blocks.bytes) result self.old self.new }
     {
-        let mut user = [0u8; 250];
-        let len = user_len(frame);
-        copy_user(frame, &mut user[..len]);
-        let segment = View::one(&user[..len]);
         match side {
-            Side::Client => self.client.segment(segment),
-            Side::Controller => self.controller.segment(segment),
+            Side::Client => take_segment(&mut self.client, frame),
+            Side::Controller => take_segment(&mut self.controller, frame),
         }
     }
 
@@ -220,8 +218,23 @@ impl Fragments {
     }
 }
 
+/// Puts the user octets of a frame to a fragment. IEEE 1815-2012, section 8.2.
+pub fn take_segment(assembly: &mut Assembly, frame: &Frame<'_>) -> SegmentAnswer
+    requires { IsFrame (frame_value frame.now) }
+    ensures answer { (segments : List (List ℕ)) → IsAssemblyOf assembly.old segments
+        → result ≡ answer_to segments (user_of frame.now.blocks.bytes) }
+    ensures stands { (segments : List (List ℕ)) → IsAssemblyOf assembly.old segments
+        → IsAssemblyOf assembly.new (user_of frame.now.blocks.bytes ∷ segments) }
+    ensures whole { result ≡ SegmentAnswer.Whole → assembly.new.whole ≡ true }
+{
+    let mut user = [0u8; 250];
+    let len = user_len(frame);
+    copy_user(frame, &mut user[..len]);
+    assembly.segment(View::one(&user[..len]))
+}
+
 /// Why a segment is dropped, in the words of the log.
-fn drop_why(reason: &DropReason) -> Why
+pub fn drop_why(reason: &DropReason) -> Why
     ensures { result ≡ drop_why reason.now }
 {
     match reason {

@@ -12,12 +12,9 @@ ghost use Rattle.cf_lane.specs.declared.fate.Fate.{Fate};
 
 use crate::fate::{Judgement, judge_acts, refused};
 use crate::rules::Rules;
-use cf_dnpobj::{Fragment, FragmentRefusal, act_at, act_count, read_fragment};
+use cf_dnpobj::{CONFIRM, Fragment, FragmentRefusal, act_at, act_count, read_fragment};
 use cf_policy::{Asset, Decider};
 use cf_view::{Reason, Side, View};
-
-/// The function code of a confirmation. IEEE 1815-2012, section 4.4.
-const CONFIRM: u8 = 0;
 
 /// What becomes of a fragment of 2 to 2,048 octets of the client of the index: none for a confirmation, which is no command and
 /// goes on. Of every other one the form is read, then each act is judged in its order; the first that is not allowed decides. This
@@ -47,8 +44,8 @@ pub(crate) fn judge_fragment(
     }
 }
 
-/// The reason that a refused form stands for. This project's own division.
-fn form_reason(refusal: &FragmentRefusal) -> Reason
+/// The reason that a refused form of a fragment stands for. This project's own division.
+pub fn form_reason(refusal: &FragmentRefusal) -> Reason
     ensures value { result ≡ form_reason refusal.now }
     ensures other { result ≢ Reason.Station }
 {

@@ -24,7 +24,7 @@ const STATUS: u8 = 11;
 
 /// Why a frame of a side is not served, if it is not. Its addresses are tested first, then its direction, then its link
 /// function code. This project's own order.
-pub(crate) fn stray_of(asset: &Asset, side: Side, frame: &Frame<'_>) -> Option<Why>
+pub fn stray_of(asset: &Asset, side: Side, frame: &Frame<'_>) -> Option<Why>
     requires { IsFrame (frame_value frame.now) }
     ensures { result ≡ stray_of asset.now side (frame_value frame.now) }
 {
@@ -41,7 +41,7 @@ pub(crate) fn stray_of(asset: &Asset, side: Side, frame: &Frame<'_>) -> Option<W
 }
 
 /// Whether a frame carries user data.
-pub(crate) fn is_data(frame: &Frame<'_>) -> bool
+pub fn is_data(frame: &Frame<'_>) -> bool
     ensures { result ≡ is_data (frame_value frame.now) }
 {
     is_primary(frame) && link_code(frame) == DATA

@@ -14,10 +14,11 @@ ghost use Rattle.cf_renumber.specs.Numbers.{IsSmall};
 
 use crate::fate::{Fate, Judgement};
 use crate::iec104::carry::number_cut;
-use crate::iec104::judge::{SHORTEST, judge_asdu};
+use crate::iec104::judge::judge_asdu;
 use crate::iec104::push::{push_ack, push_info, push_mirror};
 use crate::log::log_refusal;
 use crate::rules::Rules;
+use cf_asdu::SHORTEST;
 use cf_audit::CutReason;
 use cf_outq::Outq;
 use cf_outside::Desk;

@@ -9,12 +9,9 @@ ghost use Rattle.cf_lane.specs.Rings.{IsRulesOf, says_by};
 use crate::fate::{Judgement, judge_acts, refused};
 use crate::lane::after;
 use crate::rules::Rules;
-use cf_asdu::{AsduRefusal, act_at, act_count, read_asdu, station_of};
+use cf_asdu::{AsduRefusal, SHORTEST, act_at, act_count, read_asdu, station_of};
 use cf_policy::{Asset, Decider};
 use cf_view::{Reason, View};
-
-/// The fewest octets of an ASDU with an information object. One that is refused has a mirror.
-pub(crate) const SHORTEST: usize = 9;
 
 /// What becomes of a client's ASDU. Whether it is too short is tested first, then the station is compared, then the rest of its form
 /// is read, then each act is judged in its order; the first that is not allowed decides. This project's own order.
@@ -48,8 +45,8 @@ pub(crate) fn judge_asdu(asset: &Asset, rules: &Rules, moment: u64, octets: &Vie
     }
 }
 
-/// The type of an ASDU; 0 where it has no octet.
-fn kind_of(octets: &View<'_>) -> u16
+/// The type identification of an ASDU; 0 where it has no octet. IEC 60870-5-101, section 7.2.1.
+pub fn kind_of(octets: &View<'_>) -> u16
     ensures { result ≡ slice_index octets.now.bytes 0 }
 {
     if octets.is_empty() {

@@ -25,16 +25,16 @@ impl Leg {
     /// Sends the oldest letters that are not acknowledged again, or an empty segment where all that were sent are.
     fn send_oldest<D: Desk>(
         &self,
-        now: u64,
+        moment: u64,
         queue: &Outq,
         desk: &mut D,
     ) -> Result<ClockAnswer, WriteFault>
         requires base { base_of self.now.window ≤ 2 ^ 30 + window_size }
         requires whole { DeskValue.whole (D.value desk.old) ≡ true }
-        requires moment { now < moment_limit }
-        ensures sends { IfOk result (λ answer. SendsOldest self.now queue.now now (D.value desk.old) (D.value desk.new) false
+        requires moment { moment < moment_limit }
+        ensures sends { IfOk result (λ answer. SendsOldest self.now queue.now moment (D.value desk.old) (D.value desk.new) false
             × (answer ≡ answer_oldest queue.now)) }
-        ensures broken { OnErr result (SendsOldest self.now queue.now now (D.value desk.old) (D.value desk.new) true) }
+        ensures broken { OnErr result (SendsOldest self.now queue.now moment (D.value desk.old) (D.value desk.new) true) }
         ensures frame { OnlyEmits (D.value desk.old) (D.value desk.new) (is_err result) }
     {
         let told = self.told();
@@ -42,11 +42,11 @@ impl Leg {
         let acked = acked_of(queue);
         match queue.first_piece(self.mss) {
             Some(piece) => {
-                send_piece(way, told, queue, piece, now, desk)?;
+                send_piece(way, moment, told, piece, queue, desk)?;
                 Ok(ClockAnswer::Repeated)
             }
             None => {
-                send_empty(way, told, number_before(self.own, acked), now, desk)?;
+                send_empty(way, moment, told, number_before(self.own, acked), desk)?;
                 Ok(ClockAnswer::Probed)
             }
         }
@@ -55,30 +55,30 @@ impl Leg {
     /// Sends again what is unanswered.
     fn send_again<D: Desk>(
         &self,
-        now: u64,
+        moment: u64,
         queue: &Outq,
         desk: &mut D,
     ) -> Result<ClockAnswer, WriteFault>
         requires base { base_of self.now.window ≤ 2 ^ 30 + window_size }
         requires whole { DeskValue.whole (D.value desk.old) ≡ true }
-        requires moment { now < moment_limit }
-        ensures sends { IfOk result (λ answer. SendsAgain self.now queue.now now (D.value desk.old) (D.value desk.new) false
+        requires moment { moment < moment_limit }
+        ensures sends { IfOk result (λ answer. SendsAgain self.now queue.now moment (D.value desk.old) (D.value desk.new) false
             × (answer ≡ answer_again self.now queue.now)) }
-        ensures broken { OnErr result (SendsAgain self.now queue.now now (D.value desk.old) (D.value desk.new) true) }
+        ensures broken { OnErr result (SendsAgain self.now queue.now moment (D.value desk.old) (D.value desk.new) true) }
         ensures frame { OnlyEmits (D.value desk.old) (D.value desk.new) (is_err result) }
     {
         if self.is_open() {
-            return self.send_oldest(now, queue, desk);
+            return self.send_oldest(moment, queue, desk);
         }
-        self.send_greeting(now, desk)?;
+        self.send_greeting(moment, desk)?;
         Ok(ClockAnswer::Repeated)
     }
 
     /// Whether the timer has expired.
-    fn is_due(&self, now: u64) -> bool
-        ensures { result ≡ is_due self.now now }
+    fn is_due(&self, moment: u64) -> bool
+        ensures { result ≡ is_due self.now moment }
     {
-        self.running && self.deadline <= now
+        self.running && self.deadline <= moment
     }
 
     /// The moment in microseconds from which on a clock call does something; the greatest number where none will.
@@ -100,13 +100,13 @@ impl Leg {
     }
 
     /// The timer is set anew.
-    fn fire(&mut self, now: u64)
+    fn fire(&mut self, moment: u64)
         requires few { nat_lt self.old.fired 6 ≡ true }
-        requires moment { now < moment_limit }
-        ensures new { self.new ≡ record self.old { fired = self.old.fired + 1; deadline = now + backoff (self.old.fired + 1) } }
+        requires moment { moment < moment_limit }
+        ensures new { self.new ≡ record self.old { fired = self.old.fired + 1; deadline = moment + backoff (self.old.fired + 1) } }
     {
         self.fired += 1;
-        self.deadline = now + backoff(self.fired);
+        self.deadline = moment + backoff(self.fired);
     }
 
     /// The clock stands at a moment. Where the retransmission timer has expired, the leg sends again what is unanswered:
@@ -114,22 +114,22 @@ impl Leg {
     /// an answer it sends nothing.
     pub fn on_clock<D: Desk>(
         &mut self,
-        now: u64,
+        moment: u64,
         queue: &mut Outq,
         desk: &mut D,
     ) -> Result<ClockAnswer, WriteFault>
         requires base { base_of self.old.window ≤ 2 ^ 30 + window_size }
         requires whole { DeskValue.whole (D.value desk.old) ≡ true }
-        requires moment { now < moment_limit }
+        requires moment { moment < moment_limit }
         ensures ends { self.new.ends ≡ self.old.ends }
         ensures kept { self.new.window ≡ self.old.window }
-        ensures clocked { IfOk result (λ answer. Clocked now self.old self.new queue.old answer (DeskValue.packets (D.value desk.old))
+        ensures clocked { IfOk result (λ answer. Clocked moment self.old self.new queue.old answer (DeskValue.packets (D.value desk.old))
             (DeskValue.packets (D.value desk.new))) }
         ensures queue { queue.new ≡ queue.old }
-        ensures broken { OnErr result (ClockBreaks now self.old queue.old (D.value desk.old) (D.value desk.new)) }
+        ensures broken { OnErr result (ClockBreaks moment self.old queue.old (D.value desk.old) (D.value desk.new)) }
         ensures frame { OnlyEmits (D.value desk.old) (D.value desk.new) (is_err result) }
     {
-        if !self.is_due(now) {
+        if !self.is_due(moment) {
             return Ok(ClockAnswer::Quiet);
         }
         if self.is_spent() {
@@ -137,8 +137,8 @@ impl Leg {
         }
         // The fact: the marks of the queue stand in their order.
         let _acked = acked_of(queue);
-        let answer = self.send_again(now, queue, desk)?;
-        self.fire(now);
+        let answer = self.send_again(moment, queue, desk)?;
+        self.fire(moment);
         Ok(answer)
     }
 }

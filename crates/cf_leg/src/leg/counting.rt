@@ -46,9 +46,9 @@ impl Leg {
     /// The packet counts, or does not: it acknowledges letters, shows an edge, and offers its letters.
     fn count_if(
         &mut self,
+        moment: u64,
         counts: bool,
         at: &EndState,
-        now: u64,
         packet: &Packet<'_>,
         queue: &mut Outq,
     )
@@ -56,8 +56,8 @@ impl Leg {
         requires told { at.now.told.base ≤ 2 ^ 31 }
         requires sent { at.now.sent ≤ 2 ^ 31 }
         requires acked { counts ≡ true → ack_place at.now (packet_value packet.now) ≤ℤ pos queue.old.sent }
-        requires moment { now < moment_limit }
-        ensures counts { Counts counts at.now now (packet_value packet.now) self.old self.new queue.old queue.new }
+        requires moment { moment < moment_limit }
+        ensures counts { Counts counts at.now moment (packet_value packet.now) self.old self.new queue.old queue.new }
         ensures window { Continues self.old.window self.new.window }
         ensures stands { (whole : Stream) → IsQueueOf queue.old whole → IsQueueOf queue.new whole }
     {
@@ -65,7 +65,7 @@ impl Leg {
             return;
         }
         let rises = rises(at, packet, acked_of(queue), self.shown);
-        self.deadline = deadline_after(rises, now, self.deadline);
+        self.deadline = deadline_after(rises, moment, self.deadline);
         self.fired = 0;
         self.shown = shown_after(at, packet, self.shown);
         acknowledge(at, packet, queue);
@@ -73,13 +73,13 @@ impl Leg {
     }
 
     /// Takes in a packet of the peer.
-    pub fn on_segment(&mut self, now: u64, packet: &Packet<'_>, queue: &mut Outq) -> LegAnswer
+    pub fn on_segment(&mut self, moment: u64, packet: &Packet<'_>, queue: &mut Outq) -> LegAnswer
         requires base { base_of self.old.window ≤ 2 ^ 30 + window_size }
         requires text { length packet.now.text.now ≤ 65535 }
-        requires moment { now < moment_limit }
+        requires moment { moment < moment_limit }
         ensures ends { self.new.ends ≡ self.old.ends }
-        ensures heard { Heard now (packet_value packet.now) self.old self.new queue.old queue.new result }
-        ensures newly { Newly now (packet_value packet.now) self.old self.new queue.old }
+        ensures heard { Heard moment (packet_value packet.now) self.old self.new queue.old queue.new result }
+        ensures newly { Newly moment (packet_value packet.now) self.old self.new queue.old }
         ensures window { Continues self.old.window self.new.window }
         ensures queue { KeepsList queue.old queue.new }
         ensures stands { (whole : Stream) → IsQueueOf queue.old whole → IsQueueOf queue.new whole }
@@ -87,7 +87,7 @@ impl Leg {
         let state = self.state(queue);
         let answer = answer_to(&state, packet);
         self.open_if(is_opening(answer), packet, queue);
-        self.count_if(counts(state.role, answer), &state, now, packet, queue);
+        self.count_if(moment, counts(state.role, answer), &state, packet, queue);
         self.owes = owes(state.role, packet, answer);
         answer
     }
@@ -165,9 +165,9 @@ fn offer(at: &EndState, packet: &Packet<'_>, window: &mut Rebuild)
 }
 
 /// The deadline a second on, or the old one.
-fn deadline_after(rises: bool, now: u64, deadline: u64) -> u64
-    requires { now < moment_limit }
-    ensures { result ≡ (if rises then now + 1000000 else deadline) }
+fn deadline_after(rises: bool, moment: u64, deadline: u64) -> u64
+    requires { moment < moment_limit }
+    ensures { result ≡ (if rises then moment + 1000000 else deadline) }
 {
-    if rises { now + SECOND } else { deadline }
+    if rises { moment + SECOND } else { deadline }
 }

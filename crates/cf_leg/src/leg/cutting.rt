@@ -23,11 +23,11 @@ use cf_packet::{ACK, Packet, RST, sequence_number};
 use cf_view::WriteFault;
 
 impl Leg {
-    fn send_rst<D: Desk>(&self, now: u64, queue: &Outq, desk: &mut D) -> Result<(), WriteFault>
+    fn send_rst<D: Desk>(&self, moment: u64, queue: &Outq, desk: &mut D) -> Result<(), WriteFault>
         requires base { base_of self.now.window ≤ 2 ^ 30 + window_size }
         requires whole { DeskValue.whole (D.value desk.old) ≡ true }
-        requires moment { now < moment_limit }
-        ensures gets { GetsSegments (is_err result) now (rst_of self.now queue.now ∷ []) (D.value desk.old) (D.value desk.new) }
+        requires moment { moment < moment_limit }
+        ensures gets { GetsSegments (is_err result) moment (rst_of self.now queue.now ∷ []) (D.value desk.old) (D.value desk.new) }
         ensures frame { OnlyEmits (D.value desk.old) (D.value desk.new) (is_err result) }
     {
         let sent = next_number(self.own, queue);
@@ -35,23 +35,23 @@ impl Leg {
         match self.ends.role {
             Role::Active(_) => {
                 if self.is_open() {
-                    send(desk, now, &rst(self.ends, sent, taken, RST + ACK))
+                    send(moment, &rst(self.ends, sent, taken, RST + ACK), desk)
                 } else {
                     send(
-                        desk,
-                        now,
+                        moment,
                         &rst(self.ends, sequence_number(self.own, 0), 0, RST),
+                        desk,
                     )
                 }
             }
             Role::Passive(_, _) => {
                 if self.is_greeted() {
-                    send(desk, now, &rst(self.ends, sent, taken, RST + ACK))
+                    send(moment, &rst(self.ends, sent, taken, RST + ACK), desk)
                 } else {
                     send(
-                        desk,
-                        now,
+                        moment,
                         &rst(self.ends, 0, sequence_number(self.other, 0), RST + ACK),
+                        desk,
                     )
                 }
             }
@@ -59,14 +59,14 @@ impl Leg {
     }
 
     /// Sends the RST of a cut. The leg is dropped then.
-    pub fn cut<D: Desk>(&self, now: u64, queue: &Outq, desk: &mut D) -> Result<(), WriteFault>
+    pub fn cut<D: Desk>(&self, moment: u64, queue: &Outq, desk: &mut D) -> Result<(), WriteFault>
         requires base { base_of self.now.window ≤ 2 ^ 30 + window_size }
         requires whole { DeskValue.whole (D.value desk.old) ≡ true }
-        requires moment { now < moment_limit }
-        ensures cut { CutOff now self.now queue.now (D.value desk.old) (D.value desk.new) (is_err result) }
+        requires moment { moment < moment_limit }
+        ensures cut { CutOff moment self.now queue.now (D.value desk.old) (D.value desk.new) (is_err result) }
         ensures frame { OnlyEmits (D.value desk.old) (D.value desk.new) (is_err result) }
     {
-        self.send_rst(now, queue, desk)
+        self.send_rst(moment, queue, desk)
     }
 }
 

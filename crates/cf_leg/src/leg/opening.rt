@@ -24,18 +24,18 @@ use cf_view::WriteFault;
 
 impl Leg {
     /// The SYN or the SYN ACK is about to go out.
-    fn begin(&mut self, now: u64, number: u32)
+    fn begin(&mut self, moment: u64, number: u32)
         requires made { self.old.phase ≡ Phase.Made }
-        requires moment { now < moment_limit }
+        requires moment { moment < moment_limit }
         ensures leg { IsLeg self.old }
         ensures window { IsWindow self.old.window }
-        ensures new { self.new ≡ greeted_as self.old number now }
+        ensures new { self.new ≡ greeted_as self.old number moment }
     {
         // The fact: the window keeps its bounds.
         let _edge = self.window.edge();
         self.own = number;
         self.phase = Phase::Greeted;
-        self.deadline = now + SECOND;
+        self.deadline = moment + SECOND;
         if let Role::Passive(_, _) = self.ends.role {
             self.window.open_to(16_384);
         }
@@ -43,26 +43,31 @@ impl Leg {
 
     /// Sends the SYN of an active end, with the number that it was made with, or the SYN ACK of a passive one. Once in its
     /// life.
-    pub fn greet<D: Desk>(&mut self, now: u64, own_seq: u32, desk: &mut D) -> Result<(), WriteFault>
+    pub fn greet<D: Desk>(
+        &mut self,
+        moment: u64,
+        own_seq: u32,
+        desk: &mut D,
+    ) -> Result<(), WriteFault>
         requires made { self.old.phase ≡ Phase.Made }
         requires number { IsOwn self.old.ends.role own_seq }
         requires whole { DeskValue.whole (D.value desk.old) ≡ true }
-        requires moment { now < moment_limit }
+        requires moment { moment < moment_limit }
         ensures ends { self.new.ends ≡ self.old.ends }
         ensures number { self.new.own ≡ own_seq }
         ensures window { self.new.window ≡ window_by self.old.ends.role self.old.window }
-        ensures greeted { Greeted now own_seq self.old self.new (D.value desk.old) (D.value desk.new) (is_err result) }
+        ensures greeted { Greeted moment own_seq self.old self.new (D.value desk.old) (D.value desk.new) (is_err result) }
         ensures frame { OnlyEmits (D.value desk.old) (D.value desk.new) (is_err result) }
     {
-        self.begin(now, own_seq);
-        self.send_greeting(now, desk)
+        self.begin(moment, own_seq);
+        self.send_greeting(moment, desk)
     }
 
     /// Sends the SYN or the SYN ACK.
-    pub(super) fn send_greeting<D: Desk>(&self, now: u64, desk: &mut D) -> Result<(), WriteFault>
+    pub(super) fn send_greeting<D: Desk>(&self, moment: u64, desk: &mut D) -> Result<(), WriteFault>
         requires whole { DeskValue.whole (D.value desk.old) ≡ true }
-        requires moment { now < moment_limit }
-        ensures gets { GetsSegments (is_err result) now (greeting_of self.now ∷ []) (D.value desk.old) (D.value desk.new) }
+        requires moment { moment < moment_limit }
+        ensures gets { GetsSegments (is_err result) moment (greeting_of self.now ∷ []) (D.value desk.old) (D.value desk.new) }
         ensures frame { OnlyEmits (D.value desk.old) (D.value desk.new) (is_err result) }
     {
         let (ack, flags) = match self.ends.role {
@@ -79,7 +84,7 @@ impl Leg {
             mss: Some(1460),
             text: &[],
         };
-        send(desk, now, &packet)
+        send(moment, &packet, desk)
     }
 
     /// The packet opened the leg, or did not. A SYN ACK tells the peer's number, its maximum segment size and an edge.

@@ -39,7 +39,7 @@ impl Leg {
     /// An open leg says what it has to say.
     fn address<D: Desk>(
         &mut self,
-        now: u64,
+        moment: u64,
         roomy: bool,
         queue: &mut Outq,
         desk: &mut D,
@@ -47,13 +47,13 @@ impl Leg {
         requires base { base_of self.old.window ≤ 2 ^ 30 + window_size }
         requires room { roomy ≡ true → base_of self.old.window ≤ self.old.window.consumed + window_size }
         requires whole { DeskValue.whole (D.value desk.old) ≡ true }
-        requires moment { now < moment_limit }
+        requires moment { moment < moment_limit }
         ensures bounds { IsLeg self.old }
         ensures window { IsWindow self.old.window }
-        ensures addressed { OnOk result (Addressed roomy now self.old self.new queue.old queue.new (DeskValue.packets (D.value desk.old))
+        ensures addressed { OnOk result (Addressed roomy moment self.old self.new queue.old queue.new (DeskValue.packets (D.value desk.old))
             (DeskValue.packets (D.value desk.new))) }
         ensures stands { (whole : Stream) → IsQueueOf queue.old whole → IsQueueOf queue.new whole }
-        ensures broken { OnErr result (AddressBreaks roomy now self.old queue.old (D.value desk.old) (D.value desk.new)) }
+        ensures broken { OnErr result (AddressBreaks roomy moment self.old queue.old (D.value desk.old) (D.value desk.new)) }
         ensures frame { OnlyEmits (D.value desk.old) (D.value desk.new) (is_err result) }
     {
         let told = self.told();
@@ -64,18 +64,18 @@ impl Leg {
         let tell = self.to_tell(roomy);
         let is_due = is_due(self.owes, told, tell);
         self.tell(tell);
-        say(way, tell, self.mss, is_due, queue, now, desk)?;
+        say(way, moment, tell, self.mss, is_due, queue, desk)?;
         Ok(())
     }
 
     /// Starts the timer where something is unanswered and it did not run.
-    fn rearm(&mut self, now: u64, queue: &Outq)
-        requires moment { now < moment_limit }
-        ensures new { self.new ≡ rearmed self.old queue.now now }
+    fn rearm(&mut self, moment: u64, queue: &Outq)
+        requires moment { moment < moment_limit }
+        ensures new { self.new ≡ rearmed self.old queue.now moment }
     {
         let arms = self.arms(queue);
         if arms && !self.running {
-            self.deadline = now + SECOND;
+            self.deadline = moment + SECOND;
         }
         self.running = arms;
         self.owes = false;
@@ -86,7 +86,7 @@ impl Leg {
     /// told. `roomy` says that few letters are unacknowledged in both directions.
     pub fn speak<D: Desk>(
         &mut self,
-        now: u64,
+        moment: u64,
         roomy: bool,
         queue: &mut Outq,
         desk: &mut D,
@@ -94,19 +94,19 @@ impl Leg {
         requires base { base_of self.old.window ≤ 2 ^ 30 + window_size }
         requires room { roomy ≡ true → base_of self.old.window ≤ self.old.window.consumed + window_size }
         requires whole { DeskValue.whole (D.value desk.old) ≡ true }
-        requires moment { now < moment_limit }
+        requires moment { moment < moment_limit }
         ensures ends { OnOk result (self.new.ends ≡ self.old.ends) }
         ensures window { OnOk result (Widens roomy self.old.window self.new.window) }
         ensures queue { OnOk result (queue.new ≡ record queue.old { sent = queue.new.sent }) }
         ensures told { OnOk result (is_open self.old.phase ≡ true → IsTold roomy self.old.window self.new) }
-        ensures spoken { OnOk result (Spoken roomy now self.old self.new queue.old queue.new (DeskValue.packets (D.value desk.old))
+        ensures spoken { OnOk result (Spoken roomy moment self.old self.new queue.old queue.new (DeskValue.packets (D.value desk.old))
             (DeskValue.packets (D.value desk.new))) }
         ensures stands { (whole : Stream) → IsQueueOf queue.old whole → IsQueueOf queue.new whole }
-        ensures broken { OnErr result (SpeakingBreaks roomy now self.old queue.old (D.value desk.old) (D.value desk.new)) }
+        ensures broken { OnErr result (SpeakingBreaks roomy moment self.old queue.old (D.value desk.old) (D.value desk.new)) }
         ensures frame { OnlyEmits (D.value desk.old) (D.value desk.new) (is_err result) }
     {
-        self.address(now, roomy, queue, desk)?;
-        self.rearm(now, queue);
+        self.address(moment, roomy, queue, desk)?;
+        self.rearm(moment, queue);
         Ok(())
     }
 }

@@ -164,14 +164,14 @@ fn remarks(rt: &impl Abort, alloc: Global, octets: Vec<u8>) -> String {
     let out = files.files.get("o").expect(rt, "OUT");
     let mut others = holding(rt, alloc, "o", out.to_vec(alloc).expect(rt, "memory"));
     let assets = policy.assets.as_slice();
-    let left = left_open(&mut files, "l", &summary).expect(rt, "LOG");
+    let left = left_open("l", &summary, &mut files).expect(rt, "LOG");
     let look = look_again(alloc, assets, &NAMES, &mut files, &mut others).expect(rt, "a look");
     let mut text = run_text(alloc, &summary, &look, left).expect(rt, "memory");
     assert!(rt; text.is_empty() != (has_gaps(&summary) || left > 0));
     if text.is_empty() {
         text.push_str("nothing\n").expect(rt, "memory");
     }
-    if let Some(dropped) = dropped_alone(alloc, &mut files, "c", Frames::AsTheyStand) {
+    if let Some(dropped) = dropped_alone(alloc, "c", Frames::AsTheyStand, &mut files) {
         let alone = dropped_text(alloc, &dropped).expect(rt, "memory");
         assert!(rt; alone.as_str() == text.as_str());
         text.push_str("alone\n").expect(rt, "memory");

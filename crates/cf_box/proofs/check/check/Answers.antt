@@ -1,5 +1,5 @@
 use Rattle.std.proofs.Common.{refl}
-use Rattle.cf_box.specs.Command.{Check}
+use Rattle.cf_words.specs.Command.{Check}
 use Rattle.cf_box.proofs.check.check.Goals as goal
 
 pub returns-in-Err-clause-meets : goal.returns-in-Err-clause-meets

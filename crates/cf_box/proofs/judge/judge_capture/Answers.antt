@@ -1,6 +1,6 @@
 use Rattle.std.proofs.Common.{Err, ap, map, refl, subst, sym}
 use Rattle.cf_watch.specs.FlowValue.{flow_value}
-use Rattle.cf_box.specs.Command.{Judge}
+use Rattle.cf_words.specs.Command.{Judge}
 use Rattle.cf_box.specs.Ends.{Meets}
 use Rattle.cf_box.specs.Judge.{SaysOfFlows}
 use Rattle.cf_box.specs.Outside.{files_value, outside}

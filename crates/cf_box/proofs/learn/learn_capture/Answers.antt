@@ -1,16 +1,17 @@
-use Rattle.std.proofs.Common.{Err, arith, map, refl, subst, sym, ◌∙◌}
+use Rattle.std.proofs.Common.{Err, ap, arith, map, refl, subst, sym, ◌∙◌}
 use Rattle.cf_watch.specs.FlowValue.{flow_value}
-use Rattle.cf_box.specs.Command.{Learn}
+use Rattle.cf_words.specs.Command.{Learn}
 use Rattle.cf_box.specs.Ends.{Meets}
-use Rattle.cf_box.specs.Learn.{IsLearned, LearnsAs}
+use Rattle.cf_box.specs.Learn.{IsLearned, LearnLeaves, LearnsAs}
 use Rattle.cf_box.specs.Outside.{files_value, outside}
-use Rattle.cf_box.proofs.Learning.{has_watched, unlearned_meets, unread_leaves, unwatched_meets, written_meets}
+use Rattle.cf_box.proofs.Learning.{has_watched, unlearned_meets, unwatched_meets, written_meets}
+use Rattle.cf_box.proofs.Passing.{unread_leaves}
 use Rattle.cf_box.proofs.learn.learn_capture.Goals as goal
 
 pub returns-in-Err-clause-meets : goal.returns-in-Err-clause-meets
 returns-in-Err-clause-meets g c = λ sink pair. (
   c.in-Err.ensures.stop (Learn c.args.policy_file.now c.args.capture.now c.args.out.now) sink pair refl,
-  unread_leaves c.args.policy_file.now c.args.capture.now c.args.out.now _ _ c.in-Err.stop c.in-Err.ensures.early
+  unread_leaves (LearnLeaves c.args.policy_file.now c.args.capture.now c.args.out.now _ _) _ _ (λ same. same) (λ r same. same) (λ same. same) c.in-Err.stop c.in-Err.ensures.early
       (record { content = c.load_policy.ensures.only.content; sink = refl; pair = refl }),
 )
 
@@ -21,7 +22,7 @@ returns-in-Err-watch-clause-meets g c = λ sink pair.
     let after = outside (files_value g.F.Files c.watch.new.files) sink pair in
     subst (λ s. Meets (Learn c.args.policy_file.now c.args.capture.now c.args.out.now) before after (Err s)) (sym c.from.ensures)
     (unwatched_meets c.args.policy_file.now c.args.capture.now c.args.out.now before c.in-Ok.policy c.in-Ok.ensures.has middle after
-    c.load_policy.ensures.only c.watch.ensures.same refl refl (Err c.in-Err-watch.fault) c.in-Err-watch.fault refl c.in-Err-watch.ensures.read.rose
+    c.load_policy.ensures.only c.watch.ensures.same refl refl c.in-Err-watch.fault (λ is. c.in-Err-watch.ensures.read.rose (ap Err is))
     c.in-Err-watch.ensures.fault)
 
 pub returns-clause-meets : goal.returns-clause-meets
@@ -48,4 +49,4 @@ returns-in-Ok-learned-clause-meets g c = λ sink pair.
     (has_watched c.args.policy_file.now c.args.capture.now c.args.out.now before c.in-Ok.policy c.in-Ok.ensures.has middle flows c.load_policy.ensures.only c.in-Ok-watch.ensures.watched)
     watched after c.in-Ok-learned.policy (subst (λ l. IsLearned c.in-Ok.policy (map flow_value l) c.in-Ok-learned.policy) c.as_slice.ensures.value c.in-Ok-learned.ensures.0)
     (record { content = c.watch.ensures.same ∙ c.load_policy.ensures.only.content; reads = omega (arith, reads, earlier); writes = c.watch.ensures.writes ∙ c.load_policy.ensures.only.writes })
-    c.write_policy.ensures.others refl refl c.write_policy.result c.write_policy.ensures.writes c.write_policy.ensures.cause.rose c.write_policy.ensures.unwritten
+    c.write_policy.ensures.only.others refl refl c.write_policy.result c.write_policy.ensures.writes c.write_policy.ensures.only.cause.rose c.write_policy.ensures.unwritten

@@ -1,16 +1,16 @@
-use Rattle.std.proofs.Common.{◌≡◌, ◌+◌, ◌++◌, ℕ, List, Ok, Err, length, refl, sym, subst, ap, ◌∙◌, arith}
+use Rattle.std.proofs.Common.{◌≡◌, ◌++◌, ℕ, List, Ok, Err, refl, sym, subst, ap, ◌∙◌, arith}
 use Rattle.cf_outside.specs.Faults.{Rose}
 use Rattle.cf_outside.specs.Files.{Content}
-use Rattle.cf_run.proofs.Behind.{StandsBehind, first_near, stands_cut, stands_end, stands_large, stands_long, stands_refused}
-use Rattle.cf_run.specs.Capture.{Cut, FileEnd, Large, LastPlace, Refused, TooLong}
-use Rattle.cf_run.specs.Reader.{FindsRecord, ReaderValue}
-use Rattle.cf_run.specs.declared.NextRecord.TheVariants as next
+use Rattle.cf_records.proofs.Behind.{StandsBehind, first_near, stands_cut, stands_end, stands_large, stands_long, stands_refused}
+use Rattle.cf_records.specs.Capture.{Cut, FileEnd, Large, LastPlace, Refused, TooLong}
+use Rattle.cf_records.specs.Reader.{FindsRecord, ReaderValue}
+use Rattle.cf_records.specs.declared.NextRecord.TheVariants as next
 use Rattle.cf_box.specs.Captures.{block_refusal}
 use Rattle.cf_box.specs.PacketLine.{record_line}
 use Rattle.cf_box.specs.declared.ending.CaptureRefusal.TheVariants as refusal
 use Rattle.cf_box.specs.declared.ending.Done.TheVariants as done
 use Rattle.cf_box.specs.declared.ending.Stop.TheVariants as stop
-use Rattle.cf_box.proofs.Listing.{AreListed, block_answers, ends_unput, finished, finished_partly, more_put, none_listed, not_read, one_listed}
+use Rattle.cf_box.proofs.Listing.{block_answers, ends_unput, finished, finished_partly, more_put, none_listed, not_read, one_listed, unread}
 use Rattle.cf_box.proofs.packets.list_records.Goals as goal
 
 -- where a capture is cut
@@ -66,10 +66,7 @@ returns-in-End-clause-lists g c =
     finished before.listed c.finish.result (Ok done.Listed) c.next.new.self.place FileEnd stands tt (λ put. (refl, refl, put)) (λ rose. omega (arith, before.puts, rose)) c.finish.ensures.ends
 
 pub returns-in-End-clause-read : goal.returns-in-End-clause-read
-returns-in-End-clause-read g c = record {
-  later = omega (arith, c.records.invariant.reads, c.in-End.ensures.cause.later);
-  rose = λ is. absurd (not_read c.finish.result (Ok done.Listed) c.finish.ensures.ends (λ e. cc e) is);
-}
+returns-in-End-clause-read g c = unread c.records.invariant.reads c.in-End.ensures.cause.later (not_read c.finish.result (Ok done.Listed) c.finish.ensures.ends (λ e. cc e))
 
 pub returns-in-Cut-clause-lists : goal.returns-in-Cut-clause-lists
 returns-in-Cut-clause-lists g c =
@@ -79,10 +76,7 @@ returns-in-Cut-clause-lists g c =
     finished before.listed c.finish-in-Cut.result (Err (stop.CaptureCut c.place.result)) c.next.new.self.place Cut stands tt (λ put. (ap (λ (n : ℕ). the_last n) (sym c.place.ensures), put)) (λ rose. omega (arith, before.puts, rose)) c.finish-in-Cut.ensures.ends
 
 pub returns-in-Cut-clause-read : goal.returns-in-Cut-clause-read
-returns-in-Cut-clause-read g c = record {
-  later = omega (arith, c.records.invariant.reads, c.in-Cut.ensures.cause.later);
-  rose = λ is. absurd (not_read c.finish-in-Cut.result (Err (stop.CaptureCut c.place.result)) c.finish-in-Cut.ensures.ends (λ e. cc e) is);
-}
+returns-in-Cut-clause-read g c = unread c.records.invariant.reads c.in-Cut.ensures.cause.later (not_read c.finish-in-Cut.result (Err (stop.CaptureCut c.place.result)) c.finish-in-Cut.ensures.ends (λ e. cc e))
 
 pub returns-in-Refused-clause-lists : goal.returns-in-Refused-clause-lists
 returns-in-Refused-clause-lists g c =
@@ -96,10 +90,7 @@ returns-in-Refused-clause-lists g c =
     (λ rose. omega (arith, before.puts, rose)) (rw c.from.ensures at c.finish-in-Refused.ensures.ends)
 
 pub returns-in-Refused-clause-read : goal.returns-in-Refused-clause-read
-returns-in-Refused-clause-read g c = record {
-  later = omega (arith, c.records.invariant.reads, c.in-Refused.ensures.cause.later);
-  rose = λ is. absurd (not_read c.finish-in-Refused.result (Err c.from.result) c.finish-in-Refused.ensures.ends (λ e. let of = c.from.ensures in cc (e, of)) is);
-}
+returns-in-Refused-clause-read g c = unread c.records.invariant.reads c.in-Refused.ensures.cause.later (not_read c.finish-in-Refused.result (Err c.from.result) c.finish-in-Refused.ensures.ends (λ e. let of = c.from.ensures in cc (e, of)))
 
 pub returns-in-TooLong-clause-lists : goal.returns-in-TooLong-clause-lists
 returns-in-TooLong-clause-lists g c =
@@ -109,10 +100,7 @@ returns-in-TooLong-clause-lists g c =
     finished before.listed c.finish-in-TooLong.result (Err (stop.CaptureRefused refusal.TooLong)) c.next.new.self.place TooLong stands tt (λ put. (refl, put)) (λ rose. omega (arith, before.puts, rose)) c.finish-in-TooLong.ensures.ends
 
 pub returns-in-TooLong-clause-read : goal.returns-in-TooLong-clause-read
-returns-in-TooLong-clause-read g c = record {
-  later = omega (arith, c.records.invariant.reads, c.in-TooLong.ensures.cause.later);
-  rose = λ is. absurd (not_read c.finish-in-TooLong.result (Err (stop.CaptureRefused refusal.TooLong)) c.finish-in-TooLong.ensures.ends (λ e. cc e) is);
-}
+returns-in-TooLong-clause-read g c = unread c.records.invariant.reads c.in-TooLong.ensures.cause.later (not_read c.finish-in-TooLong.result (Err (stop.CaptureRefused refusal.TooLong)) c.finish-in-TooLong.ensures.ends (λ e. cc e))
 
 pub returns-in-Large-clause-lists : goal.returns-in-Large-clause-lists
 returns-in-Large-clause-lists g c =
@@ -122,10 +110,7 @@ returns-in-Large-clause-lists g c =
     finished before.listed c.finish-in-Large.result (Err (stop.CaptureRefused refusal.Large)) c.next.new.self.place Large stands tt (λ put. (refl, put)) (λ rose. omega (arith, before.puts, rose)) c.finish-in-Large.ensures.ends
 
 pub returns-in-Large-clause-read : goal.returns-in-Large-clause-read
-returns-in-Large-clause-read g c = record {
-  later = omega (arith, c.records.invariant.reads, c.in-Large.ensures.cause.later);
-  rose = λ is. absurd (not_read c.finish-in-Large.result (Err (stop.CaptureRefused refusal.Large)) c.finish-in-Large.ensures.ends (λ e. cc e) is);
-}
+returns-in-Large-clause-read g c = unread c.records.invariant.reads c.in-Large.ensures.cause.later (not_read c.finish-in-Large.result (Err (stop.CaptureRefused refusal.Large)) c.finish-in-Large.ensures.ends (λ e. cc e))
 
 pub returns-in-Failed-clause-lists : goal.returns-in-Failed-clause-lists
 returns-in-Failed-clause-lists g c =

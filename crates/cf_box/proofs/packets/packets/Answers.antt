@@ -1,8 +1,8 @@
 use Rattle.std.proofs.Common.{Ok, Err, List, ℕ, refl, sym, subst, ap, ◌∙◌, arith}
 use Rattle.cf_outside.specs.Faults.{Rose}
 use Rattle.cf_outside.specs.Files.{Content}
-use Rattle.cf_run.specs.Reader.{HasForm}
-use Rattle.cf_box.specs.Command.{Packets}
+use Rattle.cf_records.specs.Reader.{HasForm}
+use Rattle.cf_words.specs.Command.{Packets}
 use Rattle.cf_box.specs.Ends.{Meets}
 use Rattle.cf_box.specs.Outside.{files_value, outside, sink_value}
 use Rattle.cf_box.specs.Packets.{ListsFile}

@@ -5,16 +5,18 @@ use Rattle.cf_review.specs.Remark.{remark_value}
 use Rattle.cf_review.specs.Review.{IsReviewOf}
 use Rattle.cf_watch.specs.Watch.{IsRecordingOf}
 use Rattle.cf_watch.specs.FlowValue.{flow_value}
-use Rattle.cf_box.specs.Command.{Review}
+use Rattle.cf_words.specs.Command.{Review}
 use Rattle.cf_box.specs.Ends.{Meets}
 use Rattle.cf_box.specs.Outside.{files_value, outside}
-use Rattle.cf_box.proofs.Recorded.{answered_meets, failed_meets, unread_leaves, unwatched_meets}
+use Rattle.cf_box.specs.Review.{ReviewLeaves}
+use Rattle.cf_box.proofs.Passing.{unread_leaves}
+use Rattle.cf_box.proofs.Recorded.{answered_meets, failed_meets, unwatched_meets}
 use Rattle.cf_box.proofs.review.review_capture.Goals as goal
 
 pub returns-in-Err-clause-meets : goal.returns-in-Err-clause-meets
 returns-in-Err-clause-meets g c = λ sink pair. (
   c.in-Err.ensures.stop (Review c.args.policy_file.now c.args.capture.now c.args.log.now) sink pair refl,
-  unread_leaves c.args.policy_file.now c.args.capture.now c.args.log.now _ _ c.in-Err.stop c.in-Err.ensures.early
+  unread_leaves (ReviewLeaves c.args.policy_file.now c.args.capture.now c.args.log.now _ _) _ _ (λ same. same) (λ r same. same) (λ same. same) c.in-Err.stop c.in-Err.ensures.early
       (record { content = c.load_policy.ensures.only.content; sink = refl; pair = refl }),
 )
 
@@ -25,7 +27,7 @@ returns-in-Err-watch_recording-clause-meets g c = λ sink pair.
     let after = outside (files_value g.F.Files c.watch_recording.new.files) sink pair in
     subst (λ s. Meets (Review c.args.policy_file.now c.args.capture.now c.args.log.now) before after (Err s)) (sym c.from.ensures)
     (unwatched_meets c.args.policy_file.now c.args.capture.now c.args.log.now before c.in-Ok.policy c.in-Ok.ensures.has middle after
-    c.load_policy.ensures.only c.watch_recording.ensures.same refl refl (Err c.in-Err-watch_recording.fault) c.in-Err-watch_recording.fault refl c.in-Err-watch_recording.ensures.read.rose
+    c.load_policy.ensures.only c.watch_recording.ensures.same refl refl c.in-Err-watch_recording.fault (λ is. c.in-Err-watch_recording.ensures.read.rose (ap Err is))
     c.in-Err-watch_recording.ensures.fault)
 
 pub returns-in-Ok-write_lines-clause-meets : goal.returns-in-Ok-write_lines-clause-meets
@@ -46,7 +48,7 @@ returns-in-Ok-write_lines-clause-meets g c = λ sink pair.
     ∙ ap (λ l. review_text p.assets recording.stamps.items (map remark_value l)) c.as_slice-3.ensures.value in
     answered_meets c.args.policy_file.now c.args.capture.now c.args.log.now before p c.in-Ok.ensures.has middle after recording.stamps.items c.in-Ok-review.reviewed flows recorded is
     (record { content = c.watch_recording.ensures.same ∙ c.load_policy.ensures.only.content; reads = omega (arith, reads, earlier); writes = c.watch_recording.ensures.writes ∙ c.load_policy.ensures.only.writes })
-    refl refl c.write_lines.ensures.others
+    refl refl c.write_lines.ensures.writes.others
     (c.in-Ok-write_lines.ensures.done ∙ ap (content_after_write (g.F.Files.content c.watch_recording.new.files c.args.log.now)) text) c.answer.result c.answer.ensures
 
 pub returns-clause-meets : goal.returns-clause-meets
@@ -67,6 +69,6 @@ returns-clause-meets g c = λ sink pair.
     ∙ ap (λ l. review_text p.assets recording.stamps.items (map remark_value l)) c.as_slice-3.ensures.value in
     failed_meets c.args.policy_file.now c.args.capture.now c.args.log.now before p c.in-Ok.ensures.has middle after recording.stamps.items c.in-Ok-review.reviewed flows recorded is
     (record { content = c.watch_recording.ensures.same ∙ c.load_policy.ensures.only.content; reads = omega (arith, reads, earlier); writes = c.watch_recording.ensures.writes ∙ c.load_policy.ensures.only.writes })
-    refl refl c.write_lines.ensures.others
-    (c.in-Err-write_lines.ensures.cause.rose refl)
+    refl refl c.write_lines.ensures.writes.others
+    (c.in-Err-write_lines.ensures.writes.cause.rose refl)
     (subst (λ t. IsPartly t (g.F.Files.content c.watch_recording.new.files c.args.log.now) (g.F.Files.content c.write_lines.new.files c.args.log.now)) text c.in-Err-write_lines.ensures.partly)

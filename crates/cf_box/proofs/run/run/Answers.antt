@@ -1,6 +1,6 @@
 use Rattle.std.proofs.Common.{Err, inl, refl, subst, sym}
 use Rattle.cf_run.specs.RunCapture.{run_names_value}
-use Rattle.cf_box.specs.Command.{Run}
+use Rattle.cf_words.specs.Command.{Run}
 use Rattle.cf_box.specs.Ends.{Meets}
 use Rattle.cf_box.specs.Outside.{files_value, outside}
 use Rattle.cf_box.proofs.Runs.{run_after}

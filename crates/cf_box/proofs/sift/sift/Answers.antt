@@ -1,8 +1,10 @@
-use Rattle.std.proofs.Common.{refl, subst, Err, sym}
-use Rattle.cf_box.specs.Command.{Sift}
+use Rattle.std.proofs.Common.{refl, subst, Err, sym, inl}
+use Rattle.cf_words.specs.Command.{Sift}
 use Rattle.cf_box.specs.Outside.{FilesValue, files_value, outside}
 use Rattle.cf_box.specs.PolicyFile.{FindsAsset}
-use Rattle.cf_box.proofs.Sifting.{early_leaves, since, sift_cuts, sift_ends, sift_fails}
+use Rattle.cf_box.specs.Sift.{SiftLeaves}
+use Rattle.cf_box.proofs.Passing.{unread_leaves}
+use Rattle.cf_box.proofs.Sifting.{since, sift_cuts, sift_ends, sift_fails}
 use Rattle.cf_policy.specs.declared.Asset.{Asset}
 use Rattle.cf_sift.specs.Names.{SiftNamesValue, sift_names_value}
 use Rattle.cf_sift.specs.Sifted.{IsSifted, SiftEnds}
@@ -16,8 +18,8 @@ use Rattle.cf_box.proofs.sift.sift.Goals.{After-sift_stream}
 pub returns-in-Err-clause-meets : goal.returns-in-Err-clause-meets
 returns-in-Err-clause-meets g c = λ sink pair. (
   c.in-Err.ensures.stop (Sift c.args.policy_file.now c.args.asset_name.now c.args.client (sift_names_value c.args.names.now)) sink pair refl,
-  early_leaves c.args.policy_file.now c.args.asset_name.now c.args.client (sift_names_value c.args.names.now) _ _ _ c.in-Err.ensures.early
-      (record { content = c.load_policy.ensures.only.content; sink = refl; pair = refl }),
+  unread_leaves (SiftLeaves c.args.policy_file.now c.args.asset_name.now c.args.client (sift_names_value c.args.names.now) _ _) _ _ (λ same. inl same) (λ r same. same) (λ same. same)
+      c.in-Err.stop c.in-Err.ensures.early (record { content = c.load_policy.ensures.only.content; sink = refl; pair = refl }),
 )
 
 -- the asset was found, and its stream was taken

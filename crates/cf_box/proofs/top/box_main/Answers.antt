@@ -1,10 +1,9 @@
 use Rattle.std.proofs.Common.{◌≡◌, ◌⊎◌, refl, subst}
-use Rattle.cf_box.specs.Command.{Command, World}
+use Rattle.cf_words.specs.Command.{Command, World}
 use Rattle.cf_box.specs.Ends.{Ends}
-use Rattle.cf_sift.specs.Outputs.{KeepsAllBut}
 use Rattle.cf_box.specs.Outside.{Outside, outside_value}
 use Rattle.cf_box.specs.Status.{AsksItsPair, CutsItsCapture, CutsItsStream, DeniesWhatItAsks, EndsItsIdles, ExceedsItsCells, ExceedsItsRules, LacksItsAsset, RefusesItsCapture, RefusesItsPolicy, outputs_of}
-use Rattle.cf_box.specs.Words.{command_value}
+use Rattle.cf_words.specs.Words.{command_value}
 use Rattle.cf_box.proofs.Complete.{complete_told}
 use Rattle.cf_box.proofs.Exact.{exact_told}
 use Rattle.cf_box.proofs.Kept.{kept_told, unwritten_told}
@@ -13,6 +12,7 @@ use Rattle.cf_box.proofs.Statuses.{Explains, capture_told, cells_told, cut_told,
 use Rattle.cf_box.proofs.WorldHolds.{own_told, world_told}
 use Rattle.cf_box.proofs.top.box_main.Given.{Over}
 use Rattle.cf_box.proofs.top.box_main.Goals as goal
+use Rattle.cf_outside.specs.Frames.{KeepsOtherFiles}
 
 module _ (g : Over) (c : goal.After-report g) where
   abbrev before : Outside
@@ -106,7 +106,7 @@ returns-in-Some-clause-passes g c = λ policy name client names is. passes_told 
 
 pub returns-in-Some-clause-kept : goal.returns-in-Some-clause-kept
 returns-in-Some-clause-kept g c =
-    subst (λ words. KeepsAllBut (before g c).files.content (after g c).files.content (outputs_of words)) c.in-Some.ensures.command (kept_told (explains g c))
+    subst (λ words. KeepsOtherFiles (outputs_of words) (before g c).files.content (after g c).files.content) c.in-Some.ensures.command (kept_told (explains g c))
 
 pub returns-in-Some-clause-unwritten : goal.returns-in-Some-clause-unwritten
 returns-in-Some-clause-unwritten g c = λ w own. unwritten_told (explains g c) w (own (command g c) (let known = c.in-Some.ensures.command in cc))

@@ -10,4 +10,4 @@ returns-in-Ok-clause-meets g c = λ sink pair.
     let between = outside (files_value g.F.Files c.make_world.new.files) sink pair in
     let after = outside (files_value g.F.Files c.run.new.files) sink pair in
     world_meets c.args.seed c.args.sessions c.args.policy.now (run_names_value c.args.names.now) before between after c.requires
-    c.in-Ok.ensures.makes c.make_world.ensures.others c.make_world.ensures.reads c.make_world.ensures.write.later refl refl c.run.result (c.run.ensures.meets sink pair)
+    c.in-Ok.ensures.makes c.make_world.ensures.writes.others c.make_world.ensures.writes.reads c.make_world.ensures.writes.cause.later refl refl c.run.result (c.run.ensures.meets sink pair)

@@ -1,7 +1,8 @@
 use Rattle.std.proofs.Common.{ap, refl}
 use Rattle.cf_apci.specs.Apdu.{apdu_value}
 use Rattle.cf_policy.specs.declared.Protocol.TheVariants.{Iec104}
-use Rattle.cf_learn.specs.Shown.{Asdu, apdu_unit, message_in}
+use Rattle.cf_learn.specs.Shown.{Asdu, message_in}
+use Rattle.cf_lane.specs.Unit.{apdu_unit}
 use Rattle.std.proofs.lemmas.Result.{on_ok_weaker}
 use Rattle.cf_learn.proofs.Adding.{have_none, have_one}
 use Rattle.cf_learn.proofs.reading.push_apdu.Goals as goal

@@ -2,7 +2,8 @@ use Rattle.std.proofs.Common.{refl, subst, sym}
 use Rattle.cf_dnplink.specs.LinkFrame.{frame_value}
 use Rattle.cf_lane.proofs.Units.{frames}
 use Rattle.cf_learn.specs.Reading.{Adds, new_messages}
-use Rattle.cf_learn.specs.Shown.{HaveAct, frame_unit}
+use Rattle.cf_learn.specs.Shown.{HaveAct}
+use Rattle.cf_lane.specs.Unit.{frame_unit}
 use Rattle.cf_learn.proofs.Fronts.{takes_break, takes_part, takes_unit}
 use Rattle.cf_learn.proofs.reading.push_dnp3.Goals as goal
 

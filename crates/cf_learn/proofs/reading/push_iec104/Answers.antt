@@ -4,7 +4,8 @@ use Rattle.cf_apci.specs.Apdu.{apdu_value}
 use Rattle.cf_lane.proofs.Units.{apdus}
 use Rattle.cf_policy.specs.declared.Protocol.TheVariants.{Iec104}
 use Rattle.cf_learn.specs.Reading.{Adds}
-use Rattle.cf_learn.specs.Shown.{HaveAct, apdu_unit, message_in}
+use Rattle.cf_learn.specs.Shown.{HaveAct, message_in}
+use Rattle.cf_lane.specs.Unit.{apdu_unit}
 use Rattle.cf_learn.proofs.Fronts.{takes_break, takes_part, takes_unit}
 use Rattle.cf_learn.proofs.reading.push_iec104.Goals as goal
 

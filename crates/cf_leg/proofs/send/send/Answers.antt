@@ -9,11 +9,11 @@ pub returns-in-Done-clause-gets : goal.returns-in-Done-clause-gets
 unfolding spelled
 returns-in-Done-clause-gets g c =
     c.in-Done.ensures.packets
-    ∙ ap (λ (octets : List ℕ). with_item {A = SentValue} (record { moment = c.args.now; bytes = octets }) (g.D.Desk.value c.args.desk.now).packets) (c.as_slice.ensures.value ∙ c.write_packet.ensures.octets)
+    ∙ ap (λ (octets : List ℕ). with_item {A = SentValue} (record { moment = c.args.moment; bytes = octets }) (g.D.Desk.value c.args.desk.now).packets) (c.as_slice.ensures.value ∙ c.write_packet.ensures.octets)
 
 pub returns-in-Failed-clause-gets : goal.returns-in-Failed-clause-gets
 unfolding spelled
 returns-in-Failed-clause-gets g c =
-    broken_one c.args.now _ (g.D.Desk.value c.args.desk.now) (g.D.Desk.value c.emit.new.self)
-    (subst (λ (octets : List ℕ). Adds {A = SentValue} (record { moment = c.args.now; bytes = octets }) ((g.D.Desk.value c.args.desk.now).octets (record { moment = c.args.now; bytes = octets })) (g.D.Desk.value c.args.desk.now).packets (g.D.Desk.value c.emit.new.self).packets (g.D.Desk.value c.emit.new.self).packet_part write.Failed)
+    broken_one c.args.moment _ (g.D.Desk.value c.args.desk.now) (g.D.Desk.value c.emit.new.self)
+    (subst (λ (octets : List ℕ). Adds {A = SentValue} (record { moment = c.args.moment; bytes = octets }) ((g.D.Desk.value c.args.desk.now).octets (record { moment = c.args.moment; bytes = octets })) (g.D.Desk.value c.args.desk.now).packets (g.D.Desk.value c.emit.new.self).packets (g.D.Desk.value c.emit.new.self).packet_part write.Failed)
     (c.as_slice.ensures.value ∙ c.write_packet.ensures.octets) c.in-Failed.ensures.packets)

@@ -10,7 +10,7 @@ loop-piece-preserved g c =
     let i = c.loop-piece.invariant in
     let sent = ap (λ (q : Queue). q.sent) c.in-Some.ensures.new in
     record {
-      sends = rw sent (sends_one_more c.args.way c.args.told c.args.mss c.args.queue.now c.loop-piece.queue c.next_piece.new.self c.args.now (g.D.Desk.value c.args.desk.now) (g.D.Desk.value c.loop-piece.desk) (g.D.Desk.value c.send_piece.new.desk) false c.in-Some.piece
+      sends = rw sent (sends_one_more c.args.way c.args.told c.args.mss c.args.queue.now c.loop-piece.queue c.next_piece.new.self c.args.moment (g.D.Desk.value c.args.desk.now) (g.D.Desk.value c.loop-piece.desk) (g.D.Desk.value c.send_piece.new.desk) false c.in-Some.piece
           i.sends i.frame.rest.keeps.octets (ap (λ (q : Queue). q.shown) i.queue) i.low c.in-Some.ensures.letters c.in-Some.ensures.answer c.in_ok-send_piece.ensures.sends i.stands
           (λ whole s. c.in-Some.ensures.stands whole (i.stands whole s)) refl);
       queue = c.in-Some.ensures.new ∙ ap (λ (q : Queue). record q { sent = c.loop-piece.queue.sent + piece_letters c.in-Some.piece }) i.queue ∙ ap (λ (n : ℕ). record c.args.queue.now { sent = n }) (sym sent);
@@ -28,7 +28,7 @@ loop-piece-preserved g c =
 pub returns-clause-pieces : goal.returns-clause-pieces
 returns-clause-pieces g c =
     let i = c.loop-piece.invariant in
-    sends_all c.args.way c.args.told c.args.mss c.args.queue.now c.args.now c.loop-piece.queue.sent (g.D.Desk.value c.args.desk.now) (g.D.Desk.value c.loop-piece.desk) i.sends
+    sends_all c.args.way c.args.told c.args.mss c.args.queue.now c.args.moment c.loop-piece.queue.sent (g.D.Desk.value c.args.desk.now) (g.D.Desk.value c.loop-piece.desk) i.sends
     (let none = c.in_default.ensures.answer.none.0 (search rules) in
     omega (arith, none, ap (λ (q : Queue). q.shown) i.queue, ap (λ (q : Queue). queue_length q) i.queue)) i.low i.high
 
@@ -38,7 +38,7 @@ returns-in_err-send_piece-clause-broken g c =
     let length = ap (λ (q : Queue). queue_length q) i.queue in
     let shown = ap (λ (q : Queue). q.shown) i.queue in
     let left = left_of c.loop-piece.queue c.args.mss c.in-Some.piece c.in-Some.ensures.answer in
-    on_err _ (sends_first c.args.way c.args.told c.args.mss c.args.queue.now c.loop-piece.queue c.next_piece.new.self c.args.now
+    on_err _ (sends_first c.args.way c.args.told c.args.mss c.args.queue.now c.loop-piece.queue c.next_piece.new.self c.args.moment
     (g.D.Desk.value c.args.desk.now) (g.D.Desk.value c.loop-piece.desk) (g.D.Desk.value c.send_piece.new.desk) true c.in-Some.piece
     i.sends i.frame.rest.keeps.octets shown i.low c.in-Some.ensures.letters c.in-Some.ensures.answer c.in_err-send_piece.ensures.sends
     i.stands (λ whole s. c.in-Some.ensures.stands whole (i.stands whole s)) refl c.requires.mss.0 (omega (arith, i.low, left, length, shown)))

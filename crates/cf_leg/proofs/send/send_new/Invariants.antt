@@ -9,7 +9,7 @@ use Rattle.cf_leg.proofs.send.send_new.Given as goal
 
 abbrev pub invariant-loop-piece : goal.invariant-loop-piece
 invariant-loop-piece g l = record {
-  sends : SendsSome l.way l.told l.mss l.initial.queue l.queue.sent l.now ((g.D.Desk.value l.initial.desk).packets) ((g.D.Desk.value l.desk).packets);
+  sends : SendsSome l.way l.told l.mss l.initial.queue l.queue.sent l.moment ((g.D.Desk.value l.initial.desk).packets) ((g.D.Desk.value l.desk).packets);
   queue : l.queue ≡ record l.initial.queue { sent = l.queue.sent };
   stands : (whole : Stream) → IsQueueOf l.initial.queue whole → IsQueueOf l.queue whole;
   low : l.initial.queue.sent ≤ l.queue.sent;

@@ -4,6 +4,7 @@ use Rattle.std.specs.List.{concat}
 use Rattle.cf_outq.specs.SendQueue.{IsQueueOf}
 use Rattle.cf_outside.specs.Pair.{Took}
 use Rattle.cf_stream.specs.Stream.{Stream}
+use Rattle.cf_relay.specs.declared.limit.TheConstants.{MOST_BYTES}
 use Rattle.cf_relay.specs.Answers.{idles_after}
 use Rattle.cf_links.specs.Links.{with_answers}
 use Rattle.cf_relay.specs.Scene.{RoseBy}
@@ -25,7 +26,7 @@ invariant-gives g l =
       idles : (start : ℕ) → RoseBy l.fn.idle start (g.L.Links.idles l.fn.links) → RoseBy l.idle start (g.L.Links.idles l.links);
       still : g.L.Links.faults l.links ≡ g.L.Links.faults l.fn.links;
       place : g.L.Links.place l.links ≡ g.L.Links.place l.fn.links;
-      buffer : length l.buf ≡ 4096;
+      buffer : length l.buf ≡ MOST_BYTES;
     }
 
 abbrev pub decreases-gives : goal.decreases-gives

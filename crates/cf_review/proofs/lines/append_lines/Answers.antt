@@ -1,8 +1,9 @@
 use Rattle.std.proofs.Common.{◌≡◌, ◌+◌, ◌++◌, ◌∙◌, ap, arith, drop, map, sym, take}
+use Rattle.std.proofs.lemmas.Result.{on_err_weaker}
 use Rattle.cf_outside.specs.Files.{with_appended}
 use Rattle.cf_review.specs.Lines.{review_text}
 use Rattle.cf_review.specs.Remark.{remark_value}
-use Rattle.cf_review.proofs.Writing.{if_err, moved_on, on_err, partly_moved, text_more, text_split}
+use Rattle.cf_review.proofs.Writing.{moved_on, on_err, partly_moved, text_more, text_split}
 use Rattle.cf_review.proofs.lines.append_lines.Goals as goal
 
 pub returns-in_err-put-clause-partly : goal.returns-in_err-put-clause-partly
@@ -31,9 +32,11 @@ loop-remark-preserved g c =
       front = m.0;
       told = m.1;
       file = m.2;
-      others = λ other h. put.others other h ∙ inv.others other h;
-      writes = omega (arith, inv.writes, put.cause.later);
-      reads = put.reads ∙ inv.reads;
+      writes = record {
+        others = λ other none. put.writes.others other none ∙ inv.writes.others other none;
+        cause = record { later = omega (arith, inv.writes.cause.later, put.writes.cause.later); rose = λ failed. absurd failed };
+        reads = put.writes.reads ∙ inv.writes.reads;
+      };
     }
 
 pub returns-clause-partly : goal.returns-clause-partly
@@ -42,7 +45,7 @@ returns-clause-partly g c =
     let rs = c.args.remarks.now in
     let i = c.loop-remark.remark-index in
     let text = review_text c.args.assets.now c.args.stamps.now in
-    if_err _ _ c.append_all.result
+    on_err_weaker c.append_all.result
     (λ p. partly_moved inv.front c.loop-remark.piece.items (text (map remark_value (take i rs))) (text (map remark_value (drop i rs))) (text (map remark_value rs)) p.0 _ _ _ inv.told
     (text_split c.args.assets.now c.args.stamps.now rs i) inv.file (p.1 ∙ ap (λ xs. with_appended (g.F.Files.content c.loop-remark.files c.args.log.now) (take p.0 xs)) c.as_slice.ensures.value))
     c.append_all.ensures.partly

@@ -1,5 +1,6 @@
-use Rattle.std.proofs.Common.{◌≡◌, ◌≤◌, ◌++◌, ℕ, List, map, take}
-use Rattle.cf_outside.specs.Files.{KeepsOthers, with_appended}
+use Rattle.std.proofs.Common.{◌≡◌, ◌++◌, ◌∷◌, [], ℕ, List, map, take}
+use Rattle.cf_outside.specs.Files.{with_appended}
+use Rattle.cf_outside.specs.Frames.{OnlyWrites}
 use Rattle.cf_review.specs.Lines.{review_text}
 use Rattle.cf_review.specs.Remark.{remark_value}
 use Rattle.cf_review.proofs.lines.append_lines.Given as goal
@@ -11,7 +12,5 @@ invariant-loop-remark g l =
       front : List ℕ;
       told : front ++ l.piece.items ≡ review_text l.assets l.stamps (map remark_value (take l.remark-index l.remarks));
       file : content l.files l.log ≡ with_appended (content l.fn.files l.log) front;
-      others : KeepsOthers l.log (content l.fn.files) (content l.files);
-      writes : g.F.Files.write_faults l.fn.files ≤ g.F.Files.write_faults l.files;
-      reads : g.F.Files.read_faults l.files ≡ g.F.Files.read_faults l.fn.files;
+      writes : OnlyWrites (l.log ∷ []) content g.F.Files.read_faults g.F.Files.write_faults l.fn.files l.files ⊥;
     }

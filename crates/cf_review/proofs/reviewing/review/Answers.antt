@@ -1,14 +1,14 @@
-use Rattle.std.proofs.Common.{rules, ◌≡◌, ◌+◌, ◌<◌, ◌++◌, ◌∷◌, [], ◌∙◌, sym, ap, subst, refl, arith, take, map, length, Some, min, ◌^◌, ◌-◌, slice_get, add-one}
-use Rattle.std.proofs.Math.Seq.{take-suc}
-use Rattle.std.proofs.lemmas.List.{length-map, map-append, take_all}
+use Rattle.std.proofs.Common.{rules, ◌≡◌, ◌+◌, ◌<◌, ◌++◌, ◌∷◌, [], ◌∙◌, sym, ap, subst, refl, arith, take, map, length, Some, min, ◌^◌, ◌-◌, slice_get, get_or}
+use Rattle.std.proofs.lemmas.List.{length-map, map_more, take_all}
 use Rattle.std.proofs.lemmas.List.Sorted.{IsNonDecreasingBy-from_sort_by_key, answers_always}
 use Rattle.std.proofs.lemmas.Option.{slice_get_read}
+use Rattle.cf_policy.specs.Within.{IsAssetWithin}
 use Rattle.cf_watch.specs.FlowValue.{flow_value}
 use Rattle.cf_review.specs.FirstUnit.{AreReadParts}
 use Rattle.cf_review.specs.Remark.{remark_value}
 use Rattle.cf_review.specs.declared.remark.Remark.{Remark}
 use Rattle.cf_review.proofs.Ordering.{in_order, when_done}
-use Rattle.cf_review.proofs.Reading.{ReviewedSoFar, asset_within, for_asset, reviewed_first, reviewed_on}
+use Rattle.cf_review.proofs.Reading.{ReviewedSoFar, for_asset, reviewed_first, reviewed_on}
 use Rattle.cf_review.proofs.reviewing.review.Goals as goal
 
 pub loop-flow-init : goal.loop-flow-init
@@ -16,26 +16,18 @@ loop-flow-init c = reviewed_first c.args.policy.now.assets _ (ap (map remark_val
 
 pub bounds-assets-flow : goal.bounds-assets-flow
 bounds-assets-flow c =
-    let here = for_asset c.args.policy.now.assets c.args.flows.now c.requires.flows c.loop-flow.flow-index c.flow-item.result
-    (slice_get_read c.args.flows.now (length c.args.flows.now) c.loop-flow.flow-index c.flow-item.result refl c.loop-flow-test.true c.flow-item.is) in
+    let here = for_asset c.args.policy.now.assets c.args.flows.now c.requires.flows c.loop-flow.flow-index c.flow-item.result c.loop-flow-test.true c.flow-item.is in
     omega (arith, here.asset, ap length c.as_slice-assets.ensures)
 
 pub review_flow-requires-clause-within : goal.review_flow-requires-clause-within
 review_flow-requires-clause-within c =
-    let lent = c.as_slice-assets.result.now in
-    let f = c.flow-item.result in
     let asset = c.index-assets-flow.result in
-    let here = for_asset c.args.policy.now.assets c.args.flows.now c.requires.flows c.loop-flow.flow-index f
-    (slice_get_read c.args.flows.now (length c.args.flows.now) c.loop-flow.flow-index f refl c.loop-flow-test.true c.flow-item.is) in
-    let same : lent ≡ c.args.policy.now.assets = c.as_slice-assets.ensures in
-    let below : f.asset < length lent = omega (arith, here.asset, ap length same) in
-    asset_within c.args.policy.now.assets c.requires.within.each f.asset asset
-    (subst (λ xs. slice_get xs f.asset ≡ Some asset) same (slice_get_read lent (length lent) f.asset asset refl below c.index-assets-flow.is))
+    let here = for_asset c.args.policy.now.assets c.args.flows.now c.requires.flows c.loop-flow.flow-index c.flow-item.result c.loop-flow-test.true c.flow-item.is in
+    subst IsAssetWithin (sym (c.index-assets-flow.is ∙ ap (λ xs. get_or xs c.flow-item.result.asset asset) c.as_slice-assets.ensures))
+    (c.requires.within.each c.flow-item.result.asset asset (omega (arith, here.asset)))
 
 pub review_flow-requires-clause-born : goal.review_flow-requires-clause-born
-review_flow-requires-clause-born c =
-    (for_asset c.args.policy.now.assets c.args.flows.now c.requires.flows c.loop-flow.flow-index c.flow-item.result
-    (slice_get_read c.args.flows.now (length c.args.flows.now) c.loop-flow.flow-index c.flow-item.result refl c.loop-flow-test.true c.flow-item.is)).born
+review_flow-requires-clause-born c = (for_asset c.args.policy.now.assets c.args.flows.now c.requires.flows c.loop-flow.flow-index c.flow-item.result c.loop-flow-test.true c.flow-item.is).born
 
 pub loop-flow-preserved : goal.loop-flow-preserved
 loop-flow-preserved c =
@@ -44,10 +36,10 @@ loop-flow-preserved c =
     let i = c.loop-flow.flow-index in
     let f = c.flow-item.result in
     let inside : i < length flows = c.loop-flow-test.true in
-    let more : take i flows ++ f ∷ [] ≡ take (i + 1) flows = rw add-one (ap (λ g. take i flows ++ g ∷ []) c.flow-item.is ∙ sym (take-suc flows i f inside)) in
-    let values : map flow_value (take i flows) ++ flow_value f ∷ [] ≡ map flow_value (take (i + 1) flows) = sym (map-append flow_value (take i flows) (f ∷ [])) ∙ ap (map flow_value) more in
+    let values : map flow_value (take i flows) ++ flow_value f ∷ [] ≡ map flow_value (take (i + 1) flows) =
+    ap (λ g. map flow_value (take i flows) ++ flow_value g ∷ []) c.flow-item.is ∙ sym (map_more flow_value flows i f inside) in
     let at : slice_get assets f.asset ≡ Some c.index-assets-flow.result =
-    let here = for_asset assets flows c.requires.flows i f (slice_get_read flows (length flows) i f refl inside c.flow-item.is) in
+    let here = for_asset assets flows c.requires.flows i f inside c.flow-item.is in
     let lent = c.as_slice-assets.result.now in
     let same : lent ≡ assets = c.as_slice-assets.ensures in
     let below : f.asset < length lent = omega (arith, here.asset, ap length same) in

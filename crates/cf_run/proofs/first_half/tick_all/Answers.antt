@@ -24,12 +24,12 @@ sessions-init g c = record {
   sound = c.requires.sound;
   least = All-nil _;
   fewer = omega arith;
-  ticked = λ known all. some_first c.args.assets.now c.args.now known c.args.table.now.sessions.items _ all;
+  ticked = λ known all. some_first c.args.assets.now c.args.moment known c.args.table.now.sessions.items _ all;
   frame = puts_none _ c.requires.whole;
 }
 
-pub sessions-preserved-then-now-next : goal.sessions-preserved-then-now-next
-sessions-preserved-then-now-next g c =
+pub sessions-preserved-then-moment-next : goal.sessions-preserved-then-moment-next
+sessions-preserved-then-moment-next g c =
     let items = c.sessions.table.sessions.items in
     let place = c.sessions.place in
     let before = c.sessions.invariant in
@@ -43,8 +43,8 @@ sessions-preserved-then-now-next g c =
           (subst (λ (e : Entry). c.min-due.result ≤ e.due) (same x.0 x.1) (omega (arith, c.min-due.ensures))));
       fewer = before.fewer;
       ticked = λ known all.
-          quiet_more c.sessions_are_quiet_before_due.ensures c.args.assets.now c.args.limit c.args.now known items place _ _ c.sessions.count before.sound within
-          (λ entry at. subst (λ (e : Entry). c.args.now < e.due) (same entry at) c.if-now-next.true) (before.ticked known all);
+          quiet_more c.sessions_are_quiet_before_due.ensures c.args.assets.now c.args.limit c.args.moment known items place _ _ c.sessions.count before.sound within
+          (λ entry at. subst (λ (e : Entry). c.args.moment < e.due) (same entry at) c.if-moment-next.true) (before.ticked known all);
       frame = before.frame;
     }
 
@@ -70,8 +70,8 @@ sessions-preserved-then-stays g c =
           (subst (λ (e : Entry). least ≤ e.due) (c.index-then-stays.ensures ∙ get_or_from_slice_get after place y.0 c.index-then-stays.result.now y.1) (omega (arith, c.min-due-then-stays.ensures))));
       fewer = omega (arith, c.sessions.invariant.fewer, c.in_ok-life.ensures.length, c.cuts-count.ensures, cuts_gone c.in_ok-life.life stay);
       ticked = λ known all.
-          subst (λ n. TickSome c.args.assets.now c.args.now known after (place + 1) (told (value c.args.desk.now)) (told (value c.tick_at.new.desk)) n) more
-          (some_more c.args.assets.now c.args.now known place before _ _ _ x.0 y.0 (drop (place + 1) before) after (place + 1) (stays_by c.in_ok-life.life) (cuts_by c.in_ok-life.life) c.sessions.count
+          subst (λ n. TickSome c.args.assets.now c.args.moment known after (place + 1) (told (value c.args.desk.now)) (told (value c.tick_at.new.desk)) n) more
+          (some_more c.args.assets.now c.args.moment known place before _ _ _ x.0 y.0 (drop (place + 1) before) after (place + 1) (stays_by c.in_ok-life.life) (cuts_by c.in_ok-life.life) c.sessions.count
           (c.sessions.invariant.ticked known all) x.2 (c.in_ok-life.ensures.ticks x.0 y.0 x.1 y.1) c.in_ok-life.ensures.after
           (y.3 ∙ ap (λ zs. zs ++ y.0 ∷ []) c.in_ok-life.ensures.before ∙ ap (λ (b : Bool). take place before ++ cond b (y.0 ∷ []) []) (sym stay)));
       frame = puts_both _ _ _ c.sessions.invariant.frame c.in_ok-life.ensures.frame;
@@ -102,16 +102,16 @@ sessions-preserved g c =
       least = subst (AreDueFrom c.sessions.due) (sym (front ∙ c.in_ok-life.ensures.before)) c.sessions.invariant.least;
       fewer = omega (arith, c.sessions.invariant.fewer, c.in_ok-life.ensures.length, size, c.cuts-count.ensures, one_less (cuts_by c.in_ok-life.life));
       ticked = λ known all.
-          subst (λ n. TickSome c.args.assets.now c.args.now known after place (told (value c.args.desk.now)) (told (value c.tick_at.new.desk)) n) more
-          (some_more c.args.assets.now c.args.now known place before _ _ _ x.0 y.0 (drop (place + 1) before) after place (stays_by c.in_ok-life.life) (cuts_by c.in_ok-life.life) c.sessions.count
+          subst (λ n. TickSome c.args.assets.now c.args.moment known after place (told (value c.args.desk.now)) (told (value c.tick_at.new.desk)) n) more
+          (some_more c.args.assets.now c.args.moment known place before _ _ _ x.0 y.0 (drop (place + 1) before) after place (stays_by c.in_ok-life.life) (cuts_by c.in_ok-life.life) c.sessions.count
           (c.sessions.invariant.ticked known all) x.2 (c.in_ok-life.ensures.ticks x.0 y.0 x.1 y.1) (back ∙ c.in_ok-life.ensures.after)
           (front ∙ c.in_ok-life.ensures.before ∙ sym (append-nil (take place before)) ∙ ap (λ (b : Bool). take place before ++ cond b (y.0 ∷ []) []) (sym gone)));
       frame = puts_both _ _ _ c.sessions.invariant.frame c.in_ok-life.ensures.frame;
     }
 
-pub returns-then-now-table-clause-ticks : goal.returns-then-now-table-clause-ticks
-returns-then-now-table-clause-ticks g c = λ known all.
-    quiet_all c.sessions_are_quiet_before_due.ensures c.args.assets.now c.args.limit c.args.now c.args.table.now.due (grind (arith, nat_tests, c.if-now-table.true)) known c.args.table.now.sessions.items _
+pub returns-then-moment-table-clause-ticks : goal.returns-then-moment-table-clause-ticks
+returns-then-moment-table-clause-ticks g c = λ known all.
+    quiet_all c.sessions_are_quiet_before_due.ensures c.args.assets.now c.args.limit c.args.moment c.args.table.now.due (grind (arith, nat_tests, c.if-moment-table.true)) known c.args.table.now.sessions.items _
     c.requires.sound c.requires.due all
 
 pub returns-clause-due : goal.returns-clause-due
@@ -120,7 +120,7 @@ returns-clause-due g c =
 
 pub returns-clause-ticks : goal.returns-clause-ticks
 returns-clause-ticks g c = λ known all.
-    some_all c.args.assets.now c.args.now known c.sessions.table.sessions.items c.sessions.place _ _ c.sessions.count (c.sessions.invariant.ticked known all) (omega (arith, c.sessions-test.false, c.len.ensures))
+    some_all c.args.assets.now c.args.moment known c.sessions.table.sessions.items c.sessions.place _ _ c.sessions.count (c.sessions.invariant.ticked known all) (omega (arith, c.sessions-test.false, c.len.ensures))
 
 pub returns-in_err-life-clause-broken : goal.returns-in_err-life-clause-broken
 returns-in_err-life-clause-broken g c =
@@ -130,5 +130,5 @@ returns-in_err-life-clause-broken g c =
     let before = c.sessions.table.sessions.items in
     let within : place < length before = omega (arith, c.sessions-test.true, c.len.ensures) in
     let x = first_of before place within in
-    ticks_break c.each_session_has_a_tick.ensures c.args.assets.now c.args.now known before place (value c.args.desk.now) (value c.sessions.desk) (value c.tick_at.new.desk) c.sessions.count
+    ticks_break c.each_session_has_a_tick.ensures c.args.assets.now c.args.moment known before place (value c.args.desk.now) (value c.sessions.desk) (value c.tick_at.new.desk) c.sessions.count
     (c.sessions.invariant.ticked known all) c.sessions.invariant.frame x.0 (drop (place + 1) before) (c.in_err-life.ensures.broken x.0 x.1) x.2)

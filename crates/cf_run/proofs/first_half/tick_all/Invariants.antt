@@ -13,8 +13,8 @@ invariant-sessions g l =
       sound : AreSound l.assets l.limit l.table.sessions.items;
       least : AreDueFrom l.due (take l.place l.table.sessions.items);
       fewer : l.count + length l.table.sessions.items ≤ length l.fn.table.sessions.items;
-      ticked : (known : List Session) → AreAll l.assets l.now l.fn.table.sessions.items known →
-          TickSome l.assets l.now known l.table.sessions.items l.place (told (value l.fn.desk)) (told (value l.desk)) l.count;
+      ticked : (known : List Session) → AreAll l.assets l.moment l.fn.table.sessions.items known →
+          TickSome l.assets l.moment known l.table.sessions.items l.place (told (value l.fn.desk)) (told (value l.desk)) l.count;
       frame : EmitsAndLogs (value l.fn.desk) (value l.desk) false;
     }
 

@@ -49,8 +49,8 @@ returns-clause-ticks g c = λ before after at_before at_after.
           let here : slice_get c.args.assets.now x.asset ≡ Some flow.asset = ap (λ (e : Entry). slice_get c.args.assets.now e.asset) was ∙ asset in
           let found : flow.asset ≡ c.asset_of-asset.result.now = same_asset c.args.assets.now x.asset flow.asset c.asset_of-asset.result.now here c.asset_of-asset.ensures in
           let ticks = c.in_ok-life.ensures.ticks flow earlier event found (subst (λ (e : Entry). IsSessionOf flow earlier event e.session) (sym was) stands) in
-          subst (λ (e : Entry). TickAs flow (event ∷ earlier) c.args.now e.session (told (g.D.Desk.value c.args.desk.now)) (told (g.D.Desk.value c.on_clock.new.desk)) (stays_by c.in_ok-life.life) (cuts_by c.in_ok-life.life)) is
-          (by_life flow (event ∷ earlier) c.args.now c.on_clock.new.self _ _ c.in_ok-life.life ticks),
+          subst (λ (e : Entry). TickAs flow (event ∷ earlier) c.args.moment e.session (told (g.D.Desk.value c.args.desk.now)) (told (g.D.Desk.value c.on_clock.new.desk)) (stays_by c.in_ok-life.life) (cuts_by c.in_ok-life.life)) is
+          (by_life flow (event ∷ earlier) c.args.moment c.on_clock.new.self _ _ c.in_ok-life.life ticks),
     )
 
 pub returns-in_err-life-clause-broken : goal.returns-in_err-life-clause-broken

@@ -1,13 +1,13 @@
 use Rattle.std.proofs.Common.{List, ℕ, ◌≡◌, ◌<◌, true, Err, refl, sym, ap, ◌∙◌, subst, arith}
 use Rattle.cf_outside.specs.Files.{Content}
-use Rattle.cf_run.specs.Capture.{Cut, FileEnd, Large, Refused, TooLong}
+use Rattle.cf_records.specs.Capture.{Cut, FileEnd, Large, Refused, TooLong}
 use Rattle.cf_packet.specs.Packet.{read_record}
 use Rattle.cf_run.specs.FileDesk.{are_whole, files_desk}
 use Rattle.cf_run.specs.Half.{StepBreaks}
-use Rattle.cf_run.specs.Reader.{ReaderValue}
+use Rattle.cf_records.specs.Reader.{ReaderValue}
 use Rattle.cf_run.specs.RunCapture.{RunNamesValue, run_names_value}
 use Rattle.cf_run.specs.Trace.{Input, table_after}
-use Rattle.cf_run.proofs.Behind.{first_near, stands_cut, stands_end, stands_large, stands_late, stands_long, stands_refused}
+use Rattle.cf_records.proofs.Behind.{first_near, stands_cut, stands_end, stands_large, stands_late, stands_long, stands_refused}
 use Rattle.cf_run.proofs.Running.{breaks_off, nothing_so_far, one_so_far, runs_partly, runs_to, stopped, stops_between, told_on, too_late, whole_first}
 use Rattle.cf_run.proofs.run.run_records.Goals as goal
 use Rattle.cf_view.specs.Moment.{moment_limit}

@@ -56,8 +56,8 @@ returns-clause-begins g c = λ table flow all there syn is.
     let items = stands_last g at in
     let old = told (g.D.Desk.value c.args.desk.now) in
     let new = told (g.D.Desk.value c.begin.new.desk) in
-    let begun : Begins flow (c.args.now - 1) c.in-Ok.session old new = subst (λ (f : Flow). Begins f (c.args.now - 1) c.in-Ok.session old new) (is_flow g (goal.at.returns-clause-begins g c).After-asset_of-served flow there syn) c.in-Ok.ensures.begins in
-    let h = begun_last c.args.assets.now c.args.now c.args.asset c.args.closed flow table c.args.table.now.sessions.items old new c.in-Ok.session c.due-due.result c.requires.moment.0 all there is begun in
+    let begun : Begins flow (c.args.moment - 1) c.in-Ok.session old new = subst (λ (f : Flow). Begins f (c.args.moment - 1) c.in-Ok.session old new) (is_flow g (goal.at.returns-clause-begins g c).After-asset_of-served flow there syn) c.in-Ok.ensures.begins in
+    let h = begun_last c.args.assets.now c.args.moment c.args.asset c.args.closed flow table c.args.table.now.sessions.items old new c.in-Ok.session c.due-due.result c.requires.moment.0 all there is begun in
     (h.0, rw items h.1)
 
 pub returns-clause-sound : goal.returns-clause-sound
@@ -90,4 +90,4 @@ pub returns-in-Err-Write-clause-broken : goal.returns-in-Err-Write-clause-broken
 returns-in-Err-Write-clause-broken g c = λ e flow there syn.
     let d0 = g.D.Desk.value c.args.desk.now in
     let d1 = g.D.Desk.value c.begin.new.desk in
-    subst (λ (f : Flow). BreaksBeginning f (c.args.now - 1) d0 d1) (is_flow g (goal.at.returns-in-Err-Write-clause-broken g c).After-asset_of-served flow there syn) (c.in-Err-Write.ensures.broken (ap Err c.in-Err-Write.field-0-is))
+    subst (λ (f : Flow). BreaksBeginning f (c.args.moment - 1) d0 d1) (is_flow g (goal.at.returns-in-Err-Write-clause-broken g c).After-asset_of-served flow there syn) (c.in-Err-Write.ensures.broken (ap Err c.in-Err-Write.field-0-is))

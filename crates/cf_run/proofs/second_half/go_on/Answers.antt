@@ -69,7 +69,7 @@ returns-else-not-stays-clause-goes g c = λ table ticked all.
     let items = c.args.table.now.sessions.items in
     let x = c.index_mut-entry.result.now in
     let (at, one) = stands_at c.args.assets.now c.args.limit items c.args.place x c.requires.sound c.requires.inside c.index_mut-entry.ensures.value in
-    heard_as c.args.assets.now c.args.limit c.args.now c.args.place c.args.side (packet_value c.args.packet.now) items table
+    heard_as c.args.assets.now c.args.limit c.args.moment c.args.place c.args.side (packet_value c.args.packet.now) items table
     (told (g.D.Desk.value c.args.desk.now)) (told (g.D.Desk.value c.on_packet.new.desk)) x c.on_packet.new.self c.due-due.result c.asset_of-asset.result.now at c.asset_of-asset.ensures
     all ticked c.requires.moment.0 c.admitted-admitted.result c.refused-refused.result c.admitted-admitted.ensures.counts c.refused-refused.ensures.counts
     (λ flow earlier event s. sym c.admitted.ensures.value ∙ c.admitted.ensures.counts flow earlier event s) (λ flow earlier event s. sym c.refused.ensures.value ∙ c.refused.ensures.counts flow earlier event s)
@@ -86,7 +86,7 @@ returns-then-not-stays-clause-goes g c = λ table ticked all.
     let y : Entry = record { session = c.on_packet.new.self; asset = x.asset; due = c.due-due.result } in
     let (at, one) = stands_at c.args.assets.now c.args.limit items c.args.place x c.requires.sound c.requires.inside c.index_mut-entry.ensures.value in
     rw (c.remove.ensures.items, removed_set items c.args.place y)
-    (heard_as c.args.assets.now c.args.limit c.args.now c.args.place c.args.side (packet_value c.args.packet.now) items table
+    (heard_as c.args.assets.now c.args.limit c.args.moment c.args.place c.args.side (packet_value c.args.packet.now) items table
     (told (g.D.Desk.value c.args.desk.now)) (told (g.D.Desk.value c.on_packet.new.desk)) x c.on_packet.new.self c.due-due.result c.asset_of-asset.result.now at c.asset_of-asset.ensures
     all ticked c.requires.moment.0 c.admitted-admitted.result c.refused-refused.result c.admitted-admitted.ensures.counts c.refused-refused.ensures.counts
     (λ flow earlier event s. sym c.admitted.ensures.value ∙ c.admitted.ensures.counts flow earlier event s) (λ flow earlier event s. sym c.refused.ensures.value ∙ c.refused.ensures.counts flow earlier event s)
@@ -104,6 +104,6 @@ returns-in-Err-clause-broken g c = λ e.
     let d1 = g.D.Desk.value c.on_packet.new.desk in
     let p = packet_value c.args.packet.now in
     let (at, one) = stands_at c.args.assets.now c.args.limit items c.args.place x c.requires.sound c.requires.inside c.index_mut-entry.ensures.value in
-    going_breaks c.args.assets.now c.args.limit c.args.now c.args.place c.args.side p items d0 d1 x c.asset_of-asset.result.now at c.asset_of-asset.ensures c.requires.moment.0
+    going_breaks c.args.assets.now c.args.limit c.args.moment c.args.place c.args.side p items d0 d1 x c.asset_of-asset.result.now at c.asset_of-asset.ensures c.requires.moment.0
     (λ flow earlier half served stands tick now.
     subst (λ n. BreaksPacket flow n earlier half c.args.side p d0 d1) one.limit_is (c.in-Err.ensures.broken flow earlier half served stands tick now))

@@ -10,7 +10,7 @@ use Rattle.cf_session.proofs.handing.feed_lane.Goals as goal
 pub returns-clause-follows : goal.returns-clause-follows
 returns-clause-follows g c = λ client r h w piece ended behind st pending.
     let asset = c.args.asset.now in
-    let now = c.args.now in
+    let now = c.args.moment in
     let s = c.args.side in
     let fed = c.in_ok-fed.fed in
     let x = c.in_ok-fed.ensures.apart h r (Some []) (Some w.log) piece ended behind pending (follows_of st) in
@@ -24,6 +24,6 @@ returns-in_err-fed-clause-broken g c =
     on_err c.from_residual.result (λ client r h w piece ended st pending.
     let d1 = g.D.Desk.value c.feed.new.desk in
     let x = c.in_err-fed.ensures.fails_apart h r (Some []) (Some w.log) piece pending (follows_of st) in
-    let began = subst (λ e. BeganWithin c.args.asset.now e h c.args.now c.args.side piece (Some []) (Some (w.log ++ x.more)) d1.line_part) st.lane_stands.is_client x.began in
-    fed_amid c.pieces_join.ensures.nothing c.pieces_join.ensures.judged c.judgements_go_on.ensures c.streams_go_on.ensures.go_on c.args.asset.now client c.args.now c.args.side h w (rest_of c.args.side r) piece ended (g.D.Desk.value c.args.desk.now) d1 x.more
+    let began = subst (λ e. BeganWithin c.args.asset.now e h c.args.moment c.args.side piece (Some []) (Some (w.log ++ x.more)) d1.line_part) st.lane_stands.is_client x.began in
+    fed_amid c.pieces_join.ensures.nothing c.pieces_join.ensures.judged c.judgements_go_on.ensures c.streams_go_on.ensures.go_on c.args.asset.now client c.args.moment c.args.side h w (rest_of c.args.side r) piece ended (g.D.Desk.value c.args.desk.now) d1 x.more
     (subst IsOctets pending c.len-len.ensures.octets) c.feed.ensures.log.packets c.feed.ensures.log.packet_part x.added began)

@@ -1,6 +1,7 @@
 use Rattle.std.proofs.Common.{arith, refl, sym, ◌+◌, ◌∙◌}
+use Rattle.std.proofs.lemmas.List.{nil_from_length}
 use Rattle.cf_outside.proofs.Content.{with_appended-nothing}
-use Rattle.cf_sift.proofs.Draining.{all_moved, moved_more, none_left, partly_moved}
+use Rattle.cf_sift.proofs.Draining.{all_moved, moved_more, partly_moved}
 use Rattle.cf_sift.proofs.queue_file.drain.Goals as goal
 
 pub pieces-init : goal.pieces-init
@@ -11,9 +12,7 @@ pieces-init g c = record {
   pushed = refl;
   ended = refl;
   stands = λ whole h. h;
-  others = λ other h. refl;
-  writes = omega arith;
-  reads = refl;
+  writes = record { others = λ other none. refl; cause = record { later = omega arith; rose = λ failed. absurd failed }; reads = refl };
   buffer = c.requires.buffer;
 }
 
@@ -29,19 +28,22 @@ pieces-preserved g c =
       pushed = c.pop.ensures.pushed ∙ inv.pushed;
       ended = c.pop.ensures.ended ∙ inv.ended;
       stands = λ whole h. c.pop.ensures.stands whole (inv.stands whole h);
-      others = λ other h. f.others other h ∙ inv.others other h;
-      writes = omega (arith, inv.writes, f.cause.later);
-      reads = f.reads ∙ inv.reads;
+      writes = record {
+        others = λ other none. f.others other none.0 ∙ inv.writes.others other none;
+        cause = record { later = omega (arith, inv.writes.cause.later, f.cause.later); rose = λ failed. absurd failed };
+        reads = f.reads ∙ inv.writes.reads;
+      };
       buffer = c.front-n.ensures.buffer ∙ inv.buffer;
     }
 
 pub returns-then-n-eq0-clause-drains : goal.returns-then-n-eq0-clause-drains
 returns-then-n-eq0-clause-drains g c =
     let inv = c.pieces.invariant in
-    let none = none_left _ (omega (arith, c.if-n-eq0.true, c.front-n.ensures.count, inv.buffer)) in
+    let none = nil_from_length _ (omega (arith, c.if-n-eq0.true, c.front-n.ensures.count, inv.buffer)) in
     record { kept = none; file = all_moved _ _ inv.gone _ _ inv.left inv.file none; pushed = inv.pushed; ended = inv.ended }
 
 pub returns-in-Failed-clause-partly : goal.returns-in-Failed-clause-partly
 returns-in-Failed-clause-partly g c =
     let inv = c.pieces.invariant in
-    partly_moved _ _ inv.gone _ _ inv.left inv.file _ c.front-n.result _ c.front-n.ensures.bytes c.in-Failed.ensures.file
+    let (more, file) = partly_moved _ _ inv.gone _ _ inv.left inv.file _ c.front-n.result _ c.front-n.ensures.bytes c.in-Failed.ensures.file in
+    record { gone = inv.gone; more = more; kept = inv.left; file = file; pushed = inv.pushed; ended = inv.ended }

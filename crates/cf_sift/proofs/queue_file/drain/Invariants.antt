@@ -1,6 +1,7 @@
-use Rattle.std.proofs.Common.{◌≡◌, ◌≤◌, ℕ, drop, length, take}
+use Rattle.std.proofs.Common.{◌≡◌, ◌∷◌, [], ℕ, drop, length, take}
 use Rattle.cf_outq.specs.SendQueue.{IsQueueOf}
-use Rattle.cf_outside.specs.Files.{KeepsOthers, with_appended}
+use Rattle.cf_outside.specs.Files.{with_appended}
+use Rattle.cf_outside.specs.Frames.{OnlyWrites}
 use Rattle.cf_stream.specs.Stream.{Stream}
 use Rattle.cf_sift.proofs.queue_file.drain.Given as goal
 
@@ -14,9 +15,7 @@ invariant-pieces g l =
       pushed : l.queue.pushed ≡ l.fn.queue.pushed;
       ended : l.queue.ended ≡ l.fn.queue.ended;
       stands : (whole : Stream) → IsQueueOf l.fn.queue whole → IsQueueOf l.queue whole;
-      others : KeepsOthers l.name (content l.fn.files) (content l.files);
-      writes : g.F.Files.write_faults l.fn.files ≤ g.F.Files.write_faults l.files;
-      reads : g.F.Files.read_faults l.files ≡ g.F.Files.read_faults l.fn.files;
+      writes : OnlyWrites (l.name ∷ []) content g.F.Files.read_faults g.F.Files.write_faults l.fn.files l.files ⊥;
       buffer : length l.buffer ≡ 4096;
     }
 

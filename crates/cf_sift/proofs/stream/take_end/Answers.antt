@@ -17,7 +17,7 @@ returns-in_err-end-clause-fails g c = on_err _ c.from_residual.result (λ client
     inl (line_fails c.args.asset.now client names first c.streams_go_on.ensures.go_on (content c.args.files.now) h c.args.sifting.now before
     (end_at 0 side.Client) (end_at 0 side.Client) [] (content c.end.new.files) refl
     (began_whole _ _ _ _ _ _ _ (c.in_err-end.ensures.misses h (client_rests c.args.sifting.now.heard.rest.items) _ _ refl before.follows))
-    (c.end.ensures.others names.out c.requires.apart.out_log) (c.end.ensures.others names.replies c.requires.apart.replies_log)))
+    (c.end.ensures.writes.others names.out (c.requires.apart.out_log, tt)) (c.end.ensures.writes.others names.replies (c.requires.apart.replies_log, tt))))
 
 pub returns-clause-taken : goal.returns-clause-taken
 returns-clause-taken g c = λ client first h before.
@@ -26,7 +26,7 @@ returns-clause-taken g c = λ client first h before.
     let f = c.in_ok-end.ensures in
     let sifting = sifting_ended c.args.asset.now client names first c.streams_go_on.ensures.go_on (content c.args.files.now) h c.args.sifting.now before
     (end_at 0 side.Client) None c.end.new.self (content c.end.new.files) f.takes
-    (c.end.ensures.others names.out c.requires.apart.out_log) (c.end.ensures.others names.replies c.requires.apart.replies_log) f.whole
+    (c.end.ensures.writes.others names.out (c.requires.apart.out_log, tt)) (c.end.ensures.writes.others names.replies (c.requires.apart.replies_log, tt)) f.whole
     (ap (λ (x : Sifting). x.to_client.pushed) f.new) (ap (λ (x : Sifting). x.to_controller.pushed) f.new)
     (ap (λ (x : Sifting). x.heard.letters) f.new ∙ ap (λ n. n + 1) before.letters ∙ sym (end_letters h (sym before.ends ∙ c.requires.ready.controller.goes)))
     (letters_still side.Controller h (end_at 0 side.Client ∷ []) refl refl ∙ before.quiet) in

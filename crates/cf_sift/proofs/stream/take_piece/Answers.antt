@@ -1,4 +1,4 @@
-use Rattle.std.proofs.Common.{[], ◌∷◌, ◌+◌, ◌<◌, ◌≤◌, ◌||◌, subst, ap, arith, false, length, refl, sym, ◌∙◌, inl}
+use Rattle.std.proofs.Common.{[], ◌∷◌, ◌+◌, ◌||◌, subst, ap, arith, false, length, refl, sym, ◌∙◌, inl}
 use Rattle.std.proofs.lemmas.List.{append-nil}
 use Rattle.std.specs.Option.{option_or}
 use Rattle.cf_driver.proofs.Histories.{letters_still}
@@ -7,9 +7,8 @@ use Rattle.cf_driver.proofs.Whole.{within_whole}
 use Rattle.cf_lane.specs.History.{bytes_at}
 use Rattle.cf_view.specs.declared.Side.TheVariants as side
 use Rattle.cf_sift.specs.Names.{sift_names_value}
-use Rattle.cf_sift.specs.Sifting.{client_rests}
+use Rattle.cf_sift.specs.Sifting.{IsReady, client_rests}
 use Rattle.cf_sift.proofs.Draining.{on_err}
-use Rattle.cf_lane.specs.Handled.{IsLaneOf, debt}
 use Rattle.cf_lane.specs.declared.limit.TheConstants.{LETTER_LIMIT}
 use Rattle.cf_outq.specs.SendQueue.{queue_length}
 use Rattle.cf_sift.specs.declared.sifting.Sifting.{Sifting}
@@ -23,7 +22,7 @@ returns-in_err-cut-clause-fails g c = on_err _ c.from_residual.result (λ client
     let fails = within_whole _ _ _ _ _ _ _ _ _ _ (c.in_err-cut.ensures.misses h (client_rests c.args.sifting.now.heard.rest.items) _ _ refl before.follows) in
     inl (line_fails c.args.asset.now client names first c.streams_go_on.ensures.go_on (content c.args.files.now) h c.args.sifting.now before
     (bytes_at 0 side.Client fails.handled) (bytes_at 0 side.Client c.args.piece.now) fails.rest (content c.feed.new.files) (ap (bytes_at 0 side.Client) fails.piece_is) fails.began
-    (c.feed.ensures.others names.out c.requires.apart.out_log) (c.feed.ensures.others names.replies c.requires.apart.replies_log)))
+    (c.feed.ensures.writes.others names.out (c.requires.apart.out_log, tt)) (c.feed.ensures.writes.others names.replies (c.requires.apart.replies_log, tt))))
 
 pub returns-in_err-drain-clause-fails : goal.returns-in_err-drain-clause-fails
 returns-in_err-drain-clause-fails g c = on_err _ c.from_residual-in_err-drain.result (λ client first h before.
@@ -32,8 +31,8 @@ returns-in_err-drain-clause-fails g c = on_err _ c.from_residual-in_err-drain.re
     let f = c.in_ok-cut.ensures in
     moves_fail c.args.asset.now client names first c.streams_go_on.ensures.go_on (content c.args.files.now) h c.args.sifting.now before
     (bytes_at 0 side.Client c.args.piece.now) _ c.feed.new.self (content c.feed.new.files) f.takes
-    (f.others names.out c.requires.apart.out_log) (f.others names.replies c.requires.apart.replies_log) f.whole
-    c.requires.ready.client c.requires.ready.controller (content c.drain.new.files) c.drain.ensures.log
+    (f.writes.others names.out (c.requires.apart.out_log, tt)) (f.writes.others names.replies (c.requires.apart.replies_log, tt)) f.whole
+    c.requires.ready.client c.requires.ready.controller (content c.drain.new.files) c.drain.new.self c.drain.ensures.log
     c.in_err-drain.ensures.fails)
 
 pub returns-clause-taken : goal.returns-clause-taken
@@ -45,11 +44,11 @@ returns-clause-taken g c = λ client first h before.
     let element = bytes_at 0 side.Client c.args.piece.now in
     let sifting = sifting_of c.args.asset.now client names first c.streams_go_on.ensures.go_on (content c.args.files.now) h c.args.sifting.now before
     element _ c.feed.new.self (content c.feed.new.files) f.takes
-    (f.others names.out c.requires.apart.out_log) (f.others names.replies c.requires.apart.replies_log) f.whole
-    c.requires.ready.client c.requires.ready.controller (content c.drain.new.files) c.drain.new.self d.same d.log
+    (f.writes.others names.out (c.requires.apart.out_log, tt)) (f.writes.others names.replies (c.requires.apart.replies_log, tt)) f.whole
+    c.requires.ready.client c.requires.ready.controller (content c.drain.new.files) c.drain.new.self.to_client c.drain.new.self.to_controller d.log
     d.to_client d.to_controller d.client_stands d.controller_stands
     (f.letters ∙ ap (λ n. n + length c.args.piece.now) before.letters ∙ sym (fed_letters h c.args.piece.now (sym before.ends ∙ c.requires.ready.controller.goes)))
-    (letters_still side.Controller h (element ∷ []) refl refl ∙ before.quiet) in
+    (letters_still side.Controller h (element ∷ []) refl refl ∙ before.quiet) c.drain.new.self d.same in
     record {
       by_item = _;
       sifting_of = sifting;
@@ -64,15 +63,13 @@ returns-clause-ready g c = λ none.
     let r = c.requires.ready in
     let new = c.drain.new.self in
     let (letters, controller, to_client, to_controller) = limit_short LETTER_LIMIT new.heard.letters 0 (queue_length new.to_client) (queue_length new.to_controller)
-    (sym c.length_cut.ensures ∙ neither c.in_ok-cut.cut c.length_cut.result (sym c.or.ensures ∙ none)) in
-    let lane = sym (ap (λ (x : Sifting). x.lane) d.same) in
-    record {
-      of_asset = subst (IsLaneOf c.args.asset.now) lane t.of_asset;
-      debt = subst (λ l. debt l ≤ 5300) lane t.debt;
+    (sym c.length_cut.ensures ∙ (neither c.in_ok-cut.cut c.length_cut.result (sym c.or.ensures ∙ none)).1) in
+    subst (IsReady c.args.asset.now) (sym d.same) (record {
+      of_asset = t.of_asset;
+      debt = t.debt;
       client = drained _ _ _ _ (t.controller_ended ∙ ap (λ b. b || false) r.client.goes) d.to_client to_client;
       controller = drained _ _ _ _ (t.client_ended ∙ ap (λ b. b || false) r.controller.goes) d.to_controller to_controller;
-      rest = subst (λ (x : Sifting). length x.heard.rest.items < 300) (sym d.same) t.short;
-      counts = subst (λ (x : Sifting). x.lane.admitted + x.lane.refused + length x.heard.rest.items ≤ x.heard.letters) (sym d.same)
-          (omega (arith, t.counts, r.counts, f.letters, ap length (append-nil c.args.piece.now)));
-      few = letters;
-    }
+      rest = t.short;
+      counts = omega (arith, t.counts, r.counts, f.letters, ap length (append-nil c.args.piece.now));
+      few = omega (arith, letters, ap (λ (x : Sifting). x.heard.letters) d.same);
+    })

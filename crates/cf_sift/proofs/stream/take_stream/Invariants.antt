@@ -1,10 +1,10 @@
 use Rattle.std.proofs.Common.{◌≡◌, ◌-◌, ◌^◌, ◌≤◌, ℕ, List, [], None, true, length}
 use Rattle.cf_outside.specs.Files.{Content}
+use Rattle.cf_outside.specs.Frames.{KeepsOtherFiles}
 use Rattle.cf_outside.specs.Lines.{ends_with_line}
 use Rattle.cf_view.specs.declared.Endpoint.{Endpoint}
 use Rattle.cf_sift.specs.Sifting.{IsSiftingOf, IsReady}
 use Rattle.cf_sift.specs.Names.{sift_names_value, sift_output_names}
-use Rattle.cf_sift.specs.Outputs.{KeepsAllBut}
 use Rattle.cf_sift.specs.Taken.{IsTakenTo}
 use Rattle.cf_sift.proofs.stream.take_stream.Given as goal
 
@@ -17,7 +17,7 @@ invariant-pieces g l =
       ready : IsReady l.asset l.sifting;
       letters : l.sifting.heard.letters ≡ l.at;
       whole : ends_with_line (content l.files l.names.log.now) ≡ true;
-      others : KeepsAllBut (content l.fn.files) (content l.files) (sift_output_names (sift_names_value l.names));
+      others : KeepsOtherFiles (sift_output_names (sift_names_value l.names)) (content l.fn.files) (content l.files);
       piece : length l.piece ≡ 4096;
       buffer : length l.buffer ≡ 4096;
       reads : g.F.Files.read_faults l.fn.files ≤ g.F.Files.read_faults l.files;

@@ -2,10 +2,10 @@ use Rattle.std.proofs.Common.{rules, ◌≡◌, ◌+◌, ◌-◌, ◌++◌, ◌�
 use Rattle.cf_outside.specs.Files.{Content}
 use Rattle.cf_packet.specs.Packet.{PacketValue, read_record}
 use Rattle.cf_packet.specs.declared.packet.PacketRefusal.{PacketRefusal}
-use Rattle.cf_run.proofs.Behind.{StandsBehind, stands_cut, stands_end, stands_large, stands_long, stands_refused}
-use Rattle.cf_run.specs.Capture.{Cut, FileEnd, Large, Refused, TooLong}
-use Rattle.cf_run.specs.Reader.{FindsRecord, ReaderValue}
-use Rattle.cf_run.specs.declared.NextRecord.TheVariants as next
+use Rattle.cf_records.proofs.Behind.{StandsBehind, stands_cut, stands_end, stands_large, stands_long, stands_refused}
+use Rattle.cf_records.specs.Capture.{Cut, FileEnd, Large, Refused, TooLong}
+use Rattle.cf_records.specs.Reader.{FindsRecord, ReaderValue}
+use Rattle.cf_records.specs.declared.NextRecord.TheVariants as next
 use Rattle.cf_watch.specs.Trail.{IsWatchOf}
 use Rattle.cf_watch.specs.Watch.{EndsAt}
 use Rattle.cf_watch.specs.Seen.{frame_by, seen_by, with_frame}

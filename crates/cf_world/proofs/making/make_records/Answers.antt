@@ -23,9 +23,11 @@ records-preserved g c =
       timely = sent.near;
       sound = done.sound;
       earlier = omega (arith, done.last);
-      others = λ other not. done.others other not ∙ before.others other not;
-      writes = omega (arith, before.writes, done.cause.later);
-      reads = done.reads ∙ before.reads;
+      writes = record {
+        others = λ other none. done.writes.others other none ∙ before.writes.others other none;
+        cause = record { later = omega (arith, before.writes.cause.later, done.writes.cause.later); rose = λ failed. absurd failed };
+        reads = done.writes.reads ∙ before.writes.reads;
+      };
     }
 
 pub returns-in_err-send-in-Sends-clause-made : goal.returns-in_err-send-in-Sends-clause-made
@@ -38,5 +40,5 @@ returns-in_err-send-in-Sends-clause-made g c =
     let name = c.args.capture.now in
     let p = err_from_is_err_and c.from_residual.result c.from_residual.ensures.1 in
     rw p.1 (part_made c.records.records c.records.begun c.args.sessions c.records.last c.in-Sends.moment c.in-Sends.after packet
-    (content c.args.files.now name) (content c.records.files name) (content c.send.new.files name) before.so_far c.records-test.true sent
-    (omega (arith, before.near, sent.soon, c.records-test.true)) failed.again failed.file)
+    (content c.args.files.now name) (content c.records.files name) (content c.send.new.files name) before.so_far sent
+    (omega (arith, before.near, sent.soon, c.records-test.true)) failed.again c.records-test.true failed.file)

@@ -1,5 +1,5 @@
-use Rattle.std.proofs.Common.{◌≡◌, ◌+◌, ◌-◌, ◌*◌, ◌≤◌}
-use Rattle.cf_outside.specs.Files.{KeepsOthers}
+use Rattle.std.proofs.Common.{◌+◌, ◌-◌, ◌*◌, ◌≤◌, ◌∷◌, []}
+use Rattle.cf_outside.specs.Frames.{OnlyWrites}
 use Rattle.cf_run.specs.Step.{IsSoundEngine}
 use Rattle.cf_world.proofs.SoFar.{SoFar}
 use Rattle.cf_world.proofs.making.make_records.Given as goal
@@ -16,9 +16,7 @@ invariant-records g l =
       timely : 20000 * l.begun ≤ l.last + 9000000;
       sound : IsSoundEngine l.policy.assets l.engine;
       earlier : l.engine.last ≤ l.last;
-      others : KeepsOthers l.capture (content l.fn.files) (content l.files);
-      writes : g.F.Files.write_faults l.fn.files ≤ g.F.Files.write_faults l.files;
-      reads : g.F.Files.read_faults l.files ≡ g.F.Files.read_faults l.fn.files;
+      writes : OnlyWrites (l.capture ∷ []) content g.F.Files.read_faults g.F.Files.write_faults l.fn.files l.files ⊥;
     }
 
 abbrev pub decreases-records : goal.decreases-records

@@ -17,13 +17,13 @@ module _ (g : Over) (c : After-begin_capture g) where
   before = g.F.Files.content c.args.files.now
 
   abbrev mid : List ℕ → Content
-  mid = g.F.Files.content c.begin_file.new.files
+  mid = g.F.Files.content c.write_whole.new.files
 
   policy : HoldsPolicy (before names.policy) (mid names.policy)
   policy = record {
     text = string_bytes c.in_ok-document.document.text;
     means = c.in_ok-document.ensures.text;
-    in_file = c.in_ok-begin_file.ensures.done ∙ ap (λ octets. content_after_write (before names.policy) octets) c.as_bytes.ensures.value;
+    in_file = c.in_ok-write_whole.ensures.done ∙ ap (λ octets. content_after_write (before names.policy) octets) c.as_bytes.ensures.value;
   }
 
 pub make_records-requires-clause-sound : goal.make_records-requires-clause-sound
@@ -34,11 +34,11 @@ returns-in_err-begin_capture-clause-makes g c =
     let at = (goal.at.returns-in_err-begin_capture-clause-makes g c).After-begin_capture in
     let is = err_from_is_err_and c.from_residual-in_err-begin_capture.result c.from_residual-in_err-begin_capture.ensures.1 in
     rw is.1 (inr (inr (header_part c.args.sessions (names g at) (before g at) (mid g at) (g.F.Files.content c.begin_capture.new.files) c.requires.apart (policy g at)
-    c.begin_file.ensures.others c.begin_capture.ensures.others c.in_err-begin_capture.ensures.partly)))
+    c.write_whole.ensures.writes.others c.begin_capture.ensures.writes.others c.in_err-begin_capture.ensures.partly)))
 
 pub returns-clause-makes : goal.returns-clause-makes
 returns-clause-makes g c =
     let at = (goal.at.returns-clause-makes g c).After-begin_capture in
     world_made c.args.sessions (names g at) (before g at) (mid g at) (g.F.Files.content c.begin_capture.new.files) c.requires.apart (policy g at)
-    c.begin_file.ensures.others c.begin_capture.ensures.others (g.F.Files.content c.make_records.new.files) c.make_records.result
-    c.in_ok-begin_capture.ensures.done c.make_records.ensures.others c.make_records.ensures.made
+    c.write_whole.ensures.writes.others c.begin_capture.ensures.writes.others (g.F.Files.content c.make_records.new.files) c.make_records.result
+    c.in_ok-begin_capture.ensures.done c.make_records.ensures.writes.others c.make_records.ensures.made

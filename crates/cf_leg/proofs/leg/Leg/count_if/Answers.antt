@@ -17,7 +17,7 @@ invariant_of-self c =
       shown = c.shown_after-self-inside.ensures.small;
       some_mss = i.some_mss;
       mss = i.mss;
-      deadline = (let b = cond_below c.rises-rises.result (c.args.now + 1000000) c.self.inside.deadline (2 ^ 60) (omega (arith, c.requires.moment)) i.deadline in omega (arith, c.deadline_after-self-inside.ensures, b));
+      deadline = (let b = cond_below c.rises-rises.result (c.args.moment + 1000000) c.self.inside.deadline (2 ^ 60) (omega (arith, c.requires.moment)) i.deadline in omega (arith, c.deadline_after-self-inside.ensures, b));
       fired = omega arith;
       early = λ e. c.offer.ensures.edge ∙ i.early e;
     }
@@ -25,7 +25,7 @@ invariant_of-self c =
 pub returns-clause-counts : goal.returns-clause-counts
 returns-clause-counts c =
     let deadline = c.deadline_after-self-inside.ensures
-    ∙ ap (λ (b : Bool). cond b (c.args.now + 1000000) c.self.inside.deadline) (c.rises-rises.ensures
+    ∙ ap (λ (b : Bool). cond b (c.args.moment + 1000000) c.self.inside.deadline) (c.rises-rises.ensures
     ∙ ap (λ (n : ℕ). rises_by n c.self.inside.shown (ack_place c.args.at.now (packet_value c.args.packet.now)) c.args.packet.now.window) c.acked_of.ensures.value) in
     counts_moves c.args.counts c.if-not-counts.false c.self.view_is
     (record {

@@ -17,13 +17,13 @@ pub returns-clause-heard : goal.returns-clause-heard
 returns-clause-heard c =
     let p = packet_value c.args.packet.now in
     let value = c.state-state.ensures.value in
-    heard_of c.args.self.now c.open_if.new.self c.count_if.new.self _ c.args.queue.now c.open_if.new.queue c.count_if.new.queue c.args.now (packet_value c.args.packet.now) c.answer_to-answer.result
+    heard_of c.args.self.now c.open_if.new.self c.count_if.new.self _ c.args.queue.now c.open_if.new.queue c.count_if.new.queue c.args.moment (packet_value c.args.packet.now) c.answer_to-answer.result
     (c.answer_to-answer.ensures ∙ ap (λ (a : EndState). answer_to a (packet_value c.args.packet.now)) c.state-state.ensures.value)
     (c.open_if.ensures.new ∙ ap (λ (b : Bool). leg_opened b c.args.self.now (packet_value c.args.packet.now)) c.is_opening.ensures)
     (c.open_if.ensures.queue ∙ ap (λ (b : Bool). queue_opened b c.args.self.now.ends.role c.args.queue.now (packet_value c.args.packet.now)) c.is_opening.ensures)
-    (subst (λ (b : Bool). Counts b (end_state_of c.args.self.now c.args.queue.now) c.args.now (packet_value c.args.packet.now) c.open_if.new.self c.count_if.new.self c.open_if.new.queue c.count_if.new.queue)
+    (subst (λ (b : Bool). Counts b (end_state_of c.args.self.now c.args.queue.now) c.args.moment (packet_value c.args.packet.now) c.open_if.new.self c.count_if.new.self c.open_if.new.queue c.count_if.new.queue)
     (c.counts.ensures ∙ ap (λ (a : EndState). counts_as a.role c.answer_to-answer.result) c.state-state.ensures.value)
-    (subst (λ (a : EndState). Counts c.counts.result a c.args.now (packet_value c.args.packet.now) c.open_if.new.self c.count_if.new.self c.open_if.new.queue c.count_if.new.queue) c.state-state.ensures.value c.count_if.ensures.counts))
+    (subst (λ (a : EndState). Counts c.counts.result a c.args.moment (packet_value c.args.packet.now) c.open_if.new.self c.count_if.new.self c.open_if.new.queue c.count_if.new.queue) c.state-state.ensures.value c.count_if.ensures.counts))
     (ap (λ (l : LegValue). record l { owes = c.owes-self-inside.result }) c.self.view_is
     ∙ ap (λ (b : Bool). record c.count_if.new.self { owes = b }) (c.owes-self-inside.ensures ∙ ap (λ (a : EndState). owes_for a.role (packet_value c.args.packet.now) c.answer_to-answer.result) c.state-state.ensures.value))
 
@@ -54,4 +54,4 @@ returns-clause-ends c =
 
 pub returns-clause-newly : goal.returns-clause-newly
 returns-clause-newly c =
-    newly_of c.args.now (packet_value c.args.packet.now) c.args.self.now _ c.args.queue.now c.count_if.new.queue c.answer_to-answer.result (returns-clause-heard c) (returns-clause-ends c) (returns-clause-window c)
+    newly_of c.args.moment (packet_value c.args.packet.now) c.args.self.now _ c.args.queue.now c.count_if.new.queue c.answer_to-answer.result (returns-clause-heard c) (returns-clause-ends c) (returns-clause-window c)

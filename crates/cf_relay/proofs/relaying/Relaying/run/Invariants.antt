@@ -1,5 +1,6 @@
 use Rattle.std.proofs.Common.{ℕ, length, true, ◌*◌, ◌-◌, ◌^◌, ◌≡◌}
 use Rattle.cf_links.specs.LinkValue.{link_value}
+use Rattle.cf_relay.specs.declared.limit.TheConstants.{MOST_BYTES}
 use Rattle.cf_relay.specs.Relaying.{AreClosed, IsSound, progress, relaying_value}
 use Rattle.cf_relay.specs.Scene.{DoesBetween, scene}
 use Rattle.cf_relay.specs.Turn.{turns}
@@ -16,7 +17,7 @@ invariant-turns g l =
       sound : IsSound l.fn.asset l.most (relaying_value l.self);
       still : AreClosed (relaying_value l.self) → ⊥;
       whole : (g.D.Desk.value l.desk).whole ≡ true;
-      buffer : length l.buf ≡ 4096;
+      buffer : length l.buf ≡ MOST_BYTES;
     }
 
 abbrev pub decreases-turns : goal.decreases-turns

@@ -1,3 +1,4 @@
+use Rattle.cf_relay.specs.declared.limit.TheConstants.{MOST_BYTES}
 use Rattle.std.proofs.Common.{List, length, map, true, ◌≡◌, ◌≤◌, ◌-◌}
 use Rattle.std.specs.Prelude.{vec_capacity, vec_len}
 use Rattle.cf_lane.specs.Handled.{WritesLog}
@@ -21,7 +22,7 @@ invariant-loop-index g l =
       whole : (g.D.Desk.value l.desk).whole ≡ true;
       log : WritesLog (g.D.Desk.value l.fn.desk) (g.D.Desk.value l.desk);
       later : (g.D.Desk.value l.fn.desk).faults ≤ (g.D.Desk.value l.desk).faults;
-      buffer : length l.buf ≡ 4096;
+      buffer : length l.buf ≡ MOST_BYTES;
     }
 
 abbrev pub decreases-loop-index : goal.decreases-loop-index

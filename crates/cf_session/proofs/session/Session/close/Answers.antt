@@ -19,12 +19,12 @@ closing asset now same done open_ a f = rw (a, f, same, ← done, ← (open_ ∙
 pub returns-clause-told : goal.returns-clause-told
 returns-clause-told g c =
     let d0 = g.D.Desk.value c.args.desk.now in
-    let text = closing c.args.asset.now c.args.now c.self.view_is c.if-not-is_done.ensures c.if-is_some.ensures c.admitted-admitted.ensures c.refused-refused.ensures in
-    told_lines d0 (g.D.Desk.value c.log_line.new.desk) (line_about c.args.asset.now c.self.inside.source c.args.now (Close c.admitted-admitted.result c.refused-refused.result) ∷ []) c.log_line.ensures.frame.packets c.in_ok-log_line.ensures.lines ∙ ap (λ ls. with_both (told d0) [] ls) text
+    let text = closing c.args.asset.now c.args.moment c.self.view_is c.if-not-is_done.ensures c.if-is_some.ensures c.admitted-admitted.ensures c.refused-refused.ensures in
+    told_lines d0 (g.D.Desk.value c.log_line.new.desk) (line_about c.args.asset.now c.self.inside.source c.args.moment (Close c.admitted-admitted.result c.refused-refused.result) ∷ []) c.log_line.ensures.frame.packets c.in_ok-log_line.ensures.lines ∙ ap (λ ls. with_both (told d0) [] ls) text
 
 pub returns-in_err-log_line-clause-broken : goal.returns-in_err-log_line-clause-broken
 returns-in_err-log_line-clause-broken g c =
     let d0 = g.D.Desk.value c.args.desk.now in
     let d1 = g.D.Desk.value c.log_line.new.desk in
-    let text = closing c.args.asset.now c.args.now c.self.view_is c.if-not-is_done.ensures c.if-is_some.ensures c.admitted-admitted.ensures c.refused-refused.ensures in
+    let text = closing c.args.asset.now c.args.moment c.self.view_is c.if-not-is_done.ensures c.if-is_some.ensures c.admitted-admitted.ensures c.refused-refused.ensures in
     on_err _ (amid_lines _ d0 d1 (subst (λ l. MayHaveAdded l d0 d1) text c.in_err-log_line.ensures.fails) c.log_line.ensures.frame)

@@ -13,7 +13,7 @@ use Rattle.cf_session.proofs.session.Session.cut_at.Goals as goal
 pub returns-in_err-cut-clause-broken : goal.returns-in_err-cut-clause-broken
 returns-in_err-cut-clause-broken g c =
     on_err c.from_residual.result (λ flow cs ds x y is src lc ld.
-    let now = c.args.now in
+    let now = c.args.moment in
     let d0 = g.D.Desk.value c.args.desk.now in
     let d1 = g.D.Desk.value c.cut.new.desk in
     let r = rights_of flow x y cs ds (controller_in c.self.view_is lc) (client_in c.self.view_is ld) in
@@ -22,7 +22,7 @@ returns-in_err-cut-clause-broken g c =
 pub returns-in_err-cut-2-clause-broken : goal.returns-in_err-cut-2-clause-broken
 returns-in_err-cut-2-clause-broken g c =
     on_err c.from_residual-in_err-cut-2.result (λ flow cs ds x y is src lc ld.
-    let now = c.args.now in
+    let now = c.args.moment in
     let d0 = g.D.Desk.value c.args.desk.now in
     let d1 = g.D.Desk.value c.cut.new.desk in
     let d2 = g.D.Desk.value c.cut-2.new.desk in
@@ -38,7 +38,7 @@ returns-in_err-cut-2-clause-broken g c =
 pub returns-in_err-log_line-clause-broken : goal.returns-in_err-log_line-clause-broken
 returns-in_err-log_line-clause-broken g c =
     on_err c.from_residual-in_err-log_line.result (λ flow cs ds x y is src lc ld.
-    let now = c.args.now in
+    let now = c.args.moment in
     let d0 = g.D.Desk.value c.args.desk.now in
     let d1 = g.D.Desk.value c.cut.new.desk in
     let d2 = g.D.Desk.value c.cut-2.new.desk in
@@ -59,7 +59,7 @@ pub returns-clause-cuts : goal.returns-clause-cuts
 returns-clause-cuts g c = (
   refl,
   λ flow cs ds x y is src lc ld.
-      let now = c.args.now in
+      let now = c.args.moment in
       let d0 = g.D.Desk.value c.args.desk.now in
       let d1 = g.D.Desk.value c.cut.new.desk in
       let d2 = g.D.Desk.value c.cut-2.new.desk in

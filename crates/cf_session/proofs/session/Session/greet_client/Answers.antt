@@ -29,7 +29,7 @@ returns-clause-greets g c = λ flow d ds at may legs.
     let s = subst (λ (s : SessionValue). IsLegBetween (client_ends flow) s.client s.to_client (record d { ending = Unspoken } ∷ ds)) (sym c.self.view_is) legs in
     let law = c.open_legs_have_greeted.ensures in
     let n = c.in-Some.number in
-    let now = c.args.now in
+    let now = c.args.moment in
     let e = c.in_ok-greet.ensures in
     let d0 = g.D.Desk.value c.args.desk.now in
     let d1 = g.D.Desk.value c.greet.new.desk in
@@ -47,7 +47,7 @@ returns-in_err-greet-clause-broken g c =
     let may' = subst (λ n. MayGreet n d ds) c.in-Some.is may in
     let s = subst (λ (s : SessionValue). IsLegBetween (client_ends flow) s.client s.to_client (record d { ending = Unspoken } ∷ ds)) (sym c.self.view_is) legs in
     let n = c.in-Some.number in
-    let now = c.args.now in
+    let now = c.args.moment in
     let e = c.in_err-greet.ensures in
     let d0 = g.D.Desk.value c.args.desk.now in
     let d1 = g.D.Desk.value c.greet.new.desk in

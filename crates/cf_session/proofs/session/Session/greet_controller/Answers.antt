@@ -17,21 +17,21 @@ use Rattle.cf_session.proofs.session.Session.greet_controller.Goals as goal
 pub returns-clause-begins : goal.returns-clause-begins
 returns-clause-begins g c = λ f is number made.
     let m = subst (IsMade f) (sym c.self.view_is) made in
-    let later = moment_later c.args.now c.requires.moment.0 in
+    let later = moment_later c.args.moment c.requires.moment.0 in
     let d0 = g.D.Desk.value c.args.desk.now in
     let d1 = g.D.Desk.value c.greet.new.desk in
     let d2 = g.D.Desk.value c.speak.new.desk in
-    let first = first_said c.events_begin.ensures (controller_ends f) f.syn.seq (c.args.now - 1) d0 d1 d2 later refl m.controller m.controller_list
-    (subst (λ n. Greeted c.args.now n c.self.inside.controller c.greet.new.self d0 d1 false) (sym number) c.in_ok-greet.ensures.greeted) c.in_ok-speak.ensures.spoken c.in_ok-greet.ensures.ends c.in_ok-speak.ensures.ends c.greet.ensures.frame.lines c.speak.ensures.frame.lines in
+    let first = first_said c.events_begin.ensures (controller_ends f) f.syn.seq (c.args.moment - 1) d0 d1 d2 later refl m.controller m.controller_list
+    (subst (λ n. Greeted c.args.moment n c.self.inside.controller c.greet.new.self d0 d1 false) (sym number) c.in_ok-greet.ensures.greeted) c.in_ok-speak.ensures.spoken c.in_ok-greet.ensures.ends c.in_ok-speak.ensures.ends c.greet.ensures.frame.lines c.speak.ensures.frame.lines in
     let text = line_is f Begun is m.source later in
-    let put = told_lines d2 (g.D.Desk.value c.log_line.new.desk) (line_about c.args.asset.now c.self.inside.source c.args.now Begun ∷ []) c.log_line.ensures.frame.packets c.in_ok-log_line.ensures.lines
+    let put = told_lines d2 (g.D.Desk.value c.log_line.new.desk) (line_about c.args.asset.now c.self.inside.source c.args.moment Begun ∷ []) c.log_line.ensures.frame.packets c.in_ok-log_line.ensures.lines
     ∙ ap (λ (l : List _). with_both (told d2) [] (l ∷ [])) text in
-    begins_of c.events_begin.ensures f (c.args.now - 1) _ m _ _ _ _ _ first.stands (still_pending c.self.inside.controller.ends.role c.self.inside.controller.window c.greet.new.self.window c.speak.new.self.window c.in_ok-greet.ensures.window c.in_ok-speak.ensures.window) (c.speak.ensures.stands _ m.controller_list) first.told put
+    begins_of c.events_begin.ensures f (c.args.moment - 1) _ m _ _ _ _ _ first.stands (still_pending c.self.inside.controller.ends.role c.self.inside.controller.window c.greet.new.self.window c.speak.new.self.window c.in_ok-greet.ensures.window c.in_ok-speak.ensures.window) (c.speak.ensures.stands _ m.controller_list) first.told put
 
 pub returns-in_err-greet-clause-broken : goal.returns-in_err-greet-clause-broken
 returns-in_err-greet-clause-broken g c =
     on_err c.from_residual.result (λ f is number made.
-    let now = c.args.now in
+    let now = c.args.moment in
     let tick = now - 1 in
     let m = subst (IsMade f) (sym c.self.view_is) made in
     let later = moment_later now c.requires.moment.0 in
@@ -43,7 +43,7 @@ returns-in_err-greet-clause-broken g c =
 pub returns-in_err-speak-clause-broken : goal.returns-in_err-speak-clause-broken
 returns-in_err-speak-clause-broken g c =
     on_err c.from_residual-in_err-speak.result (λ f is number made.
-    let now = c.args.now in
+    let now = c.args.moment in
     let tick = now - 1 in
     let m = subst (IsMade f) (sym c.self.view_is) made in
     let later = moment_later now c.requires.moment.0 in
@@ -63,14 +63,14 @@ pub returns-in_err-log_line-clause-broken : goal.returns-in_err-log_line-clause-
 returns-in_err-log_line-clause-broken g c =
     on_err c.from_residual-in_err-log_line.result (λ f is number made.
     let m = subst (IsMade f) (sym c.self.view_is) made in
-    let later = moment_later c.args.now c.requires.moment.0 in
+    let later = moment_later c.args.moment c.requires.moment.0 in
     let d0 = g.D.Desk.value c.args.desk.now in
     let d1 = g.D.Desk.value c.greet.new.desk in
     let d2 = g.D.Desk.value c.speak.new.desk in
     let d3 = g.D.Desk.value c.log_line.new.desk in
-    let first = first_said c.events_begin.ensures (controller_ends f) f.syn.seq (c.args.now - 1) d0 d1 d2 later refl m.controller m.controller_list
-    (subst (λ n. Greeted c.args.now n c.self.inside.controller c.greet.new.self d0 d1 false) (sym number) c.in_ok-greet.ensures.greeted) c.in_ok-speak.ensures.spoken c.in_ok-greet.ensures.ends c.in_ok-speak.ensures.ends c.greet.ensures.frame.lines c.speak.ensures.frame.lines in
+    let first = first_said c.events_begin.ensures (controller_ends f) f.syn.seq (c.args.moment - 1) d0 d1 d2 later refl m.controller m.controller_list
+    (subst (λ n. Greeted c.args.moment n c.self.inside.controller c.greet.new.self d0 d1 false) (sym number) c.in_ok-greet.ensures.greeted) c.in_ok-speak.ensures.spoken c.in_ok-greet.ensures.ends c.in_ok-speak.ensures.ends c.greet.ensures.frame.lines c.speak.ensures.frame.lines in
     let text = line_is f Begun is m.source later in
     let frame = puts_both d0 d1 d2 c.in_ok-greet.ensures.frame.rest c.in_ok-speak.ensures.frame.rest in
-    line_failed f (c.args.now - 1) d0 d2 d3 first.told frame
+    line_failed f (c.args.moment - 1) d0 d2 d3 first.told frame
     (subst (λ l. MayHaveAdded (l ∷ []) d2 d3) text c.in_err-log_line.ensures.fails) c.log_line.ensures.frame)

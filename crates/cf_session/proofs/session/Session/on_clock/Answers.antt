@@ -16,9 +16,9 @@ use Rattle.cf_session.proofs.session.Session.on_clock.Goals as goal
 pub returns-then-is_silent-clause-ticks : goal.returns-then-is_silent-clause-ticks
 returns-then-is_silent-clause-ticks g c =
     IfOk-weaker c.cut_at.result _ _ (λ l h. λ f es e is stands.
-    let now = c.args.now in
+    let now = c.args.moment in
     let s = subst (IsSessionOf f es e) (sym c.self.view_is) stands in
-    let early = unexpired s c.args.now c.is_over.ensures c.if-is_over.false in
+    let early = unexpired s c.args.moment c.is_over.ensures c.if-is_over.false in
     let t0 = told (g.D.Desk.value c.args.desk.now) in
     let t1 = told (g.D.Desk.value c.on_clock.new.desk) in
     let a = controller_ticks s t0 t1 c.in_ok-on_clock.ensures.clocked c.on_clock.ensures.ends c.on_clock.ensures.queue c.on_clock.ensures.frame.lines in
@@ -30,10 +30,10 @@ returns-then-is_silent-clause-ticks g c =
 pub returns-then-is_silent-2-clause-ticks : goal.returns-then-is_silent-2-clause-ticks
 returns-then-is_silent-2-clause-ticks g c =
     IfOk-weaker c.cut_at-then-is_silent-2.result _ _ (λ l h. λ f es e is stands.
-    let now = c.args.now in
+    let now = c.args.moment in
     let t1 = told (g.D.Desk.value c.on_clock.new.desk) in
     let s = subst (IsSessionOf f es e) (sym c.self.view_is) stands in
-    let early = unexpired s c.args.now c.is_over.ensures c.if-is_over.false in
+    let early = unexpired s c.args.moment c.is_over.ensures c.if-is_over.false in
     let a = controller_ticks s (told (g.D.Desk.value c.args.desk.now)) t1 c.in_ok-on_clock.ensures.clocked c.on_clock.ensures.ends c.on_clock.ensures.queue c.on_clock.ensures.frame.lines in
     let b = client_ticks s t1 (told (g.D.Desk.value c.on_clock-2.new.desk)) c.in_ok-on_clock-2.ensures.clocked c.on_clock-2.ensures.ends c.on_clock-2.ensures.queue c.on_clock-2.ensures.frame.lines in
     let quiet = sym a.answer ∙ sym c.is_silent.ensures ∙ c.if-is_silent.false in
@@ -46,10 +46,10 @@ returns-then-is_silent-2-clause-ticks g c =
 
 pub returns-clause-ticks : goal.returns-clause-ticks
 returns-clause-ticks g c = λ f es e is stands.
-    let now = c.args.now in
+    let now = c.args.moment in
     let t1 = told (g.D.Desk.value c.on_clock.new.desk) in
     let s = subst (IsSessionOf f es e) (sym c.self.view_is) stands in
-    let early = unexpired s c.args.now c.is_over.ensures c.if-is_over.false in
+    let early = unexpired s c.args.moment c.is_over.ensures c.if-is_over.false in
     let a = controller_ticks s (told (g.D.Desk.value c.args.desk.now)) t1 c.in_ok-on_clock.ensures.clocked c.on_clock.ensures.ends c.on_clock.ensures.queue c.on_clock.ensures.frame.lines in
     let b = client_ticks s t1 (told (g.D.Desk.value c.on_clock-2.new.desk)) c.in_ok-on_clock-2.ensures.clocked c.on_clock-2.ensures.ends c.on_clock-2.ensures.queue c.on_clock-2.ensures.frame.lines in
     let quiet = sym a.answer ∙ sym c.is_silent.ensures ∙ c.if-is_silent.false in
@@ -64,17 +64,17 @@ pub returns-in_err-on_clock-clause-broken : goal.returns-in_err-on_clock-clause-
 returns-in_err-on_clock-clause-broken g c =
     on_err c.from_residual.result (λ f es e is stands.
     let s = subst (IsSessionOf f es e) (sym c.self.view_is) stands in
-    let early = unexpired s c.args.now c.is_over.ensures c.if-is_over.false in
-    controller_failed f es e c.args.now _ s early (g.D.Desk.value c.args.desk.now) (g.D.Desk.value c.args.desk.now) (g.D.Desk.value c.on_clock.new.desk) c.in_err-on_clock.ensures.broken c.on_clock.ensures.frame)
+    let early = unexpired s c.args.moment c.is_over.ensures c.if-is_over.false in
+    controller_failed f es e c.args.moment _ s early (g.D.Desk.value c.args.desk.now) (g.D.Desk.value c.args.desk.now) (g.D.Desk.value c.on_clock.new.desk) c.in_err-on_clock.ensures.broken c.on_clock.ensures.frame)
 
 pub returns-then-is_silent-clause-broken : goal.returns-then-is_silent-clause-broken
 returns-then-is_silent-clause-broken g c =
     on_err_weaker c.cut_at.result (λ h. λ f es e is stands.
-    let now = c.args.now in
+    let now = c.args.moment in
     let d0 = g.D.Desk.value c.args.desk.now in
     let d1 = g.D.Desk.value c.on_clock.new.desk in
     let s = subst (IsSessionOf f es e) (sym c.self.view_is) stands in
-    let early = unexpired s c.args.now c.is_over.ensures c.if-is_over.false in
+    let early = unexpired s c.args.moment c.is_over.ensures c.if-is_over.false in
     let a = controller_ticks s (told d0) (told d1) c.in_ok-on_clock.ensures.clocked c.on_clock.ensures.ends c.on_clock.ensures.queue c.on_clock.ensures.frame.lines in
     let silent = sym a.answer ∙ sym c.is_silent.ensures ∙ c.if-is_silent.true in
     let cuts = h f (controllers (e ∷ es)) (clients (e ∷ es)) (clocked now (controller_fires f es e now)) (begun now) is s.source a.stands (client_begins s c.events_begin.ensures now) in
@@ -86,20 +86,20 @@ returns-in_err-on_clock-2-clause-broken g c =
     let d0 = g.D.Desk.value c.args.desk.now in
     let d1 = g.D.Desk.value c.on_clock.new.desk in
     let s = subst (IsSessionOf f es e) (sym c.self.view_is) stands in
-    let early = unexpired s c.args.now c.is_over.ensures c.if-is_over.false in
+    let early = unexpired s c.args.moment c.is_over.ensures c.if-is_over.false in
     let a = controller_ticks s (told d0) (told d1) c.in_ok-on_clock.ensures.clocked c.on_clock.ensures.ends c.on_clock.ensures.queue c.on_clock.ensures.frame.lines in
     let quiet = sym a.answer ∙ sym c.is_silent.ensures ∙ c.if-is_silent.false in
-    client_failed f es e c.args.now _ s early d0 d1 (g.D.Desk.value c.on_clock-2.new.desk) a.told c.in_ok-on_clock.ensures.frame.rest quiet c.in_err-on_clock-2.ensures.broken c.on_clock-2.ensures.frame)
+    client_failed f es e c.args.moment _ s early d0 d1 (g.D.Desk.value c.on_clock-2.new.desk) a.told c.in_ok-on_clock.ensures.frame.rest quiet c.in_err-on_clock-2.ensures.broken c.on_clock-2.ensures.frame)
 
 pub returns-then-is_silent-2-clause-broken : goal.returns-then-is_silent-2-clause-broken
 returns-then-is_silent-2-clause-broken g c =
     on_err_weaker c.cut_at-then-is_silent-2.result (λ h. λ f es e is stands.
-    let now = c.args.now in
+    let now = c.args.moment in
     let d0 = g.D.Desk.value c.args.desk.now in
     let d1 = g.D.Desk.value c.on_clock.new.desk in
     let d2 = g.D.Desk.value c.on_clock-2.new.desk in
     let s = subst (IsSessionOf f es e) (sym c.self.view_is) stands in
-    let early = unexpired s c.args.now c.is_over.ensures c.if-is_over.false in
+    let early = unexpired s c.args.moment c.is_over.ensures c.if-is_over.false in
     let a = controller_ticks s (told d0) (told d1) c.in_ok-on_clock.ensures.clocked c.on_clock.ensures.ends c.on_clock.ensures.queue c.on_clock.ensures.frame.lines in
     let b = client_ticks s (told d1) (told d2) c.in_ok-on_clock-2.ensures.clocked c.on_clock-2.ensures.ends c.on_clock-2.ensures.queue c.on_clock-2.ensures.frame.lines in
     let quiet = sym a.answer ∙ sym c.is_silent.ensures ∙ c.if-is_silent.false in

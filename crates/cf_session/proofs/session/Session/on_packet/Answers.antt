@@ -50,7 +50,7 @@ pub returns-clause-sound : goal.returns-clause-sound
 returns-clause-sound g c = λ life.
     let because = reason_is c.args.side c.in_ok-heard.heard.answer c.in_ok-heard.heard.cut c.self.view_is c.is_some.ensures c.is_reset.ensures c.full-full.ensures (sym c.in_default.is ∙ c.why.ensures) in
     let short = is_short c.args.side c.in_ok-heard.heard.answer c.in_ok-heard.heard.cut c.hear.new.self c.in_ok-heard.ensures.steady because in
-    sound_after c.args.asset.now c.hear.new.self c.speak.new.self c.close.new.self c.args.now c.requires.sound.within c.in_ok-heard.ensures.serves c.in_ok-speak.ensures.only c.in_ok-speak.ensures.steady short c.close.ensures.same c.in_ok-close.ensures.closed
+    sound_after c.args.asset.now c.hear.new.self c.speak.new.self c.close.new.self c.args.moment c.requires.sound.within c.in_ok-heard.ensures.serves c.in_ok-speak.ensures.only c.in_ok-speak.ensures.steady short c.close.ensures.same c.in_ok-close.ensures.closed
 
 pub returns-in_err-heard-clause-broken : goal.returns-in_err-heard-clause-broken
 returns-in_err-heard-clause-broken g c =

@@ -21,7 +21,7 @@ use Rattle.cf_session.proofs.session.Session.speak.Goals as goal
 
 pub returns-clause-says : goal.returns-clause-says
 returns-clause-says g c = λ flow x y cs ds w v at_c at_d may stands.
-    let now = c.args.now in
+    let now = c.args.moment in
     let middle : SessionValue = record { client = c.self-2.inside.client; controller = c.self-2.inside.controller; lane = c.self-2.inside.lane; to_client = c.self-2.inside.to_client; to_controller = c.self-2.inside.to_controller; closed = c.self-2.inside.closed; limit = c.self-2.inside.limit; source = c.self-2.inside.source } in
     let path = c.self-2.view_is ∙ c.greet_client.ensures.same in
     let m = subst (MaySpeak flow x y cs ds w v) (sym c.self.view_is) stands in
@@ -87,7 +87,7 @@ greet_client-requires-clause-steady g c =
 pub returns-in_err-speak-clause-broken : goal.returns-in_err-speak-clause-broken
 returns-in_err-speak-clause-broken g c =
     on_err c.from_residual.result (λ flow x y cs ds w v at_c at_d may stands.
-    let now = c.args.now in
+    let now = c.args.moment in
     let roomy = c.are_small-roomy.result in
     let m = subst (MaySpeak flow x y cs ds w v) (sym c.self.view_is) stands in
     let d0 = g.D.Desk.value c.args.desk.now in
@@ -108,7 +108,7 @@ returns-in_err-speak-clause-broken g c =
 pub returns-in_err-greet_client-clause-broken : goal.returns-in_err-greet_client-clause-broken
 returns-in_err-greet_client-clause-broken g c =
     on_err c.from_residual-in_err-greet_client.result (λ flow x y cs ds w v at_c at_d may stands.
-    let now = c.args.now in
+    let now = c.args.moment in
     let roomy = c.are_small-roomy.result in
     let m = subst (MaySpeak flow x y cs ds w v) (sym c.self.view_is) stands in
     let d0 = g.D.Desk.value c.args.desk.now in
@@ -134,7 +134,7 @@ returns-in_err-greet_client-clause-broken g c =
 pub returns-in_err-speak-2-clause-broken : goal.returns-in_err-speak-2-clause-broken
 returns-in_err-speak-2-clause-broken g c =
     on_err c.from_residual-in_err-speak-2.result (λ flow x y cs ds w v at_c at_d may stands.
-    let now = c.args.now in
+    let now = c.args.moment in
     let roomy = c.are_small-roomy.result in
     let path = c.self-2.view_is ∙ c.greet_client.ensures.same in
     let m = subst (MaySpeak flow x y cs ds w v) (sym c.self.view_is) stands in

@@ -3,7 +3,7 @@ use Rattle.cf_packet.specs.Packet.{packet_value}
 use Rattle.cf_watch.specs.Trail.{AreHeard}
 use Rattle.cf_watch.specs.Seen.{begins_amid}
 use Rattle.cf_watch.specs.Watched.{Watched}
-use Rattle.cf_run.specs.Table.{is_opening}
+use Rattle.cf_leg.specs.Segment.{is_opening}
 use Rattle.cf_watch.proofs.Tables.{begins_here, heard_more, passes_here, record_number}
 use Rattle.cf_watch.proofs.watching.Watch.begin_first.Goals as goal
 

@@ -2,7 +2,7 @@ use Rattle.std.proofs.Common.{◌≡◌, ◌∙◌, sym, ap, subst, ℕ, List, O
 use Rattle.cf_packet.specs.Packet.{PacketValue, packet_answer, packet_value, read_record}
 use Rattle.cf_packet.specs.declared.packet.PacketRefusal.{PacketRefusal}
 use Rattle.cf_watch.specs.Trail.{AreHeard}
-use Rattle.cf_run.specs.Entries.{asset_place}
+use Rattle.cf_policy.specs.AtEndpoint.{asset_place}
 use Rattle.cf_watch.specs.Seen.{frame_by, goes_to_asset, with_frame}
 use Rattle.cf_watch.proofs.Tables.{heard_more, record_number}
 use Rattle.cf_watch.proofs.watching.Watch.take.Goals as goal

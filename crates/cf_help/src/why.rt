@@ -1,0 +1,452 @@
+//! What standard error says beside what standard output has. A line that cannot be said changes nothing.
+ghost use Rattle.std.specs.Prelude.{IfSome};
+ghost use Rattle.cf_policy.specs.Within.{IsWithin};
+
+use crate::remark::{
+    remark_on_dropped, remark_on_learned, remark_on_no_review, remark_on_nothing, remark_on_run,
+};
+use cf_explain::{
+    PolicyFile, asset_message, capture_message, inclusion_message, outputs_message, policy_message,
+    policy_warnings, words_message,
+};
+use cf_machine::{LinkFault, Part, RealFiles, Withheld};
+use cf_outside::{Files, ReadAnswer, WholeFault, read_whole};
+use cf_policy::Policy;
+use cf_policylang::{Cause, Key, LONGEST_TEXT, PolicyFault, PolicyRefusal, read_policy};
+use cf_remarks::Frames;
+use cf_watch::CAPTURE_LIMIT;
+use cf_words::status::{
+    CAPTURE_CUT, CAPTURE_REFUSED, DENIED, DONE, IDLE_END, LINK_FAULT, NO_MEMORY, POLICY_REFUSED,
+    READ_FAULT, STREAM_CUT, TOO_MANY_CELLS, TOO_MANY_RULES, UNKNOWN_ASSET, WRITE_FAULT,
+};
+use cf_words::{Command, read_words};
+use std::io;
+use std::rt::Files as FileSystem;
+
+/// The refusal of a policy's file for its size.
+const TOO_LONG: PolicyRefusal = PolicyRefusal {
+    number: Cause::TooMany as u8,
+    key: Key::Nothing,
+    asset: 0,
+    rule: 0,
+};
+
+/// The files that a command reads; an empty name stands for none.
+fn inputs_of<'a>(command: &Command<'a>) -> [&'a str; 2] {
+    match command {
+        Command::Check { policy }
+        | Command::Migrate { policy, .. }
+        | Command::Relay { policy, .. } => [*policy, ""],
+        Command::Compare { policy, other } => [*policy, *other],
+        Command::Judge { policy, capture }
+        | Command::Learn {
+            policy,
+            capture,
+            ..
+        }
+        | Command::Review {
+            policy,
+            capture,
+            ..
+        } => [*policy, *capture],
+        Command::Packets { capture } => [*capture, ""],
+        Command::Run { policy, names } => [*policy, names.capture],
+        Command::Sift { policy, names, .. } => [*policy, names.stream],
+        Command::World { .. } => ["", ""],
+    }
+}
+
+/// The files that a command makes; an empty name stands for none.
+fn outputs_of<'a>(command: &Command<'a>) -> [&'a str; 4] {
+    match command {
+        Command::Check { .. }
+        | Command::Compare { .. }
+        | Command::Judge { .. }
+        | Command::Packets { .. } => [""; 4],
+        Command::Learn { out, .. } | Command::Migrate { out, .. } => [*out, "", "", ""],
+        Command::Relay { log, .. } | Command::Review { log, .. } => [*log, "", "", ""],
+        Command::Run { names, .. } => [names.out, names.log, "", ""],
+        Command::Sift { names, .. } => [names.out, names.replies, names.log, ""],
+        Command::World { policy, names, .. } => [*policy, names.capture, names.out, names.log],
+    }
+}
+
+/// Notes which files the names of a command stand for.
+pub fn expect_files<R: FileSystem>(
+    command: &Command<'_>,
+    files: &mut RealFiles<'_, R>,
+) -> io::Result<()> {
+    for name in inputs_of(command) {
+        if !name.is_empty() {
+            files.expect(name)?;
+        }
+    }
+    for name in outputs_of(command) {
+        if !name.is_empty() {
+            files.expect_output(name)?;
+        }
+    }
+    Ok(())
+}
+
+/// Says why the work ended with this status, of a policy that was checked what is to be warned of, and what a run cannot know;
+/// `printed` is the end of what standard output has.
+pub fn explain<R: FileSystem + Eprint + AllocGlobal>(
+    rt: &R,
+    words: &[String],
+    status: u8,
+    printed: &str,
+    files: &mut RealFiles<'_, R>,
+    link: Option<&LinkFault>,
+) {
+    let _ = match read_words(words) {
+        Some(_) if status == LINK_FAULT => explain_link(rt, link),
+        Some(command) if status == DONE => remark(rt, &command, printed, files),
+        Some(command) => explain_command(rt, &command, status, files),
+        None => explain_words(rt, words),
+    };
+}
+
+/// Which word is wrong, and how the words have to be.
+pub fn explain_words<R: Eprint + AllocGlobal>(rt: &R, words: &[String]) -> io::Result<()> {
+    let message = words_message(rt.alloc(), words)?;
+    eprintln!(rt; "cmdwall: {message}")
+}
+
+/// What is said of work that was done.
+fn remark<R: FileSystem + Eprint + AllocGlobal>(
+    rt: &R,
+    command: &Command<'_>,
+    printed: &str,
+    files: &mut RealFiles<'_, R>,
+) -> io::Result<()> {
+    match command {
+        Command::Check { policy } => warn(rt, policy, files),
+        Command::Learn {
+            policy,
+            capture,
+            out,
+        } => {
+            remark_on_learned(rt, policy, capture, printed, files)?;
+            warn_of_learned(rt, out)
+        }
+        Command::Judge { capture, .. } if printed == "yes flows 0 commands 0\n" => {
+            remark_on_nothing(rt, capture, files)
+        }
+        Command::Review { capture, .. } if printed.starts_with("flows 0\n") => {
+            remark_on_no_review(rt, capture, files)
+        }
+        Command::Packets { capture } if printed.contains(" dropped ") => {
+            remark_on_dropped(rt, capture, Frames::AsTheyStand, files)
+        }
+        Command::Run { policy, names } => remark_on_run(rt, policy, names, printed, files),
+        _ => Ok(()),
+    }
+}
+
+/// Why the work ended with a status other than 0.
+fn explain_command<R: FileSystem + Eprint + AllocGlobal>(
+    rt: &R,
+    command: &Command<'_>,
+    status: u8,
+    files: &mut RealFiles<'_, R>,
+) -> io::Result<()> {
+    match status {
+        READ_FAULT => explain_fault(rt, files),
+        WRITE_FAULT => {
+            explain_fault(rt, files)?;
+            explain_outputs(rt, command, files)
+        }
+        POLICY_REFUSED => explain_refused(rt, command, files),
+        CAPTURE_REFUSED | CAPTURE_CUT => explain_bad_capture(rt, command, status, files),
+        NO_MEMORY => {
+            explain_status(rt, status)?;
+            explain_outputs(rt, command, files)
+        }
+        UNKNOWN_ASSET | DENIED | TOO_MANY_CELLS => explain_denial(rt, command, files),
+        _ => explain_status(rt, status),
+    }
+}
+
+/// The policy that is refused, the first of two that is.
+fn explain_refused<R: FileSystem + Eprint + AllocGlobal>(
+    rt: &R,
+    command: &Command<'_>,
+    files: &mut RealFiles<'_, R>,
+) -> io::Result<()> {
+    let Some(policy) = policy_of(command) else {
+        return Ok(());
+    };
+    let is_told = explain_policy(rt, policy, files)?;
+    if let Command::Compare { other, .. } = command {
+        if !is_told {
+            explain_policy(rt, other, files)?;
+        }
+    }
+    Ok(())
+}
+
+/// Why a capture is refused, or where it is cut.
+fn explain_bad_capture<R: FileSystem + Eprint + AllocGlobal>(
+    rt: &R,
+    command: &Command<'_>,
+    status: u8,
+    files: &mut RealFiles<'_, R>,
+) -> io::Result<()> {
+    match command {
+        Command::Run { names, .. } | Command::World { names, .. } => {
+            explain_capture(rt, names.capture, true, files)
+        }
+        Command::Judge { capture, .. }
+        | Command::Learn { capture, .. }
+        | Command::Review { capture, .. }
+            if status == CAPTURE_REFUSED => explain_watched(rt, capture, files),
+        Command::Judge { capture, .. }
+        | Command::Learn { capture, .. }
+        | Command::Review { capture, .. }
+        | Command::Packets { capture } => explain_capture(rt, capture, false, files),
+        _ => Ok(()),
+    }
+}
+
+/// What a policy has in place of what was asked for.
+fn explain_denial<R: FileSystem + Eprint + AllocGlobal>(
+    rt: &R,
+    command: &Command<'_>,
+    files: &mut RealFiles<'_, R>,
+) -> io::Result<()> {
+    match command {
+        Command::Sift { policy, asset, .. } | Command::Relay { policy, asset, .. } => {
+            explain_asset(rt, policy, asset, files)
+        }
+        Command::Compare { policy, other } => explain_inclusion(rt, policy, other, files),
+        _ => Ok(()),
+    }
+}
+
+/// What a status says by itself, if it says something.
+fn explain_status<R: Eprint>(rt: &R, status: u8) -> io::Result<()> {
+    let words = match status {
+        IDLE_END => "nothing came for so long that the relay ended; the log has what came before",
+        STREAM_CUT => "the stream is cut; the outputs have what came before the cut",
+        NO_MEMORY => "memory ran out",
+        TOO_MANY_RULES =>
+            "the asset would have more than 1,024 rules; a capture of fewer clients and acts has fewer",
+        _ => return Ok(()),
+    };
+    eprintln!(rt; "cmdwall: {words}")
+}
+
+/// Why an output was withheld, or the file that failed and what the system said.
+pub fn explain_fault<R: FileSystem + Eprint>(rt: &R, files: &RealFiles<'_, R>) -> io::Result<()> {
+    if let Some(withheld) = files.withheld() {
+        return explain_withheld(rt, withheld);
+    }
+    match files.fault() {
+        Some(fault) => {
+            let name = fault.name.as_str();
+            let error = &fault.error;
+            eprintln!(rt; "cmdwall: {name}: {error}")
+        }
+        None => eprintln!(rt; "cmdwall: standard output could not be written"),
+    }
+}
+
+fn explain_withheld<R: Eprint>(rt: &R, withheld: &Withheld) -> io::Result<()> {
+    match withheld {
+        Withheld::Twins(twins) => {
+            let name = twins.name.as_str();
+            let other = twins.other.as_str();
+            eprintln!(rt; "cmdwall: {name} and {other} are one file; it was left as it is")
+        }
+        Withheld::Dash => { eprintln!(rt; "cmdwall: '-' is no output; a file of this name is ./-") }
+        Withheld::Printed(name) => {
+            eprintln!(rt;
+                "cmdwall: {name} is where standard output goes, which has the result; name a file or a pipe of its own"
+            )
+        }
+    }
+}
+
+/// Which of the two streams failed, and what the system said.
+fn explain_link<R: Eprint>(rt: &R, link: Option<&LinkFault>) -> io::Result<()> {
+    let Some(fault) = link else {
+        return Ok(());
+    };
+    let part = match fault.part {
+        Part::Port => "the port and its client",
+        Part::Client => "the client",
+        Part::Controller => "the controller",
+        Part::Clock => "the clock, or the wait for both sides",
+    };
+    let error = &fault.error;
+    eprintln!(rt; "cmdwall: {part}: {error}; the log has what came before")
+}
+
+/// What stands in the files that a command makes.
+fn explain_outputs<R: FileSystem + Eprint + AllocGlobal>(
+    rt: &R,
+    command: &Command<'_>,
+    files: &RealFiles<'_, R>,
+) -> io::Result<()> {
+    let mut begun = Vec::new(rt.alloc());
+    let mut left = Vec::new(rt.alloc());
+    for name in outputs_of(command) {
+        if files.is_begun(name) {
+            begun.push(name)?;
+        } else if !name.is_empty() {
+            left.push(name)?;
+        }
+    }
+    let message = outputs_message(rt.alloc(), begun.as_slice(), left.as_slice())?;
+    eprintln!(rt; "cmdwall: {message}")
+}
+
+/// The policy's file of a command.
+fn policy_of<'a>(command: &Command<'a>) -> Option<&'a str> {
+    match command {
+        Command::Packets { .. } => None,
+        Command::Check { policy }
+        | Command::Compare { policy, .. }
+        | Command::Judge { policy, .. }
+        | Command::Learn { policy, .. }
+        | Command::Migrate { policy, .. }
+        | Command::Review { policy, .. }
+        | Command::Run { policy, .. }
+        | Command::World { policy, .. }
+        | Command::Relay { policy, .. }
+        | Command::Sift { policy, .. } => Some(*policy),
+    }
+}
+
+/// Why a policy is refused, and whether it is. A pipe cannot be read a second time, so no more is said of it.
+pub fn explain_policy<R: FileSystem + Eprint + AllocGlobal>(
+    rt: &R,
+    name: &str,
+    files: &mut RealFiles<'_, R>,
+) -> io::Result<bool> {
+    let alloc = rt.alloc();
+    let message = match read_whole(alloc, name, LONGEST_TEXT as u64, files) {
+        Ok(text) => match read_policy(alloc, &text) {
+            Err(PolicyFault::Refused(refusal)) => policy_message(alloc, name, &text, &refusal)?,
+            _ => return Ok(false),
+        },
+        Err(WholeFault::TooLong) => policy_message(alloc, name, &[], &TOO_LONG)?,
+        Err(_) => {
+            eprintln!(rt;
+                "cmdwall: {name}: its text cannot be read a second time, so no more is said"
+            )?;
+            return Ok(false);
+        }
+    };
+    eprintln!(rt; "cmdwall: {message}")?;
+    Ok(true)
+}
+
+/// The policy of a file and its text, if it can be read a second time.
+pub fn policy_again<R: FileSystem + AllocGlobal>(
+    rt: &R,
+    name: &str,
+    files: &mut RealFiles<'_, R>,
+) -> Option<(Policy, Vec<u8>)>
+    ensures { IfSome result (λ p. IsWithin p.0) }
+{
+    let alloc = rt.alloc();
+    let text = read_whole(alloc, name, LONGEST_TEXT as u64, files).ok()?;
+    let policy = read_policy(alloc, &text).ok()?;
+    Some((policy, text))
+}
+
+/// Warns of rules that decide nothing.
+fn warn<R: FileSystem + Eprint + AllocGlobal>(
+    rt: &R,
+    name: &str,
+    files: &mut RealFiles<'_, R>,
+) -> io::Result<()> {
+    let Some((policy, text)) = policy_again(rt, name, files) else {
+        return Ok(());
+    };
+    let warnings = policy_warnings(rt.alloc(), name, &text, &policy)?;
+    for line in warnings.as_str().lines() {
+        eprintln!(rt; "cmdwall: {line}")?;
+    }
+    Ok(())
+}
+
+/// What a learned policy is not.
+fn warn_of_learned<R: Eprint>(rt: &R, out: &str) -> io::Result<()> {
+    eprintln!(rt;
+        "cmdwall: {out} also allows what an intruder did while the capture was taken: read it before use"
+    )
+}
+
+/// Why one policy is not included in another.
+fn explain_inclusion<R: FileSystem + Eprint + AllocGlobal>(
+    rt: &R,
+    name: &str,
+    other_name: &str,
+    files: &mut RealFiles<'_, R>,
+) -> io::Result<()> {
+    let Some((policy, text)) = policy_again(rt, name, files) else {
+        return Ok(());
+    };
+    let Some((other, other_text)) = policy_again(rt, other_name, files) else {
+        return Ok(());
+    };
+    let ours = PolicyFile {
+        name,
+        text: &text,
+        policy: &policy,
+    };
+    let other = PolicyFile {
+        name: other_name,
+        text: &other_text,
+        policy: &other,
+    };
+    let message = inclusion_message(rt.alloc(), &ours, &other)?;
+    eprintln!(rt; "cmdwall: {message}")
+}
+
+/// Which assets a policy has that has none of a name.
+fn explain_asset<R: FileSystem + Eprint + AllocGlobal>(
+    rt: &R,
+    name: &str,
+    asset: &str,
+    files: &mut RealFiles<'_, R>,
+) -> io::Result<()> {
+    let Some((policy, _)) = policy_again(rt, name, files) else {
+        return Ok(());
+    };
+    let message = asset_message(rt.alloc(), name, &policy, asset)?;
+    eprintln!(rt; "cmdwall: {message}")
+}
+
+/// Why a capture is refused that is watched: it is too long, or its octets are at fault. A pipe cannot be read a second time.
+fn explain_watched<R: FileSystem + Eprint + AllocGlobal>(
+    rt: &R,
+    name: &str,
+    files: &mut RealFiles<'_, R>,
+) -> io::Result<()> {
+    let mut octet = [0u8; 1];
+    match files.read_at(name, CAPTURE_LIMIT, &mut octet) {
+        ReadAnswer::Got(_) => {
+            eprintln!(rt;
+                "cmdwall: {name}: it has more than 67,108,864 bytes, and no longer capture is watched"
+            )
+        }
+        ReadAnswer::End | ReadAnswer::Failed => explain_capture(rt, name, false, files),
+    }
+}
+
+/// Why a capture is refused, or where it is cut. `has_moments`: the command gives each record a moment.
+fn explain_capture<R: FileSystem + Eprint + AllocGlobal>(
+    rt: &R,
+    name: &str,
+    has_moments: bool,
+    files: &mut RealFiles<'_, R>,
+) -> io::Result<()> {
+    match capture_message(rt.alloc(), name, has_moments, files)? {
+        Some(message) => eprintln!(rt; "cmdwall: {message}"),
+        None => Ok(()),
+    }
+}

@@ -1,0 +1,18 @@
+-- The asset at an endpoint, `asset_at`: the first one of a list.
+use Rattle.std.specs.Prelude.{ℕ, Bool, List, find, position, Option}
+use Rattle.std.specs.List.{list_any}
+use Rattle.cf_policy.specs.declared.policy.Asset.{Asset}
+use Rattle.cf_view.specs.Endpoints.{same_endpoint}
+use Rattle.cf_view.specs.declared.Endpoint.{Endpoint}
+
+-- the asset at an endpoint
+abbrev pub asset_at : List Asset → Endpoint → Option Asset
+asset_at assets endpoint = find (λ a. same_endpoint a.endpoint endpoint) assets
+
+-- there is one
+abbrev pub has_asset_at : List Asset → Endpoint → Bool
+has_asset_at assets endpoint = list_any (λ a. same_endpoint a.endpoint endpoint) assets
+
+-- the place of the asset at an endpoint
+abbrev pub asset_place : List Asset → Endpoint → Option ℕ
+asset_place assets endpoint = position (λ a. same_endpoint a.endpoint endpoint) assets

@@ -1,0 +1,4 @@
+pub mod Command
+pub mod Forms
+pub mod Names
+pub mod Words
