@@ -1,7 +1,8 @@
 #!/usr/bin/env bash
 # The processor time of `cmdwall run` on a capture of Modbus round trips, beside that of `tcpdump -n -r` and of `suricata -r` on the
-# same file in the same run (each left out where it is missing), each the median of five in turn; its memory; and its time on the same
-# number of round trips spread over 200 open sessions. Ratios, and no promise. Word: the number of round trips (300,000). CMDWALL in
+# same file in the same run (each left out where it is missing), each the median of five in turn; its memory; its time on the same number
+# of round trips spread over 200 open sessions; and that where the session never closes, so that CAPTURE and OUT are read again for the
+# note that says so. Ratios, and no promise. Word: the number of round trips (300,000). CMDWALL in
 # the environment: the program (the one that is built).
 set -eu
 top=$(cd "$(dirname "$0")/.." && pwd)
