@@ -5,23 +5,23 @@ use Rattle.cf_policylang.specs.declared.PolicyRefusal.{PolicyRefusal}
 use Rattle.cf_records.specs.Capture.{AtPlace, Cut, FileEnd}
 use Rattle.cf_run.specs.RunCapture.{HasRunRecords, RunNamesValue}
 use Rattle.cf_watch.specs.Watch.{EndsAt as WatchEnd}
-use Rattle.cf_box.specs.Captures.{EndsAt, Refuses}
+use Rattle.cf_ending.specs.Captures.{EndsAt, Refuses}
 use Rattle.cf_words.specs.Command.{Command, Judge, Packets, Review, Run, Learn}
 use Rattle.cf_box.specs.Ends.{Meets, RefusesPolicy}
 use Rattle.cf_box.specs.Judge.{Objects}
 use Rattle.cf_box.specs.Watching.{WatchCuts, WatchRefuses}
-use Rattle.cf_box.specs.Outside.{Outside, ReadFailed, WriteFailed}
+use Rattle.cf_ending.specs.Outside.{Outside, ReadFailed, WriteFailed}
 use Rattle.cf_box.specs.Packets.{HasListedRecords}
 use Rattle.cf_box.specs.PolicyFile.{TellsPolicy}
 use Rattle.cf_box.specs.Review.{DoesReview, HoldsReview, Remarks}
 use Rattle.cf_box.specs.Status.{TellsCutCapture, TellsRefusedCapture}
-use Rattle.cf_box.specs.declared.denial.Denial.{Denial}
-use Rattle.cf_box.specs.declared.denial.Denial.TheVariants as denial
-use Rattle.cf_box.specs.declared.ending.CaptureRefusal.{CaptureRefusal}
-use Rattle.cf_box.specs.declared.ending.Done.{Done}
-use Rattle.cf_box.specs.declared.ending.Done.TheVariants as done
-use Rattle.cf_box.specs.declared.ending.Stop.{Stop}
-use Rattle.cf_box.specs.declared.ending.Stop.TheVariants as stop
+use Rattle.cf_ending.specs.declared.Denial.{Denial}
+use Rattle.cf_ending.specs.declared.Denial.TheVariants as denial
+use Rattle.cf_ending.specs.declared.CaptureRefusal.{CaptureRefusal}
+use Rattle.cf_ending.specs.declared.Done.{Done}
+use Rattle.cf_ending.specs.declared.Done.TheVariants as done
+use Rattle.cf_ending.specs.declared.Stop.{Stop}
+use Rattle.cf_ending.specs.declared.Stop.TheVariants as stop
 use Rattle.cf_box.proofs.CaptureStops.{listed, listed_to}
 use Rattle.cf_box.proofs.Complete.{Refusing, ends_refused, known_unrefused, listing_once, run_once}
 use Rattle.cf_box.proofs.Statuses.{IsOf, stop_is}

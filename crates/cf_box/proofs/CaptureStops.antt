@@ -15,17 +15,17 @@ use Rattle.cf_watch.specs.Watch.{EndsAt as IsWatchedUpTo, WatchesAs}
 use Rattle.cf_watch.specs.declared.WatchFault.{WatchFault}
 use Rattle.cf_watch.specs.declared.WatchFault.TheVariants as fault
 use Rattle.cf_watch.specs.declared.WatchRefusal.TheVariants as watch
-use Rattle.cf_box.specs.Captures.{EndsAt, EndsSomewhere, Refuses, block_refusal, form_refusal}
+use Rattle.cf_ending.specs.Captures.{EndsAt, EndsSomewhere, Refuses, block_refusal, form_refusal}
 use Rattle.cf_words.specs.Command.{Command, Packets}
 use Rattle.cf_box.specs.Ends.{CutsCapture, Meets, PassesPolicy, RefusesCapture, StopsFor}
-use Rattle.cf_box.specs.Outside.{Outside, ReadFailed, ReadsOnly}
+use Rattle.cf_ending.specs.Outside.{Outside, ReadFailed, ReadsOnly}
 use Rattle.cf_box.specs.Packets.{HasListed, HasListedRecords, ListsFile, open_stop}
 use Rattle.cf_box.specs.Watching.{WatchCuts, WatchRefuses, fault_stop}
-use Rattle.cf_box.specs.declared.ending.CaptureRefusal.{CaptureRefusal}
-use Rattle.cf_box.specs.declared.ending.CaptureRefusal.TheVariants as refusal
-use Rattle.cf_box.specs.declared.ending.Done.{Done}
-use Rattle.cf_box.specs.declared.ending.Stop.{Stop}
-use Rattle.cf_box.specs.declared.ending.Stop.TheVariants as stop
+use Rattle.cf_ending.specs.declared.CaptureRefusal.{CaptureRefusal}
+use Rattle.cf_ending.specs.declared.CaptureRefusal.TheVariants as refusal
+use Rattle.cf_ending.specs.declared.Done.{Done}
+use Rattle.cf_ending.specs.declared.Stop.{Stop}
+use Rattle.cf_ending.specs.declared.Stop.TheVariants as stop
 
 -- a header that is refused refuses the capture, and so does a block
 pub form_refuses : (Has : Content → Form → List Record → LastPlace → Type 0) (file : Content) (of : FormRefusal) → HasForm file (Err of) → Refuses Has file (form_refusal of)

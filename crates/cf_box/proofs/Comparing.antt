@@ -5,11 +5,11 @@ use Rattle.cf_box.specs.Check.{ChangesNothing}
 use Rattle.cf_words.specs.Command.{Check, Compare}
 use Rattle.cf_box.specs.Compare.{HasPolicies, Says}
 use Rattle.cf_box.specs.Ends.{Meets, PassesPolicy, StopsFor}
-use Rattle.cf_box.specs.Outside.{Outside, ReadsOnly}
+use Rattle.cf_ending.specs.Outside.{Outside, ReadsOnly}
 use Rattle.cf_box.specs.PolicyFile.{HasPolicy, IsRefusedBy, StopsPolicy}
-use Rattle.cf_box.specs.declared.ending.Done.{Done}
-use Rattle.cf_box.specs.declared.ending.Stop.{Stop}
-use Rattle.cf_box.specs.declared.ending.Stop.TheVariants as stop
+use Rattle.cf_ending.specs.declared.Done.{Done}
+use Rattle.cf_ending.specs.declared.Stop.{Stop}
+use Rattle.cf_ending.specs.declared.Stop.TheVariants as stop
 
 module _ (policy other : List ℕ) (before middle after : Outside) (ours : Policy) (has : HasPolicy (before.files.content policy) ours)
     (first : ReadsOnly before.files middle.files) (second : ReadsOnly middle.files after.files) (sink : after.sink ≡ before.sink)

@@ -16,24 +16,24 @@ use Rattle.cf_policy.specs.declared.Policy.{Policy}
 use Rattle.cf_policylang.specs.Documents.{policy_meaning}
 use Rattle.cf_policylang.specs.declared.PolicyRefusal.{PolicyRefusal}
 use Rattle.cf_run.specs.RunCapture.{HasRunRecords}
-use Rattle.cf_box.specs.Captures.{EndsAt, Refuses}
+use Rattle.cf_ending.specs.Captures.{EndsAt, Refuses}
 use Rattle.cf_words.specs.Command.{Command, Compare, Judge, Packets, Review, Run, World, asset_name, capture_file, other_file, policy_file, Learn}
 use Rattle.cf_box.specs.Compare.{ExceedsAt, IsNotIncluded}
 use Rattle.cf_box.specs.Ends.{CutsCapture, CutsRun, CutsStream, Denies, EndsIdle, ExceedsCells, ExceedsRules, LacksAsset, LinkFails, Meets, RefusesCapture, RefusesMadePolicy, RefusesPolicy}
-use Rattle.cf_box.specs.Outside.{Outside, ReadFailed, WriteFailed}
+use Rattle.cf_ending.specs.Outside.{Outside, ReadFailed, WriteFailed}
 use Rattle.cf_box.specs.Packets.{HasListedRecords}
 use Rattle.cf_box.specs.PolicyFile.{HasPolicy, IsRefusedBy, TellsAsset}
 use Rattle.cf_box.specs.Run.{RunCuts, RunRefuses}
 use Rattle.cf_watch.specs.declared.fault.TheConstants.{CAPTURE_LIMIT}
 use Rattle.cf_box.specs.Watching.{WatchCuts, WatchRefuses}
 use Rattle.cf_box.specs.Status.{EndsWell, HasInput, HasRecordsToItsEnd, HasTimedRecords, HoldsWhatItAsks, NothingFails, TellsMade}
-use Rattle.cf_box.specs.declared.denial.Denial.{Denial}
-use Rattle.cf_box.specs.declared.denial.Denial.TheVariants as denial
-use Rattle.cf_box.specs.declared.ending.CaptureRefusal.{CaptureRefusal}
-use Rattle.cf_box.specs.declared.ending.CaptureRefusal.TheVariants as refusal
-use Rattle.cf_box.specs.declared.ending.Done.{Done}
-use Rattle.cf_box.specs.declared.ending.Stop.{Stop}
-use Rattle.cf_box.specs.declared.ending.Stop.TheVariants as stop
+use Rattle.cf_ending.specs.declared.Denial.{Denial}
+use Rattle.cf_ending.specs.declared.Denial.TheVariants as denial
+use Rattle.cf_ending.specs.declared.CaptureRefusal.{CaptureRefusal}
+use Rattle.cf_ending.specs.declared.CaptureRefusal.TheVariants as refusal
+use Rattle.cf_ending.specs.declared.Done.{Done}
+use Rattle.cf_ending.specs.declared.Stop.{Stop}
+use Rattle.cf_ending.specs.declared.Stop.TheVariants as stop
 use Rattle.cf_box.proofs.CaptureStops.{listed}
 use Rattle.cf_box.proofs.Statuses.{Explains, IsOf, explained, read_failed, write_failed}
 

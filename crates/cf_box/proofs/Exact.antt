@@ -19,7 +19,7 @@ use Rattle.cf_words.specs.Command.{Command, Check, Compare, Judge, Migrate, Pack
 use Rattle.cf_box.specs.Compare.{IsIncluded, OfPolicies, TellsNotIncluded}
 use Rattle.cf_box.specs.Ends.{Does, LacksAsset, Meets, PassesPolicy, RefusesPolicy}
 use Rattle.cf_box.specs.Learn.{Learns}
-use Rattle.cf_box.specs.Outside.{Outside, ReadFailed, WriteFailed}
+use Rattle.cf_ending.specs.Outside.{Outside, ReadFailed, WriteFailed}
 use Rattle.cf_box.specs.PolicyFile.{FindsAsset, HasPolicy, IsRefusedBy, StopsPolicy, TellsAsset}
 use Rattle.cf_sift.specs.Laws.{HasOneCut}
 use Rattle.cf_sift.specs.Names.{SiftNamesValue}
@@ -29,10 +29,10 @@ use Rattle.cf_box.specs.Review.{DoesReview, HoldsReview, NothingRemarked}
 use Rattle.cf_review.specs.declared.Counts.{Counts}
 use Rattle.cf_box.specs.Sift.{TakesStream, TellsCutStream}
 use Rattle.cf_box.specs.Status.{IsExact, TellsCut, TellsDenial, TellsIdle, TellsNoAsset, TellsNoPolicy, TellsObjection, TellsRemark, TellsRemarks}
-use Rattle.cf_box.specs.declared.ending.Done.{Done}
-use Rattle.cf_box.specs.declared.ending.Done.TheVariants as done
-use Rattle.cf_box.specs.declared.ending.Stop.{Stop}
-use Rattle.cf_box.specs.declared.ending.Stop.TheVariants as stop
+use Rattle.cf_ending.specs.declared.Done.{Done}
+use Rattle.cf_ending.specs.declared.Done.TheVariants as done
+use Rattle.cf_ending.specs.declared.Stop.{Stop}
+use Rattle.cf_ending.specs.declared.Stop.TheVariants as stop
 use Rattle.cf_box.proofs.CaptureExact.{DueBehind, capture_from, capture_cut_from}
 use Rattle.cf_box.proofs.Complete.{known_unrefused, not_cut_watch, not_lacking, not_refused, not_refused_watch, same_bytes, same_policy}
 use Rattle.cf_box.proofs.Passing.{found_passes, one_policy, policy_passes}

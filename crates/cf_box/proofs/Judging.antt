@@ -11,12 +11,12 @@ use Rattle.cf_words.specs.Command.{Judge}
 use Rattle.cf_box.specs.Ends.{Meets, PassesPolicy}
 use Rattle.cf_box.specs.Judge.{SaysOfFlows}
 use Rattle.cf_box.specs.Watching.{HasWatched, fault_stop}
-use Rattle.cf_box.specs.Outside.{Outside, ReadFailed, ReadsOnly}
+use Rattle.cf_ending.specs.Outside.{Outside, ReadFailed, ReadsOnly}
 use Rattle.cf_box.specs.PolicyFile.{HasPolicy}
-use Rattle.cf_box.specs.declared.denial.Denial.TheVariants as denial
-use Rattle.cf_box.specs.declared.ending.Done.{Done}
-use Rattle.cf_box.specs.declared.ending.Stop.{Stop}
-use Rattle.cf_box.specs.declared.ending.Stop.TheVariants as stop
+use Rattle.cf_ending.specs.declared.Denial.TheVariants as denial
+use Rattle.cf_ending.specs.declared.Done.{Done}
+use Rattle.cf_ending.specs.declared.Stop.{Stop}
+use Rattle.cf_ending.specs.declared.Stop.TheVariants as stop
 use Rattle.cf_box.proofs.CaptureStops.{not_a_write, unwatched}
 use Rattle.cf_box.proofs.Passing.{policy_passes}
 

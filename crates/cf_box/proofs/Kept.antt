@@ -11,21 +11,21 @@ use Rattle.cf_run.specs.declared.run.RunFault.{RunFault}
 use Rattle.cf_run.specs.declared.run.RunFault.TheVariants as fault
 use Rattle.cf_run.specs.declared.run.RunRefusal.TheVariants as by
 use Rattle.cf_words.specs.Command.{Command, Check, Compare, Judge, Migrate, Packets, Review, Run, Relay, World, Sift, output_files, Learn}
-use Rattle.cf_box.specs.Ending.{status_of, stop_status}
+use Rattle.cf_ending.specs.Ending.{status_of, stop_status}
 use Rattle.cf_box.specs.Ends.{Does, Leaves, Meets, StopsFor}
 use Rattle.cf_box.specs.Learn.{LearnLeaves}
 use Rattle.cf_box.specs.Migrate.{MigrateLeaves}
-use Rattle.cf_box.specs.Outside.{Outside}
+use Rattle.cf_ending.specs.Outside.{Outside}
 use Rattle.cf_box.specs.Relay.{HasRelayed, end_answer, relay_answer}
 use Rattle.cf_box.specs.Review.{DoesReview, ReviewLeaves}
 use Rattle.cf_box.specs.Run.{RunLeaves, run_stop}
 use Rattle.cf_box.specs.Sift.{SiftLeaves}
 use Rattle.cf_box.specs.Status.{TellsMade, WritesNothing}
-use Rattle.cf_box.specs.declared.denial.Denial.TheVariants as denial
-use Rattle.cf_box.specs.declared.ending.Done.{Done}
-use Rattle.cf_box.specs.declared.ending.Done.TheVariants as done
-use Rattle.cf_box.specs.declared.ending.Stop.{Stop}
-use Rattle.cf_box.specs.declared.ending.Stop.TheVariants as stop
+use Rattle.cf_ending.specs.declared.Denial.TheVariants as denial
+use Rattle.cf_ending.specs.declared.Done.{Done}
+use Rattle.cf_ending.specs.declared.Done.TheVariants as done
+use Rattle.cf_ending.specs.declared.Stop.{Stop}
+use Rattle.cf_ending.specs.declared.Stop.TheVariants as stop
 use Rattle.cf_sift.specs.Names.{SiftNamesValue}
 use Rattle.cf_box.proofs.Statuses.{Explains, IsOf, Unprinted, explained, stop_is}
 

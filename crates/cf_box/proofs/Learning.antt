@@ -17,12 +17,12 @@ use Rattle.cf_box.specs.Check.{ChangesNothing}
 use Rattle.cf_words.specs.Command.{Learn}
 use Rattle.cf_box.specs.Ends.{Meets, PassesPolicy}
 use Rattle.cf_box.specs.Learn.{IsLearned, LearnLeaves, Learns, LearnsAs, ShowTooMuch}
-use Rattle.cf_box.specs.Outside.{Outside, ReadFailed, ReadsOnly}
+use Rattle.cf_ending.specs.Outside.{Outside, ReadFailed, ReadsOnly}
 use Rattle.cf_box.specs.PolicyFile.{HasPolicy, WritesPolicy}
 use Rattle.cf_box.specs.Watching.{HasWatched, fault_stop}
-use Rattle.cf_box.specs.declared.ending.Done.{Done}
-use Rattle.cf_box.specs.declared.ending.Stop.{Stop}
-use Rattle.cf_box.specs.declared.ending.Stop.TheVariants as stop
+use Rattle.cf_ending.specs.declared.Done.{Done}
+use Rattle.cf_ending.specs.declared.Stop.{Stop}
+use Rattle.cf_ending.specs.declared.Stop.TheVariants as stop
 use Rattle.cf_box.proofs.CaptureStops.{unwatched}
 use Rattle.cf_box.proofs.Passing.{policy_passes}
 

@@ -16,8 +16,6 @@ pub mod Runs
 pub mod ServicePlaces
 pub mod Serving
 pub mod Sifting
-mod Spelled
 pub mod Statuses
-pub mod Texts
 pub mod WorldHolds
 pub mod Worlds

@@ -15,11 +15,11 @@ use Rattle.cf_records.specs.declared.BlockRefusal.{BlockRefusal}
 use Rattle.cf_records.specs.declared.BlockRefusal.TheVariants as block
 use Rattle.cf_records.specs.declared.Form.{Form}
 use Rattle.cf_records.specs.declared.NextRecord.TheVariants as next
-use Rattle.cf_box.specs.Captures.{block_refusal}
-use Rattle.cf_box.specs.declared.ending.Done.{Done}
-use Rattle.cf_box.specs.declared.ending.Stop.{Stop}
-use Rattle.cf_box.specs.declared.ending.Stop.TheVariants as stop
-use Rattle.cf_box.specs.PacketLine.{lines_from, record_line}
+use Rattle.cf_ending.specs.Captures.{block_refusal}
+use Rattle.cf_ending.specs.declared.Done.{Done}
+use Rattle.cf_ending.specs.declared.Stop.{Stop}
+use Rattle.cf_ending.specs.declared.Stop.TheVariants as stop
+use Rattle.cf_ending.specs.PacketLine.{lines_from, record_line}
 use Rattle.cf_box.specs.Packets.{HasListed, HasListedRecords, ListingAnswers}
 
 -- with these records in front, the records from a place on are those of the file, as far as it is told; there its form is this one
@@ -237,6 +237,3 @@ block_answers _ records last before after failed e put = (e, put)
 pub not_read : {A B C : Type 0} (answer ended : Result Done Stop) → ((answer ≡ ended) × A) ⊎ ((answer ≡ Err stop.WriteFault) × B × C) → ended ≢ Err stop.ReadFault → answer ≡ Err stop.ReadFault → ⊥
 not_read answer ended (inl h) other is = other (sym h.0 ∙ is)
 not_read answer ended (inr h) other is = let write = h.0 in cc
-
-pub unread : {before middle after : ℕ} {failed : Type 0} → before ≤ middle → middle ≤ after → (failed → ⊥) → HasCause before after failed
-unread early late never = record { later = omega (arith, early, late); rose = λ is. absurd (never is) }

@@ -6,11 +6,11 @@ use Rattle.cf_outside.specs.Frames.{KeepsOtherFiles}
 use Rattle.cf_policy.specs.declared.Policy.{Policy}
 use Rattle.cf_words.specs.Command.{Migrate}
 use Rattle.cf_box.specs.Ends.{Meets, PassesPolicy}
-use Rattle.cf_box.specs.Outside.{Outside, ReadsOnly}
+use Rattle.cf_ending.specs.Outside.{Outside, ReadsOnly}
 use Rattle.cf_box.specs.PolicyFile.{HasPolicy, WritesPolicy}
-use Rattle.cf_box.specs.declared.ending.Done.{Done}
-use Rattle.cf_box.specs.declared.ending.Stop.{Stop}
-use Rattle.cf_box.specs.declared.ending.Stop.TheVariants as stop
+use Rattle.cf_ending.specs.declared.Done.{Done}
+use Rattle.cf_ending.specs.declared.Stop.{Stop}
+use Rattle.cf_ending.specs.declared.Stop.TheVariants as stop
 use Rattle.cf_box.proofs.Passing.{policy_passes}
 
 module _ (policy out : List ℕ) (before middle after : Outside) where

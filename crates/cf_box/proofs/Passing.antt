@@ -6,10 +6,10 @@ use Rattle.cf_policylang.specs.declared.PolicyRefusal.{PolicyRefusal}
 use Rattle.cf_box.specs.Check.{ChangesNothing}
 use Rattle.cf_words.specs.Command.{Command, Compare, asset_name, other_file, policy_file}
 use Rattle.cf_box.specs.Ends.{PassesPolicy}
-use Rattle.cf_box.specs.Outside.{Outside}
+use Rattle.cf_ending.specs.Outside.{Outside}
 use Rattle.cf_box.specs.PolicyFile.{FindsAsset, HasPolicy, StopsPolicy, asset_named}
-use Rattle.cf_box.specs.declared.ending.Stop.{Stop}
-use Rattle.cf_box.specs.declared.ending.Stop.TheVariants as stop
+use Rattle.cf_ending.specs.declared.Stop.{Stop}
+use Rattle.cf_ending.specs.declared.Stop.TheVariants as stop
 
 -- a command that needs an asset reads one policy: the one that compares two needs none
 pub one_policy : (c : Command) (file name : List ℕ) → other_file c ≡ Some file → asset_name c ≡ Some name → ⊥

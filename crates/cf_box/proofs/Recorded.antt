@@ -17,15 +17,15 @@ use Rattle.cf_watch.specs.declared.WatchRefusal.TheVariants as watch
 use Rattle.cf_box.specs.Check.{ChangesNothing}
 use Rattle.cf_words.specs.Command.{Review}
 use Rattle.cf_box.specs.Ends.{Meets, PassesPolicy}
-use Rattle.cf_box.specs.Outside.{Outside, ReadFailed, ReadsOnly}
+use Rattle.cf_ending.specs.Outside.{Outside, ReadFailed, ReadsOnly}
 use Rattle.cf_box.specs.PolicyFile.{HasPolicy}
 use Rattle.cf_box.specs.Review.{AnswersBy, HasReview, ReviewLeaves, WritesReview, remarks_of}
 use Rattle.cf_box.specs.Watching.{fault_stop}
-use Rattle.cf_box.specs.declared.denial.Denial.TheVariants as denial
-use Rattle.cf_box.specs.declared.ending.Done.{Done}
-use Rattle.cf_box.specs.declared.ending.Done.TheVariants as done
-use Rattle.cf_box.specs.declared.ending.Stop.{Stop}
-use Rattle.cf_box.specs.declared.ending.Stop.TheVariants as stop
+use Rattle.cf_ending.specs.declared.Denial.TheVariants as denial
+use Rattle.cf_ending.specs.declared.Done.{Done}
+use Rattle.cf_ending.specs.declared.Done.TheVariants as done
+use Rattle.cf_ending.specs.declared.Stop.{Stop}
+use Rattle.cf_ending.specs.declared.Stop.TheVariants as stop
 use Rattle.cf_box.proofs.CaptureStops.{unwatched}
 use Rattle.cf_box.proofs.Passing.{policy_passes}
 

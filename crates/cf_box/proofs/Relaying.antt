@@ -15,12 +15,12 @@ use Rattle.cf_relay.specs.declared.done.RelayFault.{RelayFault}
 use Rattle.cf_relay.specs.declared.done.RelayFault.TheVariants as fault
 use Rattle.cf_words.specs.Command.{Relay}
 use Rattle.cf_box.specs.Ends.{Meets, PassesPolicy}
-use Rattle.cf_box.specs.Outside.{Outside, ReadsOnly}
+use Rattle.cf_ending.specs.Outside.{Outside, ReadsOnly}
 use Rattle.cf_box.specs.PolicyFile.{FindsAsset, StopsPolicy}
 use Rattle.cf_box.specs.Relay.{HasRelayed, end_answer, relay_answer}
-use Rattle.cf_box.specs.declared.ending.Done.{Done}
-use Rattle.cf_box.specs.declared.ending.Stop.{Stop}
-use Rattle.cf_box.specs.declared.ending.Stop.TheVariants as stop
+use Rattle.cf_ending.specs.declared.Done.{Done}
+use Rattle.cf_ending.specs.declared.Stop.{Stop}
+use Rattle.cf_ending.specs.declared.Stop.TheVariants as stop
 use Rattle.cf_box.proofs.Passing.{found_passes}
 
 -- ---- what an answer says of the list

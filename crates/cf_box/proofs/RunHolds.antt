@@ -8,14 +8,14 @@ use Rattle.cf_run.specs.Headline.{RunsHaveHeadline}
 use Rattle.cf_run.specs.RunCapture.{RunNamesValue, RunsTo}
 use Rattle.cf_run.specs.declared.summary.Summary.{Summary}
 use Rattle.cf_words.specs.Command.{Command, Run}
-use Rattle.cf_box.specs.Ending.{Puts, Reports, summary_text}
+use Rattle.cf_ending.specs.Ending.{Puts, Reports, summary_text}
 use Rattle.cf_box.specs.Ends.{Meets}
-use Rattle.cf_box.specs.Outside.{Outside, SinkValue}
+use Rattle.cf_ending.specs.Outside.{Outside, SinkValue}
 use Rattle.cf_box.specs.Run.{HasRun}
 use Rattle.cf_box.specs.RunHolds.{RunHolds}
-use Rattle.cf_box.specs.declared.ending.Done.{Done}
-use Rattle.cf_box.specs.declared.ending.Done.TheVariants as done
-use Rattle.cf_box.specs.declared.ending.Stop.{Stop}
+use Rattle.cf_ending.specs.declared.Done.{Done}
+use Rattle.cf_ending.specs.declared.Done.TheVariants as done
+use Rattle.cf_ending.specs.declared.Stop.{Stop}
 use Rattle.cf_box.proofs.Statuses.{Explains, IsOf, Unprinted, explained, not_done}
 
 -- a text was put, where the status says so

@@ -12,15 +12,15 @@ use Rattle.cf_run.specs.declared.run.RunFault.{RunFault}
 use Rattle.cf_run.specs.declared.run.RunFault.TheVariants as fault
 use Rattle.cf_run.specs.declared.run.RunRefusal.TheVariants as by
 use Rattle.cf_run.specs.declared.summary.Summary.{Summary}
-use Rattle.cf_box.specs.Captures.{EndsAt}
+use Rattle.cf_ending.specs.Captures.{EndsAt}
 use Rattle.cf_words.specs.Command.{Run}
 use Rattle.cf_box.specs.Ends.{Meets, PassesPolicy, StopsFor}
-use Rattle.cf_box.specs.Outside.{Outside, ReadsOnly}
+use Rattle.cf_ending.specs.Outside.{Outside, ReadsOnly}
 use Rattle.cf_box.specs.PolicyFile.{HasPolicy}
 use Rattle.cf_box.specs.Run.{HasRun, run_stop}
-use Rattle.cf_box.specs.declared.ending.Done.{Done}
-use Rattle.cf_box.specs.declared.ending.Done.TheVariants as done
-use Rattle.cf_box.specs.declared.ending.Stop.{Stop}
+use Rattle.cf_ending.specs.declared.Done.{Done}
+use Rattle.cf_ending.specs.declared.Done.TheVariants as done
+use Rattle.cf_ending.specs.declared.Stop.{Stop}
 use Rattle.cf_box.proofs.CaptureStops.{block_refuses, form_refuses}
 use Rattle.cf_box.proofs.Passing.{policy_passes}
 

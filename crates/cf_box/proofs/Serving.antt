@@ -21,12 +21,12 @@ use Rattle.cf_serve.specs.declared.table.Place.{Place}
 use Rattle.cf_box.proofs.Sifting.{since}
 use Rattle.cf_words.specs.Command.{Check}
 use Rattle.cf_box.specs.Ends.{RefusesPolicy, StopsFor}
-use Rattle.cf_box.specs.Outside.{FilesValue, ReadsOnly, SinkValue, outside}
+use Rattle.cf_ending.specs.Outside.{FilesValue, ReadsOnly, SinkValue, outside}
 use Rattle.cf_box.specs.PolicyFile.{HasPolicy, IsRefusedBy, StopsPolicy}
 use Rattle.cf_box.specs.Service.{ArePlaces, HasBroken, HasServed, NothingServed, StopsService, service_stop}
 use Rattle.cf_box.specs.ServiceWords.{PlaceWord, ServiceWords, place_word_value}
-use Rattle.cf_box.specs.declared.ending.Stop.{Stop}
-use Rattle.cf_box.specs.declared.ending.Stop.TheVariants as stop
+use Rattle.cf_ending.specs.declared.Stop.{Stop}
+use Rattle.cf_ending.specs.declared.Stop.TheVariants as stop
 use Rattle.cf_box.specs.declared.service.PlaceWord.{PlaceWord as PlaceFields}
 
 -- as many places as words

@@ -13,13 +13,13 @@ use Rattle.cf_sift.specs.declared.SiftFault.{SiftFault}
 use Rattle.cf_sift.specs.declared.SiftFault.TheVariants as fault
 use Rattle.cf_words.specs.Command.{Sift}
 use Rattle.cf_box.specs.Ends.{Meets, PassesPolicy, StopsFor}
-use Rattle.cf_box.specs.Outside.{Outside}
+use Rattle.cf_ending.specs.Outside.{Outside}
 use Rattle.cf_box.specs.PolicyFile.{FindsAsset}
 use Rattle.cf_box.specs.Sift.{SiftLeaves, TakesStream, sift_stop}
-use Rattle.cf_box.specs.declared.ending.Done.{Done}
-use Rattle.cf_box.specs.declared.ending.Done.TheVariants as done
-use Rattle.cf_box.specs.declared.ending.Stop.{Stop}
-use Rattle.cf_box.specs.declared.ending.Stop.TheVariants as stop
+use Rattle.cf_ending.specs.declared.Done.{Done}
+use Rattle.cf_ending.specs.declared.Done.TheVariants as done
+use Rattle.cf_ending.specs.declared.Stop.{Stop}
+use Rattle.cf_ending.specs.declared.Stop.TheVariants as stop
 use Rattle.cf_box.proofs.Passing.{found_passes}
 
 -- what has risen since late has risen since early
@@ -70,11 +70,10 @@ module _ (policy name : List ℕ) (client : ℕ) (names : SiftNamesValue) (befor
     sift_stops fault.Write reads writes h = ((inl (writes refl), passes), record { asset = asset; finds = finds; left = h; sink = sink; pair = pair })
 
     -- a fault is the stop of its cause
-    pub sift_fails : (f : SiftFault) (r : Result Done Stop) → IsErrAnd r (λ s. s ≡ sift_stop f) →
+    pub sift_fails : (f : SiftFault) (s : Stop) → s ≡ sift_stop f →
         (IsErrOf {T = SiftDone} (Err f) fault.Read → Rose before.files.read_faults after.files.read_faults) →
         (IsErrOf {T = SiftDone} (Err f) fault.Write → Rose before.files.write_faults after.files.write_faults) →
-        SiftEnds asset client names before.files.content after.files.content (Err f) → Meets (Sift policy name client names) before after r
-    sift_fails f (Ok d) is reads writes h = absurd is
-    sift_fails f (Err s) is reads writes h =
+        SiftEnds asset client names before.files.content after.files.content (Err f) → Meets (Sift policy name client names) before after (Err s)
+    sift_fails f s is reads writes h =
         subst (λ t. StopsFor (Sift policy name client names) before after t × SiftLeaves policy name client names before after t) (sym is)
         (sift_stops f reads writes h)

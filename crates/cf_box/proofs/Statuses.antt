@@ -12,22 +12,22 @@ use Rattle.cf_outside.specs.Faults.{Rose}
 use Rattle.cf_outside.specs.PairValue.{PairValue}
 use Rattle.cf_policylang.specs.declared.PolicyRefusal.{PolicyRefusal}
 use Rattle.cf_words.specs.Command.{Command, Compare, Judge, Migrate, Packets, Review, Run, Relay, World, Sift, Learn}
-use Rattle.cf_box.specs.Ending.{Prints, Reports, end_text, status_of, stop_status, unprinted_status}
+use Rattle.cf_ending.specs.Ending.{Prints, Reports, end_text, status_of, stop_status, unprinted_status}
 use Rattle.cf_box.specs.Ends.{CutsCapture, CutsRun, CutsStream, Denies, EndsIdle, ExceedsCells, ExceedsRules, LacksAsset, LinkFails, Meets, RefusesCapture, RefusesPolicy}
 use Rattle.cf_box.specs.Learn.{HoldsLearned}
 use Rattle.cf_box.specs.Migrate.{KeepsMeaning}
-use Rattle.cf_box.specs.Outside.{Outside, ReadFailed, SinkValue, WriteFailed}
+use Rattle.cf_ending.specs.Outside.{Outside, ReadFailed, SinkValue, WriteFailed}
 use Rattle.cf_box.specs.Packets.{Lists, ListsFile}
 use Rattle.cf_box.specs.Review.{HoldsReview, ReviewHolds, WritesReview}
 use Rattle.cf_review.specs.declared.Counts.{Counts}
 use Rattle.cf_box.specs.Status.{Includes, JudgedClean, SiftPassesAllowed}
-use Rattle.cf_box.specs.declared.denial.Denial.{Denial}
-use Rattle.cf_box.specs.declared.denial.Denial.TheVariants as denial
-use Rattle.cf_box.specs.declared.ending.CaptureRefusal.{CaptureRefusal}
-use Rattle.cf_box.specs.declared.ending.Done.{Done}
-use Rattle.cf_box.specs.declared.ending.Done.TheVariants as done
-use Rattle.cf_box.specs.declared.ending.Stop.{Stop}
-use Rattle.cf_box.specs.declared.ending.Stop.TheVariants as stop
+use Rattle.cf_ending.specs.declared.Denial.{Denial}
+use Rattle.cf_ending.specs.declared.Denial.TheVariants as denial
+use Rattle.cf_ending.specs.declared.CaptureRefusal.{CaptureRefusal}
+use Rattle.cf_ending.specs.declared.Done.{Done}
+use Rattle.cf_ending.specs.declared.Done.TheVariants as done
+use Rattle.cf_ending.specs.declared.Stop.{Stop}
+use Rattle.cf_ending.specs.declared.Stop.TheVariants as stop
 
 -- the status is that of an ending, printed or not
 abbrev pub IsOf : Result Done Stop → (failed : Type 0) → ℕ → Type 0

@@ -5,13 +5,13 @@ use Rattle.cf_policylang.specs.declared.PolicyRefusal.{PolicyRefusal}
 use Rattle.cf_run.specs.Headline.{RunsHaveHeadline}
 use Rattle.cf_run.specs.RunCapture.{RunNamesValue}
 use Rattle.cf_words.specs.Command.{Command, World}
-use Rattle.cf_box.specs.Ending.{Reports}
+use Rattle.cf_ending.specs.Ending.{Reports}
 use Rattle.cf_box.specs.Ends.{Meets, RefusesPolicy}
-use Rattle.cf_box.specs.Outside.{Outside}
+use Rattle.cf_ending.specs.Outside.{Outside}
 use Rattle.cf_box.specs.Status.{TellsMade}
 use Rattle.cf_box.specs.World.{HasMade, WorldHolds, made_names}
-use Rattle.cf_box.specs.declared.ending.Done.{Done}
-use Rattle.cf_box.specs.declared.ending.Stop.{Stop}
+use Rattle.cf_ending.specs.declared.Done.{Done}
+use Rattle.cf_ending.specs.declared.Stop.{Stop}
 use Rattle.cf_box.proofs.RunHolds.{holds_from}
 use Rattle.cf_box.proofs.Statuses.{Explains, IsOf, Unprinted, capture_told, cut_told, explained, not_done, refusal_told}
 

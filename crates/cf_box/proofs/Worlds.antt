@@ -11,20 +11,20 @@ use Rattle.cf_records.specs.Form.{form_of}
 use Rattle.cf_records.specs.declared.Form.TheVariants as form
 use Rattle.cf_policylang.specs.declared.PolicyRefusal.{PolicyRefusal}
 use Rattle.cf_run.specs.RunCapture.{RunNamesValue}
-use Rattle.cf_world.specs.Document.{made_policy}
+use Rattle.cf_hosts.specs.Document.{made_policy}
 use Rattle.cf_world.specs.World.{HoldsCapture, HoldsPolicy, LeavesWorld}
 use Rattle.cf_words.specs.Command.{Command, Run, World}
 use Rattle.cf_box.specs.Ends.{LacksAsset, Meets, PassesPolicy, RefusesPolicy, StopsFor}
-use Rattle.cf_box.specs.Outside.{Outside}
+use Rattle.cf_ending.specs.Outside.{Outside}
 use Rattle.cf_box.specs.PolicyFile.{IsRefusedBy}
 use Rattle.cf_box.specs.Run.{RunCuts, RunRefuses}
 use Rattle.cf_box.specs.Status.{HasTimedRecords}
 use Rattle.cf_box.specs.World.{HasMade, made_names}
 use Rattle.cf_words.specs.Forms.{IsFitWorld}
-use Rattle.cf_box.specs.declared.ending.CaptureRefusal.{CaptureRefusal}
-use Rattle.cf_box.specs.declared.ending.Done.{Done}
-use Rattle.cf_box.specs.declared.ending.Stop.{Stop}
-use Rattle.cf_box.specs.declared.ending.Stop.TheVariants as stop
+use Rattle.cf_ending.specs.declared.CaptureRefusal.{CaptureRefusal}
+use Rattle.cf_ending.specs.declared.Done.{Done}
+use Rattle.cf_ending.specs.declared.Stop.{Stop}
+use Rattle.cf_ending.specs.declared.Stop.TheVariants as stop
 use Rattle.cf_box.proofs.Complete.{not_cut_run, not_refused, not_refused_run}
 use Rattle.cf_box.proofs.Kept.{keeps_from}
 

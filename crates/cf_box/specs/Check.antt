@@ -3,11 +3,11 @@ use Rattle.std.specs.Prelude.{◌≡◌, ◌≢◌, ℕ, List, [], ◌∷◌, Op
 use Rattle.cf_policy.specs.declared.Policy.{Policy}
 use Rattle.cf_words.specs.Command.{Command, Check}
 use Rattle.cf_words.specs.Names.{are_names}
-use Rattle.cf_box.specs.Outside.{Outside}
+use Rattle.cf_ending.specs.Outside.{Outside}
 use Rattle.cf_box.specs.PolicyFile.{HasPolicy, counted}
-use Rattle.cf_box.specs.declared.ending.Done.{Done}
-use Rattle.cf_box.specs.declared.ending.Stop.{Stop}
-use Rattle.cf_box.specs.declared.ending.Stop.TheVariants as stop
+use Rattle.cf_ending.specs.declared.Done.{Done}
+use Rattle.cf_ending.specs.declared.Stop.{Stop}
+use Rattle.cf_ending.specs.declared.Stop.TheVariants as stop
 
 -- nothing but counts of failed reads changed
 pub record ChangesNothing (before after : Outside) : Type 0 where

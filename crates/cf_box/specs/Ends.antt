@@ -8,15 +8,16 @@ use Rattle.cf_policy.specs.declared.Asset.{Asset}
 use Rattle.cf_policy.specs.declared.Policy.{Policy}
 use Rattle.cf_policylang.specs.declared.PolicyRefusal.{PolicyRefusal}
 use Rattle.cf_box.specs.Check.{CheckLeaves, Checks}
-use Rattle.cf_words.specs.Command.{Command, Check, Compare, Judge, Migrate, Packets, Review, Run, Relay, World, Sift, asset_name, other_file}
+use Rattle.cf_words.specs.Command.{Command, Check, Compare, Judge, Migrate, Packets}
+use Rattle.cf_words.specs.Command.{Review, Run, Relay, World, Sift, asset_name, other_file}
 use Rattle.cf_words.specs.Command.{policy_file, Learn}
 use Rattle.cf_box.specs.Compare.{CompareLeaves, Compares, DeniesInclusion, FilesExceed}
-use Rattle.cf_box.specs.Ending.{Puts, Reports}
+use Rattle.cf_ending.specs.Ending.{Puts, Reports}
 use Rattle.cf_box.specs.Judge.{JudgesClean, Objects}
 use Rattle.cf_box.specs.Watching.{WatchCuts, WatchRefuses}
 use Rattle.cf_box.specs.Learn.{FilesShowTooMuch, LearnLeaves, WritesLearned}
 use Rattle.cf_box.specs.Migrate.{MigrateLeaves, Migrates}
-use Rattle.cf_box.specs.Outside.{Outside, ReadFailed, WriteFailed}
+use Rattle.cf_ending.specs.Outside.{Outside, ReadFailed, WriteFailed}
 use Rattle.cf_box.specs.Packets.{ListingCuts, ListingRefuses, Lists, PacketsLeaves}
 use Rattle.cf_box.specs.PolicyFile.{HasPolicy, IsRefusedBy, asset_named}
 use Rattle.cf_box.specs.Relay.{CutsRelay, EndsRelayIdle, RelayLeaves, Relays}
@@ -24,11 +25,11 @@ use Rattle.cf_box.specs.Review.{DoesReview, Remarks, ReviewLeaves}
 use Rattle.cf_box.specs.Run.{RunCuts, RunLeaves, RunRefuses, Runs}
 use Rattle.cf_box.specs.Sift.{CutsSift, SiftLeaves, Sifts}
 use Rattle.cf_box.specs.World.{MakesAndRuns, WorldLeaves}
-use Rattle.cf_box.specs.declared.denial.Denial.{Denial}
-use Rattle.cf_box.specs.declared.ending.CaptureRefusal.{CaptureRefusal}
-use Rattle.cf_box.specs.declared.ending.Done.{Done}
-use Rattle.cf_box.specs.declared.ending.Stop.{Stop}
-use Rattle.cf_box.specs.declared.ending.Stop.TheVariants as stop
+use Rattle.cf_ending.specs.declared.Denial.{Denial}
+use Rattle.cf_ending.specs.declared.CaptureRefusal.{CaptureRefusal}
+use Rattle.cf_ending.specs.declared.Done.{Done}
+use Rattle.cf_ending.specs.declared.Stop.{Stop}
+use Rattle.cf_ending.specs.declared.Stop.TheVariants as stop
 
 -- the policy that a command makes for itself means one: it can be refused only where its file does not tell what it holds
 abbrev pub RefusesMadePolicy : Command → Outside → Type 0

@@ -1,17 +1,11 @@
-pub mod Captures
 pub mod Check
 pub mod Compare
-pub mod Denial
-pub mod Ending
 pub mod Ends
 pub mod Judge
 pub mod Laws
 pub mod Learn
 pub mod Limits
 pub mod Migrate
-pub mod Objection
-pub mod Outside
-pub mod PacketLine
 pub mod Packets
 pub mod PolicyFile
 pub mod Relay

@@ -5,11 +5,11 @@ use Rattle.cf_policy.specs.declared.Policy.{Policy}
 use Rattle.cf_box.specs.Check.{ChangesNothing}
 use Rattle.cf_words.specs.Command.{Command, Migrate}
 use Rattle.cf_words.specs.Names.{are_names}
-use Rattle.cf_box.specs.Outside.{Outside}
+use Rattle.cf_ending.specs.Outside.{Outside}
 use Rattle.cf_box.specs.PolicyFile.{HasPolicy, HoldsPolicyPart, HoldsPolicyText, counted}
-use Rattle.cf_box.specs.declared.ending.Done.{Done}
-use Rattle.cf_box.specs.declared.ending.Stop.{Stop}
-use Rattle.cf_box.specs.declared.ending.Stop.TheVariants as stop
+use Rattle.cf_ending.specs.declared.Done.{Done}
+use Rattle.cf_ending.specs.declared.Stop.{Stop}
+use Rattle.cf_ending.specs.declared.Stop.TheVariants as stop
 
 module _ (policy out : List ℕ) (before after : Outside) where
   -- the one file was created and holds a text that means exactly what the other means

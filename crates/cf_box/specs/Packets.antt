@@ -10,17 +10,17 @@ use Rattle.cf_records.specs.declared.Form.{Form}
 use Rattle.cf_records.specs.declared.record_reader.OpenFault.{OpenFault}
 use Rattle.cf_records.specs.declared.record_reader.OpenFault.TheVariants as opened
 use Rattle.cf_watch.specs.Watch.{HasRecords}
-use Rattle.cf_box.specs.declared.ending.CaptureRefusal.{CaptureRefusal}
-use Rattle.cf_box.specs.declared.ending.CaptureRefusal.TheVariants as refusal
-use Rattle.cf_box.specs.Captures.{EndsAt, Refuses, form_refusal}
+use Rattle.cf_ending.specs.declared.CaptureRefusal.{CaptureRefusal}
+use Rattle.cf_ending.specs.declared.CaptureRefusal.TheVariants as refusal
+use Rattle.cf_ending.specs.Captures.{EndsAt, Refuses, form_refusal}
 use Rattle.cf_words.specs.Command.{Command, Packets}
 use Rattle.cf_words.specs.Names.{are_names}
-use Rattle.cf_box.specs.Outside.{Outside, SinkValue}
-use Rattle.cf_box.specs.PacketLine.{lines_from}
-use Rattle.cf_box.specs.declared.ending.Done.{Done}
-use Rattle.cf_box.specs.declared.ending.Done.TheVariants as done
-use Rattle.cf_box.specs.declared.ending.Stop.{Stop}
-use Rattle.cf_box.specs.declared.ending.Stop.TheVariants as stop
+use Rattle.cf_ending.specs.Outside.{Outside, SinkValue}
+use Rattle.cf_ending.specs.PacketLine.{lines_from}
+use Rattle.cf_ending.specs.declared.Done.{Done}
+use Rattle.cf_ending.specs.declared.Done.TheVariants as done
+use Rattle.cf_ending.specs.declared.Stop.{Stop}
+use Rattle.cf_ending.specs.declared.Stop.TheVariants as stop
 
 -- ---- why a capture is not listed, or not to its end
 

@@ -6,10 +6,10 @@ use Rattle.cf_policy.specs.declared.Asset.{Asset}
 use Rattle.cf_policy.specs.declared.Policy.{Policy}
 use Rattle.cf_policylang.specs.Documents.{policy_meaning, text_meaning}
 use Rattle.cf_policylang.specs.declared.PolicyRefusal.{PolicyRefusal}
-use Rattle.cf_box.specs.declared.ending.Done.{Done}
-use Rattle.cf_box.specs.declared.ending.Done.TheVariants as done
-use Rattle.cf_box.specs.declared.ending.Stop.{Stop}
-use Rattle.cf_box.specs.declared.ending.Stop.TheVariants as stop
+use Rattle.cf_ending.specs.declared.Done.{Done}
+use Rattle.cf_ending.specs.declared.Done.TheVariants as done
+use Rattle.cf_ending.specs.declared.Stop.{Stop}
+use Rattle.cf_ending.specs.declared.Stop.TheVariants as stop
 
 -- the file's bytes mean this policy
 pub record HasPolicy (file : Content) (p : Policy) : Type 0 where

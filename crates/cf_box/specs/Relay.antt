@@ -20,12 +20,12 @@ use Rattle.cf_relay.specs.declared.done.RelayFault.TheVariants as fault
 use Rattle.cf_box.specs.Check.{ChangesNothing}
 use Rattle.cf_words.specs.Command.{Command, Relay}
 use Rattle.cf_words.specs.Names.{are_names, printed_number_in}
-use Rattle.cf_box.specs.Outside.{Outside}
+use Rattle.cf_ending.specs.Outside.{Outside}
 use Rattle.cf_box.specs.PolicyFile.{FindsAsset, StopsPolicy, TellsAsset}
-use Rattle.cf_box.specs.declared.ending.Done.{Done}
-use Rattle.cf_box.specs.declared.ending.Done.TheVariants as done
-use Rattle.cf_box.specs.declared.ending.Stop.{Stop}
-use Rattle.cf_box.specs.declared.ending.Stop.TheVariants as stop
+use Rattle.cf_ending.specs.declared.Done.{Done}
+use Rattle.cf_ending.specs.declared.Done.TheVariants as done
+use Rattle.cf_ending.specs.declared.Stop.{Stop}
+use Rattle.cf_ending.specs.declared.Stop.TheVariants as stop
 
 -- ---- what a relay did
 

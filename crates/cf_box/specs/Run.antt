@@ -10,18 +10,18 @@ use Rattle.cf_run.specs.declared.run.RunFault.{RunFault}
 use Rattle.cf_run.specs.declared.run.RunFault.TheVariants as fault
 use Rattle.cf_run.specs.declared.run.RunRefusal.TheVariants as by
 use Rattle.cf_run.specs.declared.summary.Summary.{Summary}
-use Rattle.cf_box.specs.Captures.{EndsAt, Refuses, block_refusal, form_refusal}
+use Rattle.cf_ending.specs.Captures.{EndsAt, Refuses, block_refusal, form_refusal}
 use Rattle.cf_box.specs.Check.{ChangesNothing}
 use Rattle.cf_words.specs.Command.{Command, Run}
 use Rattle.cf_words.specs.Names.{are_names}
-use Rattle.cf_box.specs.Outside.{Outside}
+use Rattle.cf_ending.specs.Outside.{Outside}
 use Rattle.cf_box.specs.PolicyFile.{HasPolicy, StopsPolicy}
-use Rattle.cf_box.specs.declared.ending.CaptureRefusal.{CaptureRefusal}
-use Rattle.cf_box.specs.declared.ending.CaptureRefusal.TheVariants as refusal
-use Rattle.cf_box.specs.declared.ending.Done.{Done}
-use Rattle.cf_box.specs.declared.ending.Done.TheVariants as done
-use Rattle.cf_box.specs.declared.ending.Stop.{Stop}
-use Rattle.cf_box.specs.declared.ending.Stop.TheVariants as stop
+use Rattle.cf_ending.specs.declared.CaptureRefusal.{CaptureRefusal}
+use Rattle.cf_ending.specs.declared.CaptureRefusal.TheVariants as refusal
+use Rattle.cf_ending.specs.declared.Done.{Done}
+use Rattle.cf_ending.specs.declared.Done.TheVariants as done
+use Rattle.cf_ending.specs.declared.Stop.{Stop}
+use Rattle.cf_ending.specs.declared.Stop.TheVariants as stop
 
 -- ---- why a capture is no input of a run
 

@@ -8,8 +8,8 @@ use Rattle.cf_policy.specs.declared.Policy.{Policy}
 use Rattle.cf_run.specs.Headline.{HasHeadline}
 use Rattle.cf_run.specs.RunCapture.{RunNamesValue, RunsTo}
 use Rattle.cf_run.specs.declared.summary.Summary.{Summary}
-use Rattle.cf_box.specs.Ending.{summary_text}
-use Rattle.cf_box.specs.Outside.{Outside}
+use Rattle.cf_ending.specs.Ending.{summary_text}
+use Rattle.cf_ending.specs.Outside.{Outside}
 use Rattle.cf_box.specs.PolicyFile.{HasPolicy}
 
 -- The policy's bytes mean a policy; the capture's records up to its end were run over by it; the two outputs hold what the box

@@ -15,12 +15,12 @@ use Rattle.cf_serve.specs.Served.{Serves}
 use Rattle.cf_serve.specs.declared.ServeFault.{ServeFault}
 use Rattle.cf_serve.specs.declared.ServeFault.TheVariants as fault
 use Rattle.cf_serve.specs.declared.table.Place.{Place}
-use Rattle.cf_box.specs.Ending.{Prints, Puts, stop_status, stop_text}
-use Rattle.cf_box.specs.Outside.{FilesValue, SinkValue, files_value, sink_value}
+use Rattle.cf_ending.specs.Ending.{Prints, Puts, stop_status, stop_text}
+use Rattle.cf_ending.specs.Outside.{FilesValue, SinkValue, files_value, sink_value}
 use Rattle.cf_box.specs.PolicyFile.{HasPolicy, IsRefusedBy, asset_named}
 use Rattle.cf_box.specs.ServiceWords.{PlaceWord, ServiceWords}
-use Rattle.cf_box.specs.declared.ending.Stop.{Stop}
-use Rattle.cf_box.specs.declared.ending.Stop.TheVariants as stop
+use Rattle.cf_ending.specs.declared.Stop.{Stop}
+use Rattle.cf_ending.specs.declared.Stop.TheVariants as stop
 
 -- each place has the policy's asset of its name, at its endpoint
 abbrev pub ArePlaces : Policy → List PlaceWord → List Place → Type 0

@@ -10,14 +10,14 @@ use Rattle.cf_watch.specs.declared.WatchFault.{WatchFault}
 use Rattle.cf_watch.specs.declared.WatchFault.TheVariants as fault
 use Rattle.cf_watch.specs.declared.WatchRefusal.TheVariants as watch
 use Rattle.cf_watch.specs.declared.fault.TheConstants.{CAPTURE_LIMIT}
-use Rattle.cf_box.specs.Captures.{Refuses, block_refusal, form_refusal}
-use Rattle.cf_box.specs.Outside.{Outside}
+use Rattle.cf_ending.specs.Captures.{Refuses, block_refusal, form_refusal}
+use Rattle.cf_ending.specs.Outside.{Outside}
 use Rattle.cf_box.specs.Packets.{HasListedRecords}
 use Rattle.cf_box.specs.PolicyFile.{HasPolicy}
-use Rattle.cf_box.specs.declared.ending.CaptureRefusal.{CaptureRefusal}
-use Rattle.cf_box.specs.declared.ending.CaptureRefusal.TheVariants as refusal
-use Rattle.cf_box.specs.declared.ending.Stop.{Stop}
-use Rattle.cf_box.specs.declared.ending.Stop.TheVariants as stop
+use Rattle.cf_ending.specs.declared.CaptureRefusal.{CaptureRefusal}
+use Rattle.cf_ending.specs.declared.CaptureRefusal.TheVariants as refusal
+use Rattle.cf_ending.specs.declared.Stop.{Stop}
+use Rattle.cf_ending.specs.declared.Stop.TheVariants as stop
 
 -- why the work stops where the capture is not watched to its end
 abbrev pub fault_stop : WatchFault → Stop

@@ -7,12 +7,12 @@ use Rattle.cf_world.specs.declared.WorldFault.{WorldFault}
 use Rattle.cf_world.specs.declared.WorldFault.TheVariants as fault
 use Rattle.cf_words.specs.Command.{Command, World}
 use Rattle.cf_words.specs.Names.{are_names, printed_number_in}
-use Rattle.cf_box.specs.Outside.{Outside}
+use Rattle.cf_ending.specs.Outside.{Outside}
 use Rattle.cf_box.specs.Run.{RunLeaves, Runs}
 use Rattle.cf_box.specs.RunHolds.{RunHolds}
-use Rattle.cf_box.specs.declared.ending.Done.{Done}
-use Rattle.cf_box.specs.declared.ending.Stop.{Stop}
-use Rattle.cf_box.specs.declared.ending.Stop.TheVariants as stop
+use Rattle.cf_ending.specs.declared.Done.{Done}
+use Rattle.cf_ending.specs.declared.Stop.{Stop}
+use Rattle.cf_ending.specs.declared.Stop.TheVariants as stop
 
 -- the files that are made before the run
 abbrev pub made_names : (policy : List ℕ) → RunNamesValue → WorldNamesValue

@@ -3,14 +3,13 @@ ghost use Rattle.std.specs.Prelude.{◌≡◌};
 ghost use Rattle.cf_words.specs.Command.{Compare};
 ghost use Rattle.cf_box.specs.Compare.{Says};
 ghost use Rattle.cf_box.specs.Ends.{Meets};
-ghost use Rattle.cf_box.specs.Outside.{FilesNeverFall, SinkValue, files_value, outside};
+ghost use Rattle.cf_ending.specs.Outside.{FilesNeverFall, SinkValue, files_value, outside};
 ghost use Rattle.cf_outside.specs.PairValue.{PairValue};
 ghost use Rattle.cf_policy.specs.Within.{IsWithin};
 
-use crate::denial::Denial;
-use crate::ending::{Done, Stop};
 use crate::policy_file::{load_policy, name_at};
 use cf_compare::{CompareFault, Compared, compare};
+use cf_ending::{Denial, Done, Stop};
 use cf_outside::Files;
 use cf_policy::Policy;
 use std::alloc::Global;

@@ -4,7 +4,7 @@ ghost use Rattle.std.specs.Option.{option_map_or};
 ghost use Rattle.cf_words.specs.Command.{Judge};
 ghost use Rattle.cf_box.specs.Ends.{Meets};
 ghost use Rattle.cf_box.specs.Judge.{IsTold, IsToldAs, SaysOfFlows};
-ghost use Rattle.cf_box.specs.Outside.{FilesNeverFall, SinkValue, files_value, outside};
+ghost use Rattle.cf_ending.specs.Outside.{FilesNeverFall, SinkValue, files_value, outside};
 ghost use Rattle.cf_outside.specs.PairValue.{PairValue};
 ghost use Rattle.cf_policy.specs.Names.{name_of};
 ghost use Rattle.cf_policy.specs.Within.{IsWithin};
@@ -12,10 +12,9 @@ ghost use Rattle.cf_policy.specs.declared.Asset.{Asset as AssetOf};
 ghost use Rattle.cf_policy.specs.declared.limits.TheConstants.{LONGEST_NAME};
 ghost use Rattle.cf_watch.specs.FlowValue.{IsForAsset, flow_value};
 
-use crate::denial::{AssetName, Denial};
-use crate::ending::{Done, Stop};
-use crate::objection::{Ground, Objected};
 use crate::policy_file::load_policy;
+use crate::watching::fault_stop;
+use cf_ending::{AssetName, Denial, Done, Ground, Objected, Stop};
 use cf_judge::{Complaint, Objection, judge};
 use cf_outside::Files;
 use cf_policy::{Asset, Decider, Policy, Rule};
@@ -39,7 +38,7 @@ pub(crate) fn judge_capture<F: Files>(
     };
     let flows = match watch(alloc, &meaning, capture, files) {
         Ok(flows) => flows,
-        Err(fault) => return Err(Stop::from(fault)),
+        Err(fault) => return Err(fault_stop(fault)),
     };
     judge_flows(alloc, &meaning, flows.as_slice())
 }

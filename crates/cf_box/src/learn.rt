@@ -3,13 +3,14 @@ ghost use Rattle.std.specs.Prelude.{◌≡◌, map};
 ghost use Rattle.cf_words.specs.Command.{Learn};
 ghost use Rattle.cf_box.specs.Ends.{Meets};
 ghost use Rattle.cf_box.specs.Learn.{LearnsAs};
-ghost use Rattle.cf_box.specs.Outside.{FilesNeverFall, SinkValue, files_value, outside};
+ghost use Rattle.cf_ending.specs.Outside.{FilesNeverFall, SinkValue, files_value, outside};
 ghost use Rattle.cf_outside.specs.PairValue.{PairValue};
 ghost use Rattle.cf_policy.specs.Within.{IsWithin};
 ghost use Rattle.cf_watch.specs.FlowValue.{flow_value};
 
-use crate::ending::{Done, Stop};
 use crate::policy_file::{load_policy, name_at, write_policy};
+use crate::watching::fault_stop;
+use cf_ending::{Done, Stop};
 use cf_learn::{LearnFault, learn};
 use cf_outside::Files;
 use cf_policy::Policy;
@@ -35,7 +36,7 @@ pub(crate) fn learn_capture<F: Files>(
     };
     let flows = match watch(alloc, &policy, capture, files) {
         Ok(flows) => flows,
-        Err(fault) => return Err(Stop::from(fault)),
+        Err(fault) => return Err(fault_stop(fault)),
     };
     match learned(alloc, &policy, flows.as_slice()) {
         Ok(policy) => write_policy(alloc, &policy, out, files),

@@ -3,18 +3,18 @@ ghost use Rattle.std.specs.Prelude.{◌≡◌, ◌+◌, ◌≤◌, ◌⊎◌, �
 ghost use Rattle.arrayvec.specs.ArrayVec.{array_vec_len};
 ghost use Rattle.cf_words.specs.Command.{Packets};
 ghost use Rattle.cf_box.specs.Ends.{Meets};
-ghost use Rattle.cf_box.specs.Outside.{FilesNeverFall, files_value, outside, sink_value};
-ghost use Rattle.cf_box.specs.PacketLine.{record_line};
-ghost use Rattle.cf_box.specs.Packets.{ListsFile};
+ghost use Rattle.cf_ending.specs.Outside.{FilesNeverFall, files_value, outside, sink_value};
+ghost use Rattle.cf_ending.specs.PacketLine.{record_line};
+ghost use Rattle.cf_box.specs.Packets.{ListsFile, open_stop};
 ghost use Rattle.cf_outside.specs.Faults.{HasCause, Rose};
+ghost use Rattle.cf_outside.specs.Frames.{OnlyReads};
 ghost use Rattle.cf_outside.specs.PairValue.{PairValue};
 ghost use Rattle.cf_outside.specs.Sink.{Puts, printed_with};
 ghost use Rattle.cf_records.specs.Form.{first_place};
 ghost use Rattle.cf_records.specs.Reader.{HasForm};
 
-use crate::ending::{CaptureRefusal, Done, Stop};
-use crate::packet_line::{LONGEST_LINE, spell_line};
 use arrayvec::ArrayVec;
+use cf_ending::{CaptureRefusal, Done, LONGEST_LINE, Stop, spell_line};
 use cf_outside::{Files, Sink, WriteAnswer};
 use cf_records::{NextRecord, OpenFault, RecordReader};
 use cf_view::LinkKind;
@@ -23,18 +23,14 @@ use std::alloc::Global;
 /// Lines that are made and not put yet: at most 32 KiB.
 type Lines = ArrayVec<u8, 32_768>;
 
-impl From<OpenFault> for Stop {
-    ghost use Rattle.std.specs.Prelude.{◌≡◌};
-    ghost use Rattle.cf_box.specs.Packets.{open_stop};
-
-    ghost from_gives = { λ fault stop. stop ≡ open_stop fault };
-
-    fn from(fault: OpenFault) -> Self {
-        match fault {
-            OpenFault::NoMemory => Stop::NoMemory,
-            OpenFault::Read => Stop::ReadFault,
-            OpenFault::Refused(refusal) => Stop::from(refusal),
-        }
+/// Why a listing stops where its capture was not opened.
+fn open_stop(fault: OpenFault) -> Stop
+    ensures { result ≡ open_stop fault }
+{
+    match fault {
+        OpenFault::NoMemory => Stop::NoMemory,
+        OpenFault::Read => Stop::ReadFault,
+        OpenFault::Refused(refusal) => Stop::from(refusal),
     }
 }
 
@@ -56,7 +52,7 @@ pub(crate) fn packets<F: Files, O: Sink>(
 {
     match RecordReader::open(alloc, name, files) {
         Ok(mut reader) => list_records(name, &mut reader, files, out),
-        Err(fault) => Err(Stop::from(fault)),
+        Err(fault) => Err(open_stop(fault)),
     }
 }
 
@@ -70,9 +66,7 @@ fn list_records<F: Files, O: Sink>(
     requires form { HasForm (F.content files.old name.now) (Ok reader.old.form) }
     requires place { reader.old.place ≡ first_place reader.old.form }
     ensures lists { ListsFile (F.content files.old name.now) (sink_value O.Sink out.old) (sink_value O.Sink out.new) result }
-    ensures same { F.content files.new ≡ F.content files.old }
-    ensures read { HasCause (F.read_faults files.old) (F.read_faults files.new) (IsErrOf result Stop.ReadFault) }
-    ensures writes { F.write_faults files.new ≡ F.write_faults files.old }
+    ensures reads { OnlyReads F.content F.read_faults F.write_faults files.old files.new (IsErrOf result Stop.ReadFault) }
     ensures puts { O.faults out.old ≤ O.faults out.new }
 {
     let mut lines = Lines::new();

@@ -2,15 +2,14 @@
 ghost use Rattle.std.specs.Prelude.{◌≡◌, ◌≢◌, ◌∷◌, [], Err, IfErr, IfOk, IfSome, Some, bytes_eq, find, option_map, slice_get};
 ghost use Rattle.cf_words.specs.Command.{Command, policy_file};
 ghost use Rattle.cf_box.specs.Ends.{StopsFor};
-ghost use Rattle.cf_box.specs.Outside.{ReadsOnly, SinkValue, files_value, outside};
+ghost use Rattle.cf_ending.specs.Outside.{ReadsOnly, SinkValue, files_value, outside};
 ghost use Rattle.cf_box.specs.PolicyFile.{HasPolicy, StopsPolicy, WritesPolicy, asset_named, counted, rule_count};
 ghost use Rattle.cf_outside.specs.Frames.{OnlyWrites};
 ghost use Rattle.cf_outside.specs.PairValue.{PairValue};
 ghost use Rattle.cf_policy.specs.Within.{AreAssetsWithin, IsAssetWithin, IsWithin};
 ghost use Rattle.cf_policy.specs.declared.Asset.{Asset};
 
-use crate::denial::AssetName;
-use crate::ending::{Done, Stop};
+use cf_ending::{AssetName, Done, Stop};
 use cf_outside::{Files, WholeFault, read_whole, write_whole};
 use cf_policy::{Asset, Policy};
 use cf_policylang::{Cause, Key, PolicyFault, PolicyRefusal, migrated_text, read_policy};

@@ -2,12 +2,12 @@
 ghost use Rattle.std.specs.Prelude.{◌≡◌, ◌≤◌};
 ghost use Rattle.cf_words.specs.Command.{Relay};
 ghost use Rattle.cf_box.specs.Ends.{Meets};
-ghost use Rattle.cf_box.specs.Outside.{FilesNeverFall, SinkValue, files_value, outside};
+ghost use Rattle.cf_ending.specs.Outside.{FilesNeverFall, SinkValue, files_value, outside};
 ghost use Rattle.cf_box.specs.Relay.{relay_answer};
 ghost use Rattle.cf_outside.specs.PairValue.{pair_value};
 
-use crate::ending::{Done, Stop};
 use crate::policy_file::{find_asset, load_policy};
+use cf_ending::{Done, Stop};
 use cf_outside::{Files, Pair};
 use cf_relay::{RelayDone, RelayEnd, RelayFault};
 use std::alloc::Global;

@@ -2,13 +2,13 @@
 ghost use Rattle.std.specs.Prelude.{◌≡◌};
 ghost use Rattle.cf_words.specs.Command.{Review};
 ghost use Rattle.cf_box.specs.Ends.{Meets};
-ghost use Rattle.cf_box.specs.Outside.{FilesNeverFall, SinkValue, files_value, outside};
+ghost use Rattle.cf_ending.specs.Outside.{FilesNeverFall, SinkValue, files_value, outside};
 ghost use Rattle.cf_box.specs.Review.{AnswersBy};
 ghost use Rattle.cf_outside.specs.PairValue.{PairValue};
 
-use crate::denial::Denial;
-use crate::ending::{Done, Stop};
 use crate::policy_file::load_policy;
+use crate::watching::fault_stop;
+use cf_ending::{Denial, Done, Stop};
 use cf_outside::Files;
 use cf_review::{Reviewed, count, review, write_lines};
 use cf_watch::watch_recording;
@@ -32,7 +32,7 @@ pub(crate) fn review_capture<F: Files>(
     };
     let recording = match watch_recording(alloc, &policy, capture, files) {
         Ok(recording) => recording,
-        Err(fault) => return Err(Stop::from(fault)),
+        Err(fault) => return Err(fault_stop(fault)),
     };
     let reviewed = match review(alloc, &policy, recording.flows.as_slice()) {
         Ok(reviewed) => reviewed,

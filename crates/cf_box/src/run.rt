@@ -2,36 +2,31 @@
 ghost use Rattle.std.specs.Prelude.{◌≡◌};
 ghost use Rattle.cf_words.specs.Command.{Run};
 ghost use Rattle.cf_box.specs.Ends.{Meets};
-ghost use Rattle.cf_box.specs.Outside.{FilesNeverFall, SinkValue, files_value, outside};
+ghost use Rattle.cf_ending.specs.Outside.{FilesNeverFall, SinkValue, files_value, outside};
 ghost use Rattle.cf_outside.specs.PairValue.{PairValue};
 ghost use Rattle.cf_run.specs.RunCapture.{AreApart, run_names_value};
+ghost use Rattle.cf_box.specs.Run.{run_stop};
 
-use crate::ending::{CaptureRefusal, Done, Stop};
 use crate::policy_file::load_policy;
+use cf_ending::{CaptureRefusal, Done, Stop};
 use cf_outside::Files;
 use cf_run::{RunFault, RunNames, RunRefusal, run_capture};
 use std::alloc::Global;
 
-impl From<RunFault> for Stop {
-    ghost use Rattle.std.specs.Prelude.{◌≡◌};
-    ghost use Rattle.cf_box.specs.Run.{run_stop};
-
-    ghost from_gives = { λ fault stop. stop ≡ run_stop fault };
-
-    fn from(fault: RunFault) -> Self {
-        match fault {
-            RunFault::NoMemory => Stop::NoMemory,
-            RunFault::Read => Stop::ReadFault,
-            RunFault::Write => Stop::WriteFault,
-            RunFault::Refused(RunRefusal::Header(refusal)) => Stop::from(refusal),
-            RunFault::Refused(RunRefusal::Block(refusal)) => Stop::from(refusal),
-            RunFault::Refused(RunRefusal::TooLong) => {
-                Stop::CaptureRefused(CaptureRefusal::TooLong)
-            }
-            RunFault::Refused(RunRefusal::Clock) => Stop::CaptureRefused(CaptureRefusal::Clock),
-            RunFault::Refused(RunRefusal::Large) => Stop::CaptureRefused(CaptureRefusal::Large),
-            RunFault::Cut { at, summary } => Stop::RunCut(at, summary),
-        }
+/// Why a run stops.
+fn run_stop(fault: RunFault) -> Stop
+    ensures { result ≡ run_stop fault }
+{
+    match fault {
+        RunFault::NoMemory => Stop::NoMemory,
+        RunFault::Read => Stop::ReadFault,
+        RunFault::Write => Stop::WriteFault,
+        RunFault::Refused(RunRefusal::Header(refusal)) => Stop::from(refusal),
+        RunFault::Refused(RunRefusal::Block(refusal)) => Stop::from(refusal),
+        RunFault::Refused(RunRefusal::TooLong) => { Stop::CaptureRefused(CaptureRefusal::TooLong) }
+        RunFault::Refused(RunRefusal::Clock) => Stop::CaptureRefused(CaptureRefusal::Clock),
+        RunFault::Refused(RunRefusal::Large) => Stop::CaptureRefused(CaptureRefusal::Large),
+        RunFault::Cut { at, summary } => Stop::RunCut(at, summary),
     }
 }
 
@@ -53,6 +48,6 @@ pub(crate) fn run<F: Files>(
     };
     match run_capture(alloc, &policy, names, files) {
         Ok(summary) => Ok(Done::Ran(summary)),
-        Err(fault) => Err(Stop::from(fault)),
+        Err(fault) => Err(run_stop(fault)),
     }
 }

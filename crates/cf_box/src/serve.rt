@@ -1,6 +1,6 @@
 //! `serve POLICY SECONDS LOG NAME=A.B.C.D:PORT..`: a policy between many clients and their controllers.
 ghost use Rattle.std.specs.Prelude.{◌≡◌, ◌⊎◌, ◌++◌, ◌-◌, ◌^◌, Err, IfErr, List, OnOk, Some, false, map, string_bytes, ℕ};
-ghost use Rattle.cf_box.specs.Outside.{files_value};
+ghost use Rattle.cf_ending.specs.Outside.{files_value};
 ghost use Rattle.cf_box.specs.PolicyFile.{HasPolicy};
 ghost use Rattle.cf_box.specs.Service.{ArePlaces, HasServed, LacksPlace, ServiceEnds, StopsService, service_outside, service_stop};
 ghost use Rattle.cf_box.specs.ServiceWords.{IsFitService, place_word_value, service_of, service_value};
@@ -10,9 +10,9 @@ ghost use Rattle.cf_policy.specs.Within.{IsWithin};
 ghost use Rattle.cf_serve.specs.Laws.{EachIsAlone, IsolatesSessions};
 ghost use Rattle.cf_serve.specs.declared.table.Place.{Place as PlaceOf};
 
-use crate::ending::{Stop, put_text, report};
 use crate::policy_file::{find_asset, load_policy};
 use crate::service::{PlaceWord, Service, read_service};
+use cf_ending::{Stop, put_text, report};
 use cf_links::Service as Links;
 use cf_outside::{Files, Sink};
 use cf_policy::Policy;
@@ -72,7 +72,8 @@ fn serve_places<F: Files, L: Links>(
         (λ made. made ≡ 2 ^ 64 - 1)) }
     ensures stops { IfErr result (λ s. StopsService (service_value service.now) (files_value F.Files files.old)
         (files_value F.Files files.new)
-        (L.told links.old) (L.told links.new) (LinksPlace.round_faults (L.place links.old)) (LinksPlace.round_faults (L.place links.new)) s) }
+        (L.told links.old) (L.told links.new) (LinksPlace.round_faults (L.place links.old)) (LinksPlace.round_faults (L.place links.new))
+        s) }
     ensures others { KeepsOthers (service.now.log).now (F.content files.old) (F.content files.new) }
 {
     let mut places = Vec::new(alloc);
@@ -104,7 +105,8 @@ fn serve_policy<F: Files, L: Links>(
         (λ made. made ≡ 2 ^ 64 - 1)) }
     ensures stops { IfErr result (λ s. StopsService (service_value service.now) (files_value F.Files files.old)
         (files_value F.Files files.new)
-        (L.told links.old) (L.told links.new) (LinksPlace.round_faults (L.place links.old)) (LinksPlace.round_faults (L.place links.new)) s) }
+        (L.told links.old) (L.told links.new) (LinksPlace.round_faults (L.place links.old)) (LinksPlace.round_faults (L.place links.new))
+        s) }
     ensures others { KeepsOthers (service.now.log).now (F.content files.old) (F.content files.new) }
 {
     match load_policy(alloc, service.policy, files) {

@@ -2,29 +2,26 @@
 ghost use Rattle.std.specs.Prelude.{◌≡◌};
 ghost use Rattle.cf_words.specs.Command.{Sift};
 ghost use Rattle.cf_box.specs.Ends.{Meets};
-ghost use Rattle.cf_box.specs.Outside.{FilesNeverFall, SinkValue, files_value, outside};
+ghost use Rattle.cf_ending.specs.Outside.{FilesNeverFall, SinkValue, files_value, outside};
 ghost use Rattle.cf_outside.specs.PairValue.{PairValue};
 ghost use Rattle.cf_sift.specs.Names.{AreApart, sift_names_value};
+ghost use Rattle.cf_box.specs.Sift.{sift_stop};
 
-use crate::ending::{Done, Stop};
 use crate::policy_file::{find_asset, load_policy};
+use cf_ending::{Done, Stop};
 use cf_outside::Files;
 use cf_policylang::address;
 use cf_sift::{SiftFault, SiftNames, sift_stream};
 use std::alloc::Global;
 
-impl From<SiftFault> for Stop {
-    ghost use Rattle.std.specs.Prelude.{◌≡◌};
-    ghost use Rattle.cf_box.specs.Sift.{sift_stop};
-
-    ghost from_gives = { λ fault stop. stop ≡ sift_stop fault };
-
-    fn from(fault: SiftFault) -> Self {
-        match fault {
-            SiftFault::NoMemory => Stop::NoMemory,
-            SiftFault::Read => Stop::ReadFault,
-            SiftFault::Write => Stop::WriteFault,
-        }
+/// Why the filter of a stored stream stops.
+fn sift_stop(fault: SiftFault) -> Stop
+    ensures { result ≡ sift_stop fault }
+{
+    match fault {
+        SiftFault::NoMemory => Stop::NoMemory,
+        SiftFault::Read => Stop::ReadFault,
+        SiftFault::Write => Stop::WriteFault,
     }
 }
 
@@ -49,7 +46,10 @@ pub(crate) fn sift<F: Files>(
     let Some(asset) = find_asset(&policy, asset_name) else {
         return Err(Stop::UnknownAsset);
     };
-    let done = sift_stream(alloc, asset, client, names, files)?;
+    let done = match sift_stream(alloc, asset, client, names, files) {
+        Ok(done) => done,
+        Err(fault) => return Err(sift_stop(fault)),
+    };
     match done.cut {
         Some(reason) => Err(Stop::Cut(reason)),
         None => Ok(Done::Sifted {

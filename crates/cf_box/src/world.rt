@@ -3,29 +3,26 @@
 ghost use Rattle.std.specs.Prelude.{◌≡◌};
 ghost use Rattle.cf_words.specs.Command.{World};
 ghost use Rattle.cf_box.specs.Ends.{Meets};
-ghost use Rattle.cf_box.specs.Outside.{FilesNeverFall, SinkValue, files_value, outside};
+ghost use Rattle.cf_ending.specs.Outside.{FilesNeverFall, SinkValue, files_value, outside};
 ghost use Rattle.cf_words.specs.Forms.{IsFitWorld};
 ghost use Rattle.cf_outside.specs.PairValue.{PairValue};
 ghost use Rattle.cf_run.specs.RunCapture.{run_names_value};
+ghost use Rattle.cf_box.specs.World.{world_stop};
 
-use crate::ending::{Done, Stop};
 use crate::run::run;
+use cf_ending::{Done, Stop};
 use cf_outside::Files;
 use cf_run::RunNames;
 use cf_world::{WorldFault, WorldNames, make_world};
 use std::alloc::Global;
 
-impl From<WorldFault> for Stop {
-    ghost use Rattle.std.specs.Prelude.{◌≡◌};
-    ghost use Rattle.cf_box.specs.World.{world_stop};
-
-    ghost from_gives = { λ fault stop. stop ≡ world_stop fault };
-
-    fn from(fault: WorldFault) -> Self {
-        match fault {
-            WorldFault::NoMemory => Stop::NoMemory,
-            WorldFault::Write => Stop::WriteFault,
-        }
+/// Why the making of a world stops.
+fn world_stop(fault: WorldFault) -> Stop
+    ensures { result ≡ world_stop fault }
+{
+    match fault {
+        WorldFault::NoMemory => Stop::NoMemory,
+        WorldFault::Write => Stop::WriteFault,
     }
 }
 
@@ -49,6 +46,6 @@ pub(crate) fn world<F: Files>(
     };
     match make_world(alloc, seed, sessions as u32, &made, files) {
         Ok(()) => run(alloc, policy, names, files),
-        Err(fault) => Err(Stop::from(fault)),
+        Err(fault) => Err(world_stop(fault)),
     }
 }

@@ -6,14 +6,20 @@ ghost use Rattle.cf_dnplink.specs.LinkFrame.{SpellsFrame, with_crc, blocks_by, b
 
 use crate::check::crc;
 use arrayvec::ArrayVec;
-use cf_view::{View, push_bytes, push_u16_le};
+use cf_view::{View, push_u16_le, push_view};
 
 /// Replaces the contents of `out` by a frame with at most 250 user octets, 10 to 292 octets in all. IEEE 1815-2012, section 9.2.
-pub fn write_frame(control: u8, dest: u16, source: u16, user: &[u8], out: &mut ArrayVec<u8, 292>)
-    requires { length user.now ≤ 250 }
-    ensures written { out.new.items ≡ spelling control dest source user.now }
-    ensures spelled { SpellsFrame (frame_with control dest source user.now) out.new.items }
-    ensures again { (rest : List ℕ) → Begins SpellsFrame (out.new.items ++ rest) (frame_with control dest source user.now)
+pub fn write_frame(
+    control: u8,
+    dest: u16,
+    source: u16,
+    user: &View<'_>,
+    out: &mut ArrayVec<u8, 292>,
+)
+    requires { length user.now.bytes ≤ 250 }
+    ensures written { out.new.items ≡ spelling control dest source user.now.bytes }
+    ensures spelled { SpellsFrame (frame_with control dest source user.now.bytes) out.new.items }
+    ensures again { (rest : List ℕ) → Begins SpellsFrame (out.new.items ++ rest) (frame_with control dest source user.now.bytes)
         (array_vec_len out.new) }
 {
     out.clear();
@@ -22,13 +28,13 @@ pub fn write_frame(control: u8, dest: u16, source: u16, user: &[u8], out: &mut A
 }
 
 /// Appends octets and their CRC.
-fn push_block(out: &mut ArrayVec<u8, 292>, octets: &[u8])
-    requires { array_vec_len out.old + (length octets.now + 2) ≤ 292 }
-    ensures items { out.new.items ≡ out.old.items ++ with_crc octets.now }
-    ensures len { array_vec_len out.new ≡ array_vec_len out.old + (length octets.now + 2) }
+fn push_block(out: &mut ArrayVec<u8, 292>, octets: View<'_>)
+    requires { array_vec_len out.old + (length octets.bytes + 2) ≤ 292 }
+    ensures items { out.new.items ≡ out.old.items ++ with_crc octets.entry.bytes }
+    ensures len { array_vec_len out.new ≡ array_vec_len out.old + (length octets.entry.bytes + 2) }
 {
-    push_bytes(out, octets);
-    push_u16_le(out, crc(View::one(octets)));
+    push_view(out, &octets);
+    push_u16_le(out, crc(octets));
 }
 
 /// Appends the header of a frame, its CRC included.
@@ -47,17 +53,18 @@ fn push_header(out: &mut ArrayVec<u8, 292>, len: u8, control: u8, dest: u16, sou
         (source % 256) as u8,
         (source / 256) as u8,
     ];
-    push_block(out, &octets);
+    push_block(out, View::one(&octets));
 }
 
 /// Appends user octets in blocks of 16, each with its CRC.
-fn push_blocks(out: &mut ArrayVec<u8, 292>, user: &[u8])
-    requires user { length user.now ≤ 250 }
+fn push_blocks(out: &mut ArrayVec<u8, 292>, user: &View<'_>)
+    requires user { length user.now.bytes ≤ 250 }
     requires room { array_vec_len out.old ≡ 10 }
-    ensures { out.new.items ≡ out.old.items ++ blocks_of user.now }
+    ensures { out.new.items ≡ out.old.items ++ blocks_of user.now.bytes }
 {
-    let count = (user.len() + 15) / 16;
+    let len = user.len();
+    let count = (len + 15) / 16;
     for k in 0..count {
-        push_block(out, &user[16 * k..(16 * k + 16).min(user.len())]);
+        push_block(out, user.sub(16 * k, (16 * k + 16).min(len)));
     }
 }

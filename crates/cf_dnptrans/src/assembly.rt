@@ -94,6 +94,7 @@ impl Assembly {
     pub fn fragment(&self) -> View<'_>
         requires { self.now.whole ≡ true }
         ensures octets { result.bytes ≡ self.now.octets }
+        ensures one { result.split ≡ length result.bytes }
         ensures at_most { length result.bytes ≤ 2048 }
         ensures fragment { (segments : List (List ℕ)) → IsAssemblyOf self.now segments → last_fragment segments ≡ Some result.bytes }
     {

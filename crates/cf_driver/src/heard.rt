@@ -1,5 +1,6 @@
 //! What was heard of a side: its bytes that are no whole unit yet, and how many of its letters were taken. This project's own.
-ghost use Rattle.std.specs.Prelude.{◌≡◌, ◌+◌, ◌*◌, ◌^◌, ◌<◌, ◌≤◌, ◌++◌, [], ◌∷◌, IfOk, IfSome, OnErr, OnOk, IsErr, None, drop, length, true};
+ghost use Rattle.std.specs.Prelude.{◌≡◌, ◌+◌, ◌*◌, ◌^◌, ◌<◌, ◌≤◌, ◌++◌, [], ◌∷◌};
+ghost use Rattle.std.specs.Prelude.{IfOk, IfSome, OnErr, OnOk, IsErr, None, drop, length, true};
 ghost use Rattle.cf_driver.specs.Takes.{MissesEnd, MissesPiece, Takes};
 ghost use Rattle.cf_lane.specs.Handled.{EndsOther, HasRoom, IsLaneOf, IsOpen, MayEnd, WritesLog, debt, debt_limit, rest_limit, state};
 ghost use Rattle.cf_lane.specs.History.{bytes_at, end_at};
@@ -41,7 +42,8 @@ impl Heard {
 
     /// Hands the lane a piece of the side's bytes, after those that are left of it, at a moment in microseconds, and says why
     /// the session is cut, if it is. Each queue has room for twice the bytes, and for what unfinished fragments may still put
-    /// out. After a cut nothing is left, and no further call is made; where the desk fails, what was left stays; the line of the cut is the caller's to write.
+    /// out. After a cut nothing is left, and no further call is made; where the desk fails, what was left stays; the line of the
+    /// cut is the caller's to write.
     pub fn feed<D: Desk>(
         &mut self,
         asset: &Asset,

@@ -10,4 +10,4 @@ mod queue;
 pub use heard::Heard;
 pub use lengths::length_cut;
 pub use line::log_line;
-pub use queue::{are_small, front, pop, waiting};
+pub use queue::{are_small, front, pop};

@@ -7,9 +7,6 @@ ghost use Rattle.cf_stream.specs.Stream.{Stream};
 
 use cf_outq::{Outq, Piece};
 
-/// The bytes that a queue has room for.
-const ROOM: usize = 131_072;
-
 /// How many letters of a queue may wait where a side is still to send more. This project's own choice.
 const SMALL: i64 = 16_384;
 
@@ -31,13 +28,6 @@ fn is_small(queue: &Outq) -> bool
     queue.unacked() <= SMALL
 }
 
-/// How many bytes wait in a queue.
-pub fn waiting(queue: &Outq) -> usize
-    ensures { result ≡ length queue.now.kept }
-{
-    ROOM - queue.room()
-}
-
 /// Copies the oldest bytes of a queue, as many as `out` takes, and answers their number.
 pub fn front(queue: &Outq, out: &mut [u8]) -> usize
     ensures count { result ≡ min (length queue.now.kept) (length out.old) }
@@ -45,7 +35,7 @@ pub fn front(queue: &Outq, out: &mut [u8]) -> usize
     ensures rest { drop result out.new ≡ drop result out.old }
     ensures buffer { length out.new ≡ length out.old }
 {
-    let len = waiting(queue).min(out.len());
+    let len = queue.waiting().min(out.len());
     if len == 0 {
         return 0;
     }

@@ -12,7 +12,7 @@ use Rattle.cf_view.specs.declared.Side.{Side}
 use Rattle.std.proofs.Common.{List, [], ap, arith, drop, inl, inr, length, min, refl, reverse, suc, sym, take, true, zero, ℕ, ◌*◌, ◌++◌, ◌+◌, ◌-◌, ◌/◌, ◌<◌, ◌∙◌, ◌∷◌, ◌≡◌, ◌≤◌}
 use Rattle.std.proofs.lemmas.Bool.{cases_lt}
 use Rattle.std.proofs.lemmas.Grind.{flat_map-append}
-use Rattle.std.proofs.lemmas.List.{append-nil, length-append, length-drop, length-take, reverse-append, take_all}
+use Rattle.std.proofs.lemmas.List.{append-nil, length-append, length-drop, length-take, nil_from_length, reverse-append, take_all}
 use Rattle.std.specs.List.{flat_map}
 use Rattle.cf_dnplink.specs.LinkFrame as link
 use Rattle.cf_dnptrans.specs.Segments as pieces
@@ -28,6 +28,12 @@ segment_part xs from h =
           ∙ sym (take_all 249 (drop from xs) (omega (arith, v, h, size))))
       | inr v ↦ (let e : min (from + 249) (length xs) - from ≡ 249 = omega (arith, v, h) in ap (λ n. take n (drop from xs)) e)
     ]
+
+-- the first of two pieces is all, where it is as long
+pub one_piece : (all first second : List ℕ) → all ≡ first ++ second → length first ≡ length all → first ≡ all
+one_piece all first second both long =
+    let none : second ≡ [] = nil_from_length second (omega (arith, ap length both, length-append first second, long)) in
+    sym (both ∙ ap (λ xs. first ++ xs) none ∙ append-nil first)
 
 pub length-spelling : (control dest source : ℕ) (user : List ℕ) → length (link.spelling control dest source user) ≡ 10 + length user + 2 * ((length user + 15) / 16)
 length-spelling control dest source user =

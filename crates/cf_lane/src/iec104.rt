@@ -59,7 +59,8 @@ fn take_apdu<D: Desk>(
         (apdu_value apdu.now)
         (numbered numbers.old to_client.old to_controller.old (DeskValue.lines (D.value desk.old)))
         (DeskValue.lines (D.value desk.new)) (DeskValue.line_part (D.value desk.new))) }
-    ensures client_grows { IfOk result (λ f. Grows (unless_cut f (length (spelling (apdu_value apdu.now)))) 0 0 to_client.old to_client.new) }
+    ensures client_grows { IfOk result (λ f. Grows (unless_cut f (length (spelling (apdu_value apdu.now)))) 0 0 to_client.old
+        to_client.new) }
     ensures controller_grows { IfOk result (λ f. Grows (unless_cut f (length (spelling (apdu_value apdu.now)))) 0 0 to_controller.old
         to_controller.new) }
     ensures whole { OnOk result (DeskValue.whole (D.value desk.new) ≡ true) }

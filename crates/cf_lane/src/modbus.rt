@@ -149,7 +149,8 @@ fn reply(adu: &Adu<'_>, refusal: &Refusal, to_client: &mut Outq) -> bool
     requires at_most { length adu.now.pdu.bytes ≤ 253 }
     requires room { HasRoom 9 to_client.old }
     ensures replied { result ≡ is_some_bytes (adu_reply to_client.old.ended (Fate.Refused refusal.now) (adu_value adu.now)) }
-    ensures queue { to_client.new ≡ after_push to_client.old (adu_reply to_client.old.ended (Fate.Refused refusal.now) (adu_value adu.now)) }
+    ensures queue { to_client.new ≡ after_push to_client.old
+        (adu_reply to_client.old.ended (Fate.Refused refusal.now) (adu_value adu.now)) }
     ensures grows { Grows 9 0 0 to_client.old to_client.new }
 {
     if to_client.is_ended() {

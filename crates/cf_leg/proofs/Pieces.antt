@@ -1,6 +1,7 @@
 -- Pieces of a queue, and the segments that carry them.
-use Rattle.std.proofs.Common.{◌≡◌, ℕ, ◌+◌, ◌-◌, ◌<◌, ◌≤◌, min, max, Bool, true, false, cond, not, ◌&&◌, List, [], ◌∷◌, ◌++◌, length, refl, sym, ◌∙◌, ap, arith, Some, append_assoc, eq-eqb, lt-ltb, subst, drop, ◌⊎◌, inl, inr, ℤ}
+use Rattle.std.proofs.Common.{◌≡◌, ℕ, ◌+◌, ◌-◌, ◌<◌, ◌≤◌, min, max, Bool, true, false, cond, not, ◌&&◌, List, [], ◌∷◌, ◌++◌, length, refl, sym, ◌∙◌, ap, arith, Some, append_assoc, eq-eqb, lt-ltb, subst, drop, take, ◌⊎◌, inl, inr, ℤ}
 use Rattle.std.specs.Prelude.{MatchBool, ◌==◌, nat_lt, ◌↔◌, IsTrue}
+use Rattle.std.proofs.Math.Seq.{take-append-add}
 use Rattle.std.proofs.lemmas.List.{append-nil, length-take, length-drop}
 use Rattle.std.proofs.lemmas.Bool.{cases_lt, true≢false, eqb-true, ltb-true, ltb-false}
 use Rattle.cf_outside.specs.Desk.{DeskValue}
@@ -171,3 +172,11 @@ module _ (way : Way) (t : Advertised) (mss : ℕ) (due : Bool) (q : Queue) (now 
       by true false e whole s = subst (Pieces way t whole mss q.shown q.sent) (sym (append-nil sends.outs)) (sends.pieces whole s)
       by false true e whole s = ap (λ (ps : List PacketValue). ps ++ alone) (sends.none (ltb-false q.sent (min q.shown (queue_length q)) (sym e))).1
       by false false e whole s = append-nil sends.outs ∙ (sends.none (ltb-false q.sent (min q.shown (queue_length q)) (sym e))).1
+
+-- a text that stands behind 40 octets, and a head that was put over these
+pub headed : (head out text : List ℕ) (len : ℕ) → length head ≡ 40 → take (40 + len - 40) (drop 40 out) ≡ text →
+    take (40 + len) (head ++ drop 40 out) ≡ head ++ text
+headed head out text len long is =
+    let count : 40 + len ≡ length head + len = omega (arith, long) in
+    let size : len ≡ 40 + len - 40 = omega arith in
+    ap (λ n. take n (head ++ drop 40 out)) count ∙ take-append-add head (drop 40 out) len ∙ ap (λ n. head ++ take n (drop 40 out)) size ∙ ap (λ xs. head ++ xs) is

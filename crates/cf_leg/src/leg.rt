@@ -65,7 +65,20 @@ impl Model for Leg {
 
     ghost Value = { LegValue };
 
-    ghost view = { λ a. record { ends = a.ends; phase = a.phase; own = a.own; other = a.other; mss = a.mss; window = a.window; base = a.base; shown = a.shown; owes = a.owes; running = a.running; deadline = a.deadline; fired = a.fired } };
+    ghost view = { λ a. record {
+      ends = a.ends;
+      phase = a.phase;
+      own = a.own;
+      other = a.other;
+      mss = a.mss;
+      window = a.window;
+      base = a.base;
+      shown = a.shown;
+      owes = a.owes;
+      running = a.running;
+      deadline = a.deadline;
+      fired = a.fired;
+    } };
 
     ghost invariant = { λ a. IsLeg (record {
       ends = a.ends;

@@ -1,13 +1,13 @@
 //! Segments that go out.
 ghost use Rattle.std.specs.Prelude.{◌≡◌, ◌+◌, ◌-◌, ◌*◌, ◌%◌, ◌^◌, ◌<◌, ◌≤◌, ◌==◌, ◌↔◌, min, max, not, nat_lt, ◌&&◌, ◌||◌, if◌then◌else◌};
-ghost use Rattle.std.specs.Prelude.{true, false, [], ◌∷◌, length, None, Some, Ok, Err, IfOk, OnErr, OnOk, pos, ◌≤ℤ◌};
+ghost use Rattle.std.specs.Prelude.{true, false, List, ℕ, [], ◌∷◌, length, take, None, Some, Ok, Err, IfOk, OnErr, OnOk, pos, ◌≤ℤ◌};
 ghost use Rattle.cf_outside.specs.Desk.{DeskValue};
 ghost use Rattle.cf_outside.specs.Frames.{OnlyEmits};
 ghost use Rattle.std.specs.Result.{is_err};
 ghost use Rattle.cf_outq.specs.SendQueue.{IsQueue, IsUnacked, carried, queue_length};
 ghost use Rattle.cf_outq.specs.SendQueue.{IsQueueOf};
-ghost use Rattle.cf_packet.specs.Packet.{packet_value};
-ghost use Rattle.cf_packet.specs.Written.{IsWritable};
+ghost use Rattle.cf_packet.specs.Packet.{PacketValue, packet_value};
+ghost use Rattle.cf_packet.specs.Written.{IsWritable, packet_octets};
 ghost use Rattle.cf_stream.specs.Position.{place_or_zero, sequence_number};
 ghost use Rattle.cf_stream.specs.Stream.{Stream, no_letters};
 ghost use Rattle.cf_leg.specs.Emits.{piece};
@@ -20,11 +20,31 @@ use crate::ends::{Advertised, Way};
 use arrayvec::ArrayVec;
 use cf_outq::{Outq, Piece};
 use cf_outside::{Desk, WriteAnswer};
-use cf_packet::{ACK, FIN, PSH, Packet, sequence_number, write_packet};
+use cf_packet::{ACK, FIN, PSH, Packet, headers, sequence_number, write_packet};
 use cf_view::WriteFault;
 
-/// Emits a packet.
+/// How many octets stand before the text of a segment that a piece goes out in.
+const HEADERS: usize = 40;
+/// The most octets of a packet.
+const PACKET: usize = 1_500;
+
+/// Emits the octets of a packet.
 #[tactic(auto, unfolding(crate::specs::Emitted::spelled))]
+fn emit<D: Desk>(moment: u64, octets: &[u8], desk: &mut D) -> Result<(), WriteFault>
+    requires whole { DeskValue.whole (D.value desk.old) ≡ true }
+    requires moment { moment < moment_limit }
+    requires length { length octets.now ≤ 1500 }
+    ensures gets { (p : PacketValue) → octets.now ≡ packet_octets p
+        → GetsSegments (is_err result) moment (p ∷ []) (D.value desk.old) (D.value desk.new) }
+    ensures frame { OnlyEmits (D.value desk.old) (D.value desk.new) (is_err result) }
+{
+    match desk.emit(moment, octets) {
+        WriteAnswer::Done => Ok(()),
+        WriteAnswer::Failed => Err(WriteFault),
+    }
+}
+
+/// Emits a packet.
 pub(crate) fn send<D: Desk>(
     moment: u64,
     packet: &Packet<'_>,
@@ -38,10 +58,7 @@ pub(crate) fn send<D: Desk>(
 {
     let mut octets = ArrayVec::new();
     write_packet(packet, &mut octets);
-    match desk.emit(moment, octets.as_slice()) {
-        WriteAnswer::Done => Ok(()),
-        WriteAnswer::Failed => Err(WriteFault),
-    }
+    emit(moment, octets.as_slice(), desk)
 }
 
 /// The flags of a segment with these letters.
@@ -104,6 +121,32 @@ fn place_of(piece: Piece) -> u64
     place_or_zero(piece.at)
 }
 
+/// Writes the packet with the letters of a piece to the front of a buffer, and answers how many octets it has. The letters are
+/// copied once, into their place in it.
+fn write_piece(
+    way: Way,
+    told: Advertised,
+    piece: Piece,
+    queue: &Outq,
+    out: &mut [u8; PACKET],
+) -> usize
+    requires told { (told.base ≤ told.edge) × (told.edge - told.base < 65536) × (told.base ≤ 2 ^ 31) }
+    requires unacked { IsUnacked queue.now piece }
+    requires small { piece.len ≤ 1460 }
+    requires place { place_or_zero piece.at ≤ 2 ^ 31 }
+    ensures size { result ≡ 40 + piece.len }
+    ensures octets { (text : List ℕ) × ((whole : Stream) → IsQueueOf queue.now whole → text ≡ (carried whole piece).bytes)
+        × (take result out.new ≡ packet_octets (segment way told (sequence_number way.own (place_or_zero piece.at))
+        (record { bytes = text; ended = piece.end }))) }
+{
+    let size = HEADERS + piece.len;
+    queue.copy(piece, &mut out[HEADERS..size]);
+    let number = sequence_number(way.own, place_of(piece));
+    let headers = headers(&segment(way, told, number, &out[HEADERS..size], piece.end));
+    out[..HEADERS].copy_from_slice(headers.as_slice());
+    size
+}
+
 /// Sends the letters of a piece.
 pub(crate) fn send_piece<D: Desk>(
     way: Way,
@@ -122,11 +165,9 @@ pub(crate) fn send_piece<D: Desk>(
     ensures sends { SendsPiece way told queue.now piece moment (D.value desk.old) (D.value desk.new) (is_err result) }
     ensures frame { OnlyEmits (D.value desk.old) (D.value desk.new) (is_err result) }
 {
-    let mut buffer = [0; 1460];
-    let text = &mut buffer[..piece.len];
-    queue.copy(piece, text);
-    let number = sequence_number(way.own, place_of(piece));
-    send(moment, &segment(way, told, number, text, piece.end), desk)
+    let mut octets = [0; PACKET];
+    let size = write_piece(way, told, piece, queue, &mut octets);
+    emit(moment, &octets[..size], desk)
 }
 
 /// Sends every letter that was not sent and that the peer lets in. Answers whether there was one.

@@ -105,7 +105,11 @@ impl<R: Net + Clock + Eprint> Links for RealLinks<'_, R> {
 
     ghost idles = { λ links. links.idles };
 
-    ghost place = { λ links. record { serves = λ session. contains nat_cmp links.numbers session; lender = None; round_faults = links.round_faults } };
+    ghost place = { λ links. record {
+      serves = λ session. contains nat_cmp links.numbers session;
+      lender = None;
+      round_faults = links.round_faults;
+    } };
 
     fn meet(&mut self, session: u64, _listen: u16, peer: Endpoint) -> ReachAnswer {
         match self.sockets.reach(session, address_of(peer)) {

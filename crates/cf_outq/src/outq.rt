@@ -40,7 +40,14 @@ impl Model for Outq {
 
     ghost Value = { Queue };
 
-    ghost view = { λ a. record { kept = a.ring.items; pushed = a.pushed; ended = a.ended; acked = a.acked; sent = a.sent; shown = a.shown } };
+    ghost view = { λ a. record {
+      kept = a.ring.items;
+      pushed = a.pushed;
+      ended = a.ended;
+      acked = a.acked;
+      sent = a.sent;
+      shown = a.shown;
+    } };
 
     ghost invariant = { λ a. (a.ring.capacity ≡ queue_size)
         × IsQueue (record { kept = a.ring.items; pushed = a.pushed; ended = a.ended; acked = a.acked; sent = a.sent; shown = a.shown }) };
@@ -70,6 +77,13 @@ impl Outq {
         ensures { result + length self.now.kept ≡ queue_size }
     {
         CAPACITY - self.ring.len()
+    }
+
+    /// The number of bytes that wait: pushed and not acknowledged.
+    pub fn waiting(&self) -> usize
+        ensures { result ≡ length self.now.kept }
+    {
+        self.ring.len()
     }
 
     /// The number of letters ever pushed.

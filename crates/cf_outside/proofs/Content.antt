@@ -1,9 +1,11 @@
 -- Files that grow.
-use Rattle.std.proofs.Common.{◌≡◌, ◌+◌, ◌-◌, ℕ, List, [], ◌++◌, length, min, take, drop, refl, ap, append_assoc, arith, inl, inr}
-use Rattle.std.proofs.lemmas.List.{append-nil, length-append, length-take, take-take, take_all}
+use Rattle.std.proofs.Common.{◌≡◌, ◌+◌, ◌-◌, ℕ, List, [], ◌++◌, length, min, take, drop, refl, sym, ap, append_assoc, arith, inl, inr, ◌∙◌}
+use Rattle.std.proofs.lemmas.List.{append-nil, length-append, length-take, take-append-le, take-take, take_all}
 use Rattle.std.proofs.lemmas.Bool.{cases_lt}
-use Rattle.std.proofs.Math.Seq.{take-add}
-use Rattle.cf_outside.specs.Files.{Content, untold, absent, holds, with_appended, HasAt, BeginsWith}
+use Rattle.std.proofs.Math.Seq.{take-add, take-append-add}
+use Rattle.cf_outside.specs.Files.{Appends, Content, untold, absent, holds, with_appended, HasAt, BeginsWith}
+use Rattle.cf_outside.specs.declared.files.WriteAnswer.{WriteAnswer}
+use Rattle.cf_outside.specs.declared.files.WriteAnswer.TheVariants as write
 
 -- bytes and then more bytes are one append
 pub with_appended-twice : (c : Content) (a b : List ℕ) → with_appended (with_appended c a) b ≡ with_appended c (a ++ b)
@@ -47,3 +49,19 @@ pub with_appended-partly : (c d e : Content) (xs : List ℕ) (at count : ℕ) �
     ((k : ℕ) × (e ≡ with_appended d (take k (take (at + count - at) (drop at xs))))) → (x : ℕ) × (e ≡ with_appended c (take x xs))
 with_appended-partly c d e xs at count before (k, after) =
     (at + min k (at + count - at), rw (after, before, take-take_min, with_appended-piece) refl)
+
+-- bytes appended in two pieces, the first of which was appended
+pub appends_both : (c d e : Content) (xs ys : List ℕ) (answer : WriteAnswer) → Appends xs c d write.Done → Appends ys d e answer → Appends (xs ++ ys) c e answer
+appends_both c d e xs ys write.Done first second = (first.0, second.1 ∙ ap (λ k. with_appended k ys) first.1 ∙ with_appended-twice c xs ys)
+appends_both c d e xs ys write.Failed first second =
+    let k = second.0 in
+    (length xs + k, second.1 ∙ ap (λ x. with_appended x (take k ys)) first.1 ∙ with_appended-twice c xs (take k ys) ∙ ap (with_appended c) (sym (take-append-add xs ys k)))
+
+-- a prefix of the first piece is one of both
+pub appends_first : (c e : Content) (xs ys : List ℕ) → Appends xs c e write.Failed → Appends (xs ++ ys) c e write.Failed
+appends_first c e xs ys first =
+    let k = first.0 in
+    let all : take (length xs) xs ≡ xs = take_all (length xs) xs (omega arith) in
+    let same : take k xs ≡ take (min k (length xs)) (xs ++ ys) =
+    ap (take k) (sym all) ∙ take-take_min k (length xs) xs ∙ sym (take-append-le (min k (length xs)) xs ys (omega arith)) in
+    (min k (length xs), first.1 ∙ ap (with_appended c) same)

@@ -1,4 +1,4 @@
--- What a call that writes leaves as it was: of files `OnlyWrites` and `KeepsOtherFiles`; and, steps of the proof, of a desk beside
+-- What a call leaves as it was: of files `OnlyReads`, `OnlyWrites` and `KeepsOtherFiles`; and, steps of the proof, of a desk beside
 -- what it puts there `OnlyEmits`, `OnlyLogs` and `EmitsAndLogs`.
 use Rattle.std.specs.Prelude.{◌≡◌, ℕ, Bool, true, false, List}
 use Rattle.cf_outside.specs.Desk.{DeskValue, IsNoneOf, KeepsDesk}
@@ -37,3 +37,10 @@ pub record OnlyWrites {A : Type 0} (names : List (List ℕ)) (content : A → Li
   pub others : KeepsOtherFiles names (content old) (content new)
   pub cause : HasCause (write_faults old) (write_faults new) failed
   pub reads : read_faults new ≡ read_faults old
+
+-- files were read alone: each file is as it was, a failed call has its cause in a read that failed, and no write failed
+pub record OnlyReads {A : Type 0} (content : A → List ℕ → Content) (read_faults write_faults : A → ℕ) (old new : A)
+    (failed : Type 0) : Type 0 where
+  pub same : content new ≡ content old
+  pub cause : HasCause (read_faults old) (read_faults new) failed
+  pub writes : write_faults new ≡ write_faults old

@@ -1,6 +1,6 @@
 //! A part of a file, read into a buffer.
 ghost use Rattle.std.specs.Prelude.{◌≡◌, ◌^◌, ◌<◌, ◌≤◌, IfSome, None, drop, length, take};
-ghost use Rattle.cf_outside.specs.Faults.{HasCause};
+ghost use Rattle.cf_outside.specs.Frames.{OnlyReads};
 ghost use Rattle.cf_outside.specs.Part.{HasRead, IsFilled};
 
 use crate::files::{Files, ReadAnswer};
@@ -28,9 +28,7 @@ pub fn fill<F: Files>(
     ensures behind { drop size buffer.new ≡ drop size buffer.old }
     ensures some { IfSome result (λ have. before ≤ have) }
     ensures length { length buffer.new ≡ length buffer.old }
-    ensures same { F.content files.new ≡ F.content files.old }
-    ensures cause { HasCause (F.read_faults files.old) (F.read_faults files.new) (result ≡ None) }
-    ensures writes { F.write_faults files.new ≡ F.write_faults files.old }
+    ensures reads { OnlyReads F.content F.read_faults F.write_faults files.old files.new (result ≡ None) }
 {
     let mut have = before;
     'pieces: while have < size {

@@ -13,4 +13,4 @@ mod write;
 pub use packet::{ACK, FIN, PSH, Packet, PacketRefusal, RST, SYN, URG};
 pub use read::read_packet;
 pub use sequence::{position, sequence_number};
-pub use write::write_packet;
+pub use write::{headers, write_packet};

@@ -1,11 +1,11 @@
 //! Packets written: IPv4 with no options, and TCP with no option but a maximum segment size.
-ghost use Rattle.std.specs.Prelude.{◌≡◌, ℕ, ◌+◌, ◌*◌, ◌^◌, ◌<◌, ◌≤◌, ◌++◌, Ok, Some, [], length};
+ghost use Rattle.std.specs.Prelude.{◌≡◌, ℕ, ◌+◌, ◌*◌, ◌^◌, ◌<◌, ◌≤◌, ◌++◌, Ok, None, Some, [], length};
 ghost use Rattle.arrayvec.specs.ArrayVec.{array_vec_len};
 ghost use Rattle.cf_view.specs.declared.LinkKind.TheVariants as link;
 ghost use Rattle.cf_packet.specs.Checksum.{total, words};
 ghost use Rattle.cf_packet.specs.Packet.{packet_value, read_record};
 ghost use Rattle.cf_packet.specs.Written.{HasRanges, IsWritable, header_checksum, header_with, option_octets, option_words, packet_octets};
-ghost use Rattle.cf_packet.specs.Written.{segment_checksum, segment_header, segment_length, segment_with};
+ghost use Rattle.cf_packet.specs.Written.{segment_checksum, segment_header, segment_length};
 
 use crate::checksum::{folded, gathered};
 use crate::packet::Packet;
@@ -25,6 +25,20 @@ pub fn write_packet(packet: &Packet<'_>, out: &mut ArrayVec<u8, 1500>)
     write(packet, out);
 }
 
+/// The two headers of a packet without a maximum segment size, 40 octets: what stands before its text where `write_packet`
+/// writes it. So a text that stands in its place already is not copied.
+pub fn headers(packet: &Packet<'_>) -> ArrayVec<u8, 40>
+    requires writable { IsWritable (packet_value packet.now) }
+    requires bare { packet.now.mss ≡ None }
+    ensures octets { result.items ++ packet.now.text.now ≡ packet_octets (packet_value packet.now) }
+    ensures len { array_vec_len result ≡ 40 }
+{
+    let mut out = ArrayVec::new();
+    push_header(packet, &mut out);
+    push_segment_header(packet, &mut out);
+    out
+}
+
 fn write(packet: &Packet<'_>, out: &mut ArrayVec<u8, 1500>)
     requires { IsWritable (packet_value packet.now) }
     ensures octets { out.new.items ≡ packet_octets (packet_value packet.now) }
@@ -32,11 +46,12 @@ fn write(packet: &Packet<'_>, out: &mut ArrayVec<u8, 1500>)
 {
     out.clear();
     push_header(packet, out);
-    push_segment(packet, out);
+    push_segment_header(packet, out);
+    push_bytes(out, packet.text);
 }
 
-fn push_header(packet: &Packet<'_>, out: &mut ArrayVec<u8, 1500>)
-    requires room { array_vec_len out.old + 20 ≤ 1500 }
+fn push_header<const N: usize>(packet: &Packet<'_>, out: &mut ArrayVec<u8, N>)
+    requires room { array_vec_len out.old + 20 ≤ N }
     requires writable { IsWritable (packet_value packet.now) }
     ensures items { out.new.items ≡ out.old.items ++ header_with (header_checksum (packet_value packet.now)) (packet_value packet.now) }
     ensures len { array_vec_len out.new ≡ array_vec_len out.old + 20 }
@@ -52,10 +67,11 @@ fn push_header(packet: &Packet<'_>, out: &mut ArrayVec<u8, 1500>)
     push_u32_be(out, packet.dest.address);
 }
 
-fn push_segment(packet: &Packet<'_>, out: &mut ArrayVec<u8, 1500>)
-    requires room { array_vec_len out.old + segment_length (packet_value packet.now) ≤ 1500 }
+fn push_segment_header<const N: usize>(packet: &Packet<'_>, out: &mut ArrayVec<u8, N>)
+    requires room { array_vec_len out.old + (20 + 4 * option_words packet.now.mss) ≤ N }
     requires writable { IsWritable (packet_value packet.now) }
-    ensures items { out.new.items ≡ out.old.items ++ segment_with (segment_checksum (packet_value packet.now)) (packet_value packet.now) }
+    ensures items { out.new.items ≡ out.old.items ++ segment_header (segment_checksum (packet_value packet.now)) (packet_value packet.now) }
+    ensures len { array_vec_len out.new ≡ array_vec_len out.old + (20 + 4 * option_words packet.now.mss) }
     ensures ranges { HasRanges (packet_value packet.now) }
 {
     let checksum = segment_checksum(packet);
@@ -69,11 +85,10 @@ fn push_segment(packet: &Packet<'_>, out: &mut ArrayVec<u8, 1500>)
     push_u16_be(out, checksum);
     push_u16_be(out, 0);
     push_options(packet.mss, out);
-    push_bytes(out, packet.text);
 }
 
-fn push_options(mss: Option<u16>, out: &mut ArrayVec<u8, 1500>)
-    requires { array_vec_len out.old + 4 * option_words mss ≤ 1500 }
+fn push_options<const N: usize>(mss: Option<u16>, out: &mut ArrayVec<u8, N>)
+    requires { array_vec_len out.old + 4 * option_words mss ≤ N }
     ensures items { out.new.items ≡ out.old.items ++ option_octets mss }
     ensures len { array_vec_len out.new ≡ array_vec_len out.old + 4 * option_words mss }
 {

@@ -41,7 +41,14 @@ impl Model for Rebuild {
 
     ghost Value = { Window };
 
-    ghost view = { λ a. record { consumed = a.consumed; pending = take a.ready (turned (a.consumed % 32768) a.bytes.items); ended = a.ended; ahead = places (place_at a.kept.items a.ends.items a.bytes.items (a.consumed % 32768)) a.ready (length a.bytes.items - a.ready); edge = a.edge } };
+    ghost view = { λ a. record {
+      consumed = a.consumed;
+      pending = take a.ready (turned (a.consumed % 32768) a.bytes.items);
+      ended = a.ended;
+      ahead = places (place_at a.kept.items a.ends.items a.bytes.items (a.consumed % 32768)) a.ready
+          (length a.bytes.items - a.ready);
+      edge = a.edge;
+    } };
 
     ghost invariant = { λ a. (length a.kept.items ≡ 512) × (length a.ends.items ≡ 512) × (length a.bytes.items ≡ 32768) × (a.ready ≤ 32768)
         × IsWindow (record {

@@ -1,6 +1,6 @@
 //! The blocks of a pcapng file.
 ghost use Rattle.std.specs.Prelude.{◌≡◌, ◌+◌, ◌^◌, ◌<◌, ◌≤◌, ℕ, List, IfErr, IfOk, IfSome, None, length, take};
-ghost use Rattle.cf_outside.specs.Faults.{HasCause};
+ghost use Rattle.cf_outside.specs.Frames.{OnlyReads};
 ghost use Rattle.cf_outside.specs.Part.{IsFilled};
 ghost use Rattle.cf_records.specs.Capture.{refused_by};
 ghost use Rattle.cf_records.specs.Pieces.{EndsAs, FindsPiece, IsNoRecord, IsPieceInside, PieceAs, SizeAs, SizeFits};
@@ -48,9 +48,7 @@ pub fn block_piece<F: Files>(
     ensures found { FindsPiece (F.content files.old name.now) (form.Blocks reader.old) place (form.Blocks reader.new) buffer.new result }
     ensures inside { IsPieceInside place (length buffer.new) result }
     ensures length { length buffer.new ≡ length buffer.old }
-    ensures same { F.content files.new ≡ F.content files.old }
-    ensures cause { HasCause (F.read_faults files.old) (F.read_faults files.new) (result ≡ piece.Ends next.Failed) }
-    ensures writes { F.write_faults files.new ≡ F.write_faults files.old }
+    ensures reads { OnlyReads F.content F.read_faults F.write_faults files.old files.new (result ≡ piece.Ends next.Failed) }
 {
     let Some(have) = fill(name, place, 0, TOLD_OCTETS, buffer, files) else {
         return Piece::Ends(NextRecord::Failed);
@@ -82,9 +80,7 @@ fn fill_more<F: Files>(
     ensures inside { IfSome result (λ have. have ≤ size) }
     ensures filled { IfSome result (λ have. IsFilled (F.content files.old name.now) place size (take have buffer.new)) }
     ensures length { length buffer.new ≡ length buffer.old }
-    ensures same { F.content files.new ≡ F.content files.old }
-    ensures cause { HasCause (F.read_faults files.old) (F.read_faults files.new) (result ≡ None) }
-    ensures writes { F.write_faults files.new ≡ F.write_faults files.old }
+    ensures reads { OnlyReads F.content F.read_faults F.write_faults files.old files.new (result ≡ None) }
 {
     if size <= have {
         return Some(size);

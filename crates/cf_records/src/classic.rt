@@ -1,6 +1,6 @@
 //! The records of a classic file.
 ghost use Rattle.std.specs.Prelude.{◌≡◌, ◌+◌, ◌^◌, ◌≤◌, ℕ, List, IfErr, IfOk, Ok, length, take};
-ghost use Rattle.cf_outside.specs.Faults.{HasCause};
+ghost use Rattle.cf_outside.specs.Frames.{OnlyReads};
 ghost use Rattle.cf_records.specs.Pieces.{FindsPiece, HeadAs, HeadFits, IsNoRecord, IsPieceInside, PieceAs};
 ghost use Rattle.cf_records.specs.declared.form.Form.TheVariants as form;
 ghost use Rattle.cf_records.specs.declared.record_reader.NextRecord.TheVariants as next;
@@ -26,9 +26,7 @@ pub fn classic_piece<F: Files>(
     ensures found { FindsPiece (F.content files.old name.now) (form.Classic header.now) place (form.Classic header.now) buffer.new result }
     ensures inside { IsPieceInside place (length buffer.new) result }
     ensures length { length buffer.new ≡ length buffer.old }
-    ensures same { F.content files.new ≡ F.content files.old }
-    ensures cause { HasCause (F.read_faults files.old) (F.read_faults files.new) (result ≡ piece.Ends next.Failed) }
-    ensures writes { F.write_faults files.new ≡ F.write_faults files.old }
+    ensures reads { OnlyReads F.content F.read_faults F.write_faults files.old files.new (result ≡ piece.Ends next.Failed) }
 {
     let Some(have) = fill(name, place, 0, HEAD_OCTETS, buffer, files) else {
         return Piece::Ends(NextRecord::Failed);

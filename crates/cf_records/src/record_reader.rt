@@ -1,6 +1,6 @@
 //! The records of a capture file, read one after the other.
 ghost use Rattle.std.specs.Prelude.{◌≡◌, ℕ, ◌+◌, ◌^◌, ◌<◌, ◌≤◌, IsErrOf, length};
-ghost use Rattle.cf_outside.specs.Faults.{HasCause};
+ghost use Rattle.cf_outside.specs.Frames.{OnlyReads};
 ghost use Rattle.cf_records.specs.Form.{interface_of, room_of};
 ghost use Rattle.cf_records.specs.Pieces.{FindsBehind, FindsPiece, IsPastRecord, IsPieceInside};
 ghost use Rattle.cf_records.specs.Reader.{FindsRecord, OpensAs};
@@ -96,9 +96,7 @@ impl RecordReader {
         files: &mut F,
     ) -> Result<RecordReader, OpenFault>
         ensures opened { OpensAs (F.content files.old name.now) result }
-        ensures same { F.content files.new ≡ F.content files.old }
-        ensures cause { HasCause (F.read_faults files.old) (F.read_faults files.new) (IsErrOf result OpenFault.Read) }
-        ensures writes { F.write_faults files.new ≡ F.write_faults files.old }
+        ensures reads { OnlyReads F.content F.read_faults F.write_faults files.old files.new (IsErrOf result OpenFault.Read) }
     {
         let mut head = [0u8; FORM_OCTETS];
         let Some(have) = fill(name, 0, 0, FORM_OCTETS, &mut head, files) else {
@@ -158,9 +156,7 @@ impl RecordReader {
         ensures found { FindsRecord (F.content files.old name.now) self.old self.new result }
         ensures near { self.new.place ≤ 2 ^ 40 }
         ensures on { IsPastRecord result self.old.place self.new.place }
-        ensures same { F.content files.new ≡ F.content files.old }
-        ensures cause { HasCause (F.read_faults files.old) (F.read_faults files.new) (result ≡ next.Failed) }
-        ensures writes { F.write_faults files.new ≡ F.write_faults files.old }
+        ensures reads { OnlyReads F.content F.read_faults F.write_faults files.old files.new (result ≡ next.Failed) }
     {
         let piece = piece_behind(
             name,
@@ -206,9 +202,7 @@ fn piece_behind<F: Files>(
     ensures none { (used : ℕ) → result ≡ piece.Passed used → ⊥ }
     ensures room { length buffer.new ≡ length buffer.old }
     ensures form { room_of form.new ≡ room_of form.old }
-    ensures same { F.content files.new ≡ F.content files.old }
-    ensures cause { HasCause (F.read_faults files.old) (F.read_faults files.new) (result ≡ piece.Ends next.Failed) }
-    ensures writes { F.write_faults files.new ≡ F.write_faults files.old }
+    ensures reads { OnlyReads F.content F.read_faults F.write_faults files.old files.new (result ≡ piece.Ends next.Failed) }
 {
     'pieces: loop {
         match piece_at(name, form, *place, buffer, files) {
@@ -232,9 +226,7 @@ fn piece_at<F: Files>(
     ensures inside { IsPieceInside place (length buffer.new) result }
     ensures length { length buffer.new ≡ length buffer.old }
     ensures form { room_of form.new ≡ room_of form.old }
-    ensures same { F.content files.new ≡ F.content files.old }
-    ensures cause { HasCause (F.read_faults files.old) (F.read_faults files.new) (result ≡ piece.Ends next.Failed) }
-    ensures writes { F.write_faults files.new ≡ F.write_faults files.old }
+    ensures reads { OnlyReads F.content F.read_faults F.write_faults files.old files.new (result ≡ piece.Ends next.Failed) }
 {
     match form {
         Form::Classic(header) => classic_piece(name, header, place, buffer, files),

@@ -10,7 +10,7 @@ ghost use Rattle.cf_relay.specs.Gave.{GaveBy, FinishesBy};
 ghost use Rattle.cf_relay.specs.Scene.{RoseBy};
 
 use crate::stop::{Stop, count_idle};
-use cf_driver::{front, pop, waiting};
+use cf_driver::{front, pop};
 use cf_links::Links;
 use cf_outq::Outq;
 use cf_outside::{GiveAnswer, WriteAnswer};
@@ -69,7 +69,7 @@ pub(crate) fn finish_to<L: Links>(
     ensures cause { FaultsBy (L.faults links.old) (L.faults links.new) (result ≡ Err Stop.Link) }
     ensures idles { L.idles links.new ≡ L.idles links.old }
 {
-    if *finished || !queue.is_ended() || waiting(queue) > 0 {
+    if *finished || !queue.is_ended() || queue.waiting() > 0 {
         return Ok(());
     }
     match links.finish(session, side) {

@@ -1,5 +1,6 @@
 //! Records by why they were dropped.
-ghost use Rattle.std.specs.Prelude.{◌≡◌, ◌≤◌, ◌^◌};
+ghost use Rattle.std.specs.Prelude.{◌≤◌, ◌^◌};
+ghost use Rattle.cf_outside.specs.Frames.{OnlyReads};
 
 use crate::reason::{REASONS, reason_of};
 use cf_outside::Files;
@@ -47,8 +48,7 @@ pub fn dropped_alone<F: Files>(
     frames: Frames,
     files: &mut F,
 ) -> Option<Dropped>
-    ensures same { F.content files.new ≡ F.content files.old }
-    ensures writes { F.write_faults files.new ≡ F.write_faults files.old }
+    ensures reads { OnlyReads F.content F.read_faults F.write_faults files.old files.new ⊥ }
 {
     let mut reader = RecordReader::open(alloc, capture, files).ok()?;
     let mut dropped = Dropped::new();
@@ -75,8 +75,7 @@ fn drops_all<F: Files>(
     files: &mut F,
 ) -> bool
     requires near { reader.old.place ≤ 2 ^ 40 }
-    ensures same { F.content files.new ≡ F.content files.old }
-    ensures writes { F.write_faults files.new ≡ F.write_faults files.old }
+    ensures reads { OnlyReads F.content F.read_faults F.write_faults files.old files.new ⊥ }
 {
     'records: loop {
         match reader.next(capture, files) {

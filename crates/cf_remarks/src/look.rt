@@ -1,5 +1,6 @@
 //! CAPTURE and OUT, read again side by side.
-ghost use Rattle.std.specs.Prelude.{◌≡◌, ◌≤◌, ◌^◌};
+ghost use Rattle.std.specs.Prelude.{◌≤◌, ◌^◌};
+ghost use Rattle.cf_outside.specs.Frames.{OnlyReads};
 
 use crate::dropped::Dropped;
 use crate::pair::{Pair, PairKey, pair_of};
@@ -51,10 +52,8 @@ pub fn look_again<F: Files, G: Files>(
     files: &mut F,
     others: &mut G,
 ) -> Option<Look>
-    ensures same { F.content files.new ≡ F.content files.old }
-    ensures same_others { G.content others.new ≡ G.content others.old }
-    ensures writes { F.write_faults files.new ≡ F.write_faults files.old }
-    ensures writes_others { G.write_faults others.new ≡ G.write_faults others.old }
+    ensures reads { OnlyReads F.content F.read_faults F.write_faults files.old files.new ⊥ }
+    ensures reads_others { OnlyReads G.content G.read_faults G.write_faults others.old others.new ⊥ }
 {
     let mut captured = RecordReader::open(alloc, names.capture, files).ok()?;
     let mut sent = RecordReader::open(alloc, names.out, others).ok()?;
@@ -86,10 +85,8 @@ fn see_all<F: Files, G: Files>(
 ) -> bool
     requires captured { captured.old.place ≤ 2 ^ 40 }
     requires sent { sent.old.place ≤ 2 ^ 40 }
-    ensures same { F.content files.new ≡ F.content files.old }
-    ensures same_others { G.content others.new ≡ G.content others.old }
-    ensures writes { F.write_faults files.new ≡ F.write_faults files.old }
-    ensures writes_others { G.write_faults others.new ≡ G.write_faults others.old }
+    ensures reads { OnlyReads F.content F.read_faults F.write_faults files.old files.new ⊥ }
+    ensures reads_others { OnlyReads G.content G.read_faults G.write_faults others.old others.new ⊥ }
 {
     let mut next = sent.next(names.out, others);
     let mut least = 2u64;
@@ -128,8 +125,7 @@ fn see_sent<F: Files>(
 ) -> Option<NextRecord>
     requires near { sent.old.place ≤ 2 ^ 40 }
     ensures near { sent.new.place ≤ 2 ^ 40 }
-    ensures same { F.content files.new ≡ F.content files.old }
-    ensures writes { F.write_faults files.new ≡ F.write_faults files.old }
+    ensures reads { OnlyReads F.content F.read_faults F.write_faults files.old files.new ⊥ }
 {
     let NextRecord::Whole(mut stamp) = first else {
         return behind(first);

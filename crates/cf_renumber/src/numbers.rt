@@ -60,7 +60,17 @@ impl Model for Numbers {
 
     ghost Value = { NumbersValue };
 
-    ghost view = { λ a. record { started = a.started; running = a.running; fates = a.fates.items; origins = a.origins.items; received = a.received; admitted = a.admitted; carried = a.carried; sent = a.sent; owed = a.owed } };
+    ghost view = { λ a. record {
+      started = a.started;
+      running = a.running;
+      fates = a.fates.items;
+      origins = a.origins.items;
+      received = a.received;
+      admitted = a.admitted;
+      carried = a.carried;
+      sent = a.sent;
+      owed = a.owed;
+    } };
 
     ghost invariant = { λ a. (a.fates.capacity ≡ 4096) × (a.origins.capacity ≡ 4096) × (a.admits ≡ count_by is_admitted a.fates.items)
         × (a.controllers ≡ count_by is_controllers a.origins.items)
@@ -148,7 +158,8 @@ impl Numbers {
         requires idle { self.old.owed ≡ None }
         ensures answer { (events : List NumberEvent) → IsNumbersOf self.old events →
             MatchResult result (λ _. client_refusal events ns nr ≡ None) (λ e. client_refusal events ns nr ≡ Some e) }
-        ensures stands { IfOk result (λ _. (events : List NumberEvent) → IsNumbersOf self.old events → IsNumbersAwaiting self.new events nr) }
+        ensures stands { IfOk result (λ _. (events : List NumberEvent) → IsNumbersOf self.old events
+            → IsNumbersAwaiting self.new events nr) }
         ensures owed { IfOk result (λ _. IsSome self.new.owed) }
         ensures idle { OnErr result (self.new.owed ≡ None) }
         ensures did { NumbersStep (FromClient ns nr (error_of result)) self.old self.new }
@@ -160,7 +171,8 @@ impl Numbers {
         requires idle { self.old.owed ≡ None }
         ensures answer { (events : List NumberEvent) → IsNumbersOf self.old events →
             MatchResult result (λ _. client_refusal events ns nr ≡ None) (λ e. client_refusal events ns nr ≡ Some e) }
-        ensures stands { IfOk result (λ _. (events : List NumberEvent) → IsNumbersOf self.old events → IsNumbersAwaiting self.new events nr) }
+        ensures stands { IfOk result (λ _. (events : List NumberEvent) → IsNumbersOf self.old events
+            → IsNumbersAwaiting self.new events nr) }
         ensures owed { IfOk result (λ _. IsSome self.new.owed) }
         ensures idle { OnErr result (self.new.owed ≡ None) }
     {

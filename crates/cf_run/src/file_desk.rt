@@ -1,20 +1,19 @@
 //! A desk over two lent files: packets go to a capture file, lines to a log.
-ghost use Rattle.std.specs.Prelude.{◌≡◌, ◌<◌, ◌≤◌, ◌+◌, ◌++◌, List, length, ℕ};
+ghost use Rattle.std.specs.Prelude.{◌≡◌, ◌<◌, ◌≤◌, ◌+◌, ◌++◌, ◌∷◌, [], List, length, ℕ};
 ghost use Rattle.cf_outside.specs.Files.{Appends};
+ghost use Rattle.cf_outside.specs.Frames.{OnlyWrites};
 ghost use Rattle.cf_pcap.specs.Header.{output_header};
-ghost use Rattle.cf_pcap.specs.Record.{Whole, record_of};
+ghost use Rattle.cf_pcap.specs.Record.{Whole, head_octets, record_of};
 ghost use Rattle.cf_view.specs.Moment.{moment_limit};
 ghost use Rattle.cf_run.specs.OutputFile.{IsRecord, record_octets};
 ghost use Rattle.cf_run.specs.FileDesk.{file_desk};
 
-use arrayvec::ArrayVec;
 use cf_outside::{Desk, Files, WriteAnswer};
 use cf_pcap::write_record_head;
-use cf_view::push_bytes;
 
-/// Writes packets to one file and lines to another, through lent files, with one append a call, and counts their failed
-/// writes. It is whole where `failed` is false, the two names differ, OUT has a header and whole records alone, and nothing
-/// stands after the last line feed of the log. This project's own.
+/// Writes packets to one file and lines to another, through lent files, and counts their failed writes. It is whole where
+/// `failed` is false, the two names differ, OUT has a header and whole records alone, and nothing stands after the last line
+/// feed of the log. This project's own.
 #[derive(Drop)]
 pub struct FileDesk<'a, F> {
     /// The files that it writes through.
@@ -34,8 +33,7 @@ impl<'a, F: Files> Desk for FileDesk<'a, F> {
 
     /// Appends a record to the capture file. The desk is no longer whole where that failed.
     fn emit(&mut self, moment: u64, packet: &[u8]) -> WriteAnswer {
-        let record = packet_record(moment, packet);
-        match self.files.append(self.out, &record) {
+        match append_packet(self.out, moment, packet, self.files) {
             WriteAnswer::Done => WriteAnswer::Done,
             WriteAnswer::Failed => {
                 self.failed = true;
@@ -56,20 +54,39 @@ impl<'a, F: Files> Desk for FileDesk<'a, F> {
     }
 }
 
-/// The octets of the record of a packet of at most 1,500 octets, at a moment in microseconds, below 2^32 seconds.
-pub fn packet_record(moment: u64, packet: &[u8]) -> ArrayVec<u8, 1516>
+/// Appends the record of a packet of at most 1,500 octets, at a moment in microseconds, below 2^32 seconds, to a file that is there:
+/// its head, and then the packet. After `Failed` a prefix of them may stand there.
+pub fn append_packet<F: Files>(name: &str, moment: u64, packet: &[u8], files: &mut F) -> WriteAnswer
     requires moment { moment < moment_limit }
     requires packet { length packet.now ≤ 1500 }
-    ensures octets { result.items ≡ record_octets (record { moment = moment; bytes = packet.now }) }
-    ensures one { IsRecord result.items (record { moment = moment; bytes = packet.now }) }
+    ensures file { Appends (record_octets (record { moment = moment; bytes = packet.now })) (F.content files.old name.now)
+        (F.content files.new name.now) result }
+    ensures writes { OnlyWrites (name.now ∷ []) F.content F.read_faults F.write_faults files.old files.new (result ≡ WriteAnswer.Failed) }
+    // What is appended is one record, and none of its beginnings is.
+    ensures one { IsRecord (record_octets (record { moment = moment; bytes = packet.now }))
+        (record { moment = moment; bytes = packet.now }) }
     // It is read again, whatever follows.
+    ensures again { (rest : List ℕ) → record_of output_header (record_octets (record { moment = moment; bytes = packet.now }) ++ rest)
+        ≡ Whole moment packet.now (16 + length packet.now) }
+{
+    let head = record_head(moment, packet);
+    match files.append(name, &head) {
+        WriteAnswer::Done => files.append(name, packet),
+        WriteAnswer::Failed => WriteAnswer::Failed,
+    }
+}
+
+/// The head of the record of a packet.
+fn record_head(moment: u64, packet: &[u8]) -> [u8; 16]
+    requires moment { moment < moment_limit }
+    requires packet { length packet.now ≤ 1500 }
+    ensures octets { result ≡ head_octets moment (length packet.now) }
+    ensures one { IsRecord (record_octets (record { moment = moment; bytes = packet.now }))
+        (record { moment = moment; bytes = packet.now }) }
     ensures again { (rest : List ℕ) → record_of output_header (record_octets (record { moment = moment; bytes = packet.now }) ++ rest)
         ≡ Whole moment packet.now (16 + length packet.now) }
 {
     let mut head = [0u8; 16];
     write_record_head(moment, packet.len() as u32, &mut head);
-    let mut record = ArrayVec::new();
-    push_bytes(&mut record, &head);
-    push_bytes(&mut record, packet);
-    record
+    head
 }

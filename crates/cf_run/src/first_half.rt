@@ -42,7 +42,8 @@ fn tick_at<D: Desk>(
         → TickAt assets.now moment before after (told (D.value desk.old)) (told (D.value desk.new)) (stays_by life) (cuts_by life)) }
     ensures broken { OnErr result ((before : KnownEntry) → slice_get table.old.items place ≡ Some before
         → (flow : Flow) (earlier : List SessionEvent) (event : SessionEvent) → IsSessionOf flow earlier event before.session
-        → slice_get assets.now before.asset ≡ Some flow.asset → BreaksTick flow (event ∷ earlier) moment (D.value desk.old) (D.value desk.new)) }
+        → slice_get assets.now before.asset ≡ Some flow.asset
+        → BreaksTick flow (event ∷ earlier) moment (D.value desk.old) (D.value desk.new)) }
     ensures frame { EmitsAndLogs (D.value desk.old) (D.value desk.new) (is_err result) }
 {
     let entry = &mut table[place];

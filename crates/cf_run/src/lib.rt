@@ -13,7 +13,7 @@ mod summary;
 
 pub use engine::{Engine, StepFault};
 pub use entry::{Entry, Table};
-pub use file_desk::{FileDesk, packet_record};
+pub use file_desk::{FileDesk, append_packet};
 pub use first_half::tick_all;
 pub use laws::{
     records_fix_runs, runs_have_headline, runs_isolate_sessions, selects_by_moment,

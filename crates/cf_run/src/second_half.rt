@@ -67,7 +67,8 @@ pub fn receive<D: Desk>(
     ensures received { IfOk result (λ outcome. ReceivesOne assets.now limit moment (packet_value packet.now) table.old.sessions.items
         table.new.sessions.items
         (told (D.value desk.old)) (told (D.value desk.new)) outcome) }
-    ensures broken { IsErrOf result StepFault.Write → ReceiveBreaks assets.now limit moment (packet_value packet.now) table.old.sessions.items
+    ensures broken { IsErrOf result StepFault.Write → ReceiveBreaks assets.now limit moment (packet_value packet.now)
+        table.old.sessions.items
         (D.value desk.old) (D.value desk.new) }
     ensures nothing { IsErrOf result StepFault.NoMemory → desk.new ≡ desk.old }
     ensures sound { OnOk result (AreSound assets.now limit table.new.sessions.items) }

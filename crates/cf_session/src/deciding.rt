@@ -110,7 +110,8 @@ impl Session {
         ensures same { self.new ≡ record self.old { closed = SessionValue.closed self.new } }
         ensures closed { OnOk result (SessionValue.closed self.new ≡ option_or (SessionValue.closed self.old)
             (if is_done_now self.old then Some moment else None)) }
-        ensures told { OnOk result (told (D.value desk.new) ≡ with_both (told (D.value desk.old)) [] (closing_lines asset.now self.old moment)) }
+        ensures told { OnOk result (told (D.value desk.new) ≡ with_both (told (D.value desk.old)) []
+            (closing_lines asset.now self.old moment)) }
         ensures broken { OnErr result (BreaksAmid [] (closing_lines asset.now self.old moment) (D.value desk.old) (D.value desk.new)) }
         ensures frame { EmitsAndLogs (D.value desk.old) (D.value desk.new) (is_err result) }
     {

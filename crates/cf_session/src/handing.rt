@@ -58,7 +58,8 @@ fn feed_lane<D: Desk>(
         (D.value desk.new)) }
     ensures serves { OnOk result (IsLaneOf asset.now lane.new) }
     ensures client_grows { IfOk result (λ fed. Grows (2 * fed.used) (debt lane.old) (debt lane.new) to_client.old to_client.new) }
-    ensures controller_grows { IfOk result (λ fed. Grows (2 * fed.used) (debt lane.old) (debt lane.new) to_controller.old to_controller.new) }
+    ensures controller_grows { IfOk result (λ fed. Grows (2 * fed.used) (debt lane.old) (debt lane.new) to_controller.old
+        to_controller.new) }
     ensures debt { OnOk result (debt lane.new ≤ debt_limit) }
     ensures counts { IfOk result (λ fed. CountsBy fed.used lane.old lane.new) }
     ensures frame { OnlyLogs (D.value desk.old) (D.value desk.new) (is_err result) }

@@ -108,7 +108,8 @@ pub(crate) fn hear<D: Desk>(
         → AreUncut asset.now client rests earlier before lane.old to_client.old to_controller.old
         → rest_of side rests ≡ leg.old.window.pending
         → IsTaken (first_copy (offers ends.role es)) (taken side earlier)
-        → HearingAmid side ends asset.now client moment e es (packet_value packet.now) earlier before (D.value desk.old) (D.value desk.new)) }
+        → HearingAmid side ends asset.now client moment e es (packet_value packet.now) earlier before (D.value desk.old)
+        (D.value desk.new)) }
     ensures ends { OnOk result (leg.new.ends ≡ leg.old.ends) }
     ensures serves { OnOk result (IsLaneOf asset.now lane.new) }
     ensures room { IfOk result (λ heard. KeepsRoom side leg.old.window leg.new.window lane.old lane.new to_client.old to_client.new

@@ -55,7 +55,16 @@ impl Model for Session {
 
     ghost Value = { SessionValue };
 
-    ghost view = { λ a. record { client = a.client; controller = a.controller; lane = a.lane; to_client = a.to_client; to_controller = a.to_controller; closed = a.closed; limit = a.limit; source = a.source } };
+    ghost view = { λ a. record {
+      client = a.client;
+      controller = a.controller;
+      lane = a.lane;
+      to_client = a.to_client;
+      to_controller = a.to_controller;
+      closed = a.closed;
+      limit = a.limit;
+      source = a.source;
+    } };
 }
 
 /// Why no session began. This project's own.
@@ -90,7 +99,8 @@ impl Session {
         ensures sound { IfOk result (λ s. IsSound asset.now s) }
         ensures nothing { IsErrOf result BeginFault.NoMemory → desk.new ≡ desk.old }
         ensures broken { IsErrOf result BeginFault.Write
-            → BreaksBeginning (record { asset = asset.now; syn = packet_value syn.now }) (moment - 1) (D.value desk.old) (D.value desk.new) }
+            → BreaksBeginning (record { asset = asset.now; syn = packet_value syn.now }) (moment - 1) (D.value desk.old)
+            (D.value desk.new) }
         ensures frame { EmitsAndLogs (D.value desk.old) (D.value desk.new) (has_failed result) }
     {
         let Ok(mut session) = Session::made(alloc, asset, limit as u64, syn) else {
@@ -146,7 +156,8 @@ impl Session {
             → BreaksBeginning flow (moment - 1) (D.value desk.old) (D.value desk.new)) }
         ensures window { OnOk result (Widens true (self.old.controller).window (self.new.controller).window) }
         ensures queue { OnOk result (self.new.to_controller ≡ record self.old.to_controller { sent = (self.new.to_controller).sent }) }
-        ensures same { OnOk result (self.new ≡ record self.old { controller = self.new.controller; to_controller = self.new.to_controller }) }
+        ensures same { OnOk result (self.new ≡ record self.old
+            { controller = self.new.controller; to_controller = self.new.to_controller }) }
         ensures frame { EmitsAndLogs (D.value desk.old) (D.value desk.new) (is_err result) }
     {
         events_begin();

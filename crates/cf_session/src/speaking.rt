@@ -37,7 +37,8 @@ impl Session {
             → IsLegBetween (client_ends flow) (SessionValue.client self.old) (SessionValue.to_client self.old)
             (record d { ending = Unspoken } ∷ ds)
             → GreetsClient flow moment number d ds self.new (told (D.value desk.old)) (told (D.value desk.new))) }
-        ensures broken { OnErr result ((flow : Flow) (d : LegEvent) (ds : List LegEvent) → moment ≡ leg_event.moment d → MayGreet number d ds
+        ensures broken { OnErr result ((flow : Flow) (d : LegEvent) (ds : List LegEvent) → moment ≡ leg_event.moment d
+            → MayGreet number d ds
             → IsLegBetween (client_ends flow) (SessionValue.client self.old) (SessionValue.to_client self.old)
             (record d { ending = Unspoken } ∷ ds)
             → BreaksAmid (at moment (greetings flow number)) [] (D.value desk.old) (D.value desk.new)) }

@@ -75,7 +75,8 @@ fn carry_letter(
     letter: Letter,
 ) -> Result<(), NoMemory>
     requires number { number < 2 ^ 32 }
-    ensures takes { OnOk result (Takes (record { number = number; at = at; text = stream_of letter }) flow.old ahead.old flow.new ahead.new) }
+    ensures takes { OnOk result (Takes (record { number = number; at = at; text = stream_of letter }) flow.old ahead.old flow.new
+        ahead.new) }
 {
     if at < 0 {
         return Ok(());

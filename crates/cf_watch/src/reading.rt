@@ -1,7 +1,7 @@
 //! The flows of a capture file.
 ghost use Rattle.std.specs.Prelude.{◌≡◌, ◌+◌, ◌-◌, ◌*◌, ◌^◌, ◌<◌, ◌≤◌, ◌++◌, ◌∷◌, [], ℕ, OnOk, Ok, Err, Some, None, true, false, List, All};
 ghost use Rattle.std.specs.Prelude.{IsErrOf, length, map, IfOk, IfErr};
-ghost use Rattle.cf_outside.specs.Faults.{HasCause};
+ghost use Rattle.cf_outside.specs.Frames.{OnlyReads};
 ghost use Rattle.cf_outside.specs.Files.{IsAtEnd, IsLongerThan};
 ghost use Rattle.cf_records.specs.Form.{first_place};
 ghost use Rattle.cf_records.specs.Reader.{HasForm};
@@ -30,12 +30,11 @@ pub fn watch<F: Files>(
     files: &mut F,
 ) -> Result<Vec<Flow>, WatchFault>
     requires assets { length policy.now.assets < 2 ^ 32 }
-    ensures watched { IfOk result (λ flows. WatchesAs policy.now.assets (F.content files.old capture.now) (Ok (map flow_value flows.items))) }
+    ensures watched { IfOk result (λ flows. WatchesAs policy.now.assets (F.content files.old capture.now)
+        (Ok (map flow_value flows.items))) }
     ensures for_assets { IfOk result (λ flows. All (IsForAsset policy.now.assets) (map flow_value flows.items)) }
     ensures fault { IfErr result (λ fault. WatchesAs policy.now.assets (F.content files.old capture.now) (Err fault)) }
-    ensures same { F.content files.new ≡ F.content files.old }
-    ensures read { HasCause (F.read_faults files.old) (F.read_faults files.new) (IsErrOf result WatchFault.Read) }
-    ensures writes { F.write_faults files.new ≡ F.write_faults files.old }
+    ensures reads { OnlyReads F.content F.read_faults F.write_faults files.old files.new (IsErrOf result WatchFault.Read) }
 {
     match watch_for(alloc, Scope::Connections, policy, capture, files) {
         Ok(recording) => Ok(recording.flows),
@@ -59,9 +58,7 @@ pub fn watch_recording<F: Files>(
         r.stamps.items) }
     ensures for_assets { IfOk result (λ r. All (IsForAsset policy.now.assets) (map flow_value r.flows.items)) }
     ensures fault { IfErr result (λ fault. WatchesAs policy.now.assets (F.content files.old capture.now) (Err fault)) }
-    ensures same { F.content files.new ≡ F.content files.old }
-    ensures read { HasCause (F.read_faults files.old) (F.read_faults files.new) (IsErrOf result WatchFault.Read) }
-    ensures writes { F.write_faults files.new ≡ F.write_faults files.old }
+    ensures reads { OnlyReads F.content F.read_faults F.write_faults files.old files.new (IsErrOf result WatchFault.Read) }
 {
     watch_for(alloc, Scope::Recording, policy, capture, files)
 }
@@ -79,9 +76,7 @@ fn watch_for<F: Files>(
         (map flow_value r.flows.items) all × (scope ≡ Scope.Recording → r.stamps.items ≡ all)) }
     ensures for_assets { IfOk result (λ r. All (IsForAsset policy.now.assets) (map flow_value r.flows.items)) }
     ensures fault { IfErr result (λ fault. WatchesAs policy.now.assets (F.content files.old capture.now) (Err fault)) }
-    ensures same { F.content files.new ≡ F.content files.old }
-    ensures read { HasCause (F.read_faults files.old) (F.read_faults files.new) (IsErrOf result WatchFault.Read) }
-    ensures writes { F.write_faults files.new ≡ F.write_faults files.old }
+    ensures reads { OnlyReads F.content F.read_faults F.write_faults files.old files.new (IsErrOf result WatchFault.Read) }
 {
     match is_long(capture, files) {
         Some(false) => {}
@@ -101,9 +96,7 @@ fn watch_for<F: Files>(
 fn is_long<F: Files>(name: &str, files: &mut F) -> Option<bool>
     ensures long { result ≡ Some true → IsLongerThan (F.content files.old name.now) CAPTURE_LIMIT }
     ensures short { result ≡ Some false → IsAtEnd (F.content files.old name.now) CAPTURE_LIMIT }
-    ensures same { F.content files.new ≡ F.content files.old }
-    ensures cause { HasCause (F.read_faults files.old) (F.read_faults files.new) (result ≡ None) }
-    ensures writes { F.write_faults files.new ≡ F.write_faults files.old }
+    ensures reads { OnlyReads F.content F.read_faults F.write_faults files.old files.new (result ≡ None) }
 {
     let mut octet = [0u8; 1];
     match files.read_at(name, CAPTURE_LIMIT, &mut octet) {
@@ -144,9 +137,7 @@ fn watch_records<F: Files>(
         × (scope ≡ Scope.Recording → r.stamps.items ≡ all)) }
     ensures for_assets { IfOk result (λ r. All (IsForAsset assets.now) (map flow_value r.flows.items)) }
     ensures fault { IfErr result (λ fault. WatchesAs assets.now (F.content files.old name.now) (Err fault)) }
-    ensures same { F.content files.new ≡ F.content files.old }
-    ensures read { HasCause (F.read_faults files.old) (F.read_faults files.new) (IsErrOf result WatchFault.Read) }
-    ensures writes { F.write_faults files.new ≡ F.write_faults files.old }
+    ensures reads { OnlyReads F.content F.read_faults F.write_faults files.old files.new (IsErrOf result WatchFault.Read) }
 {
     let mut watch = Watch::new(alloc);
     let mut kept = Vec::new(alloc);

@@ -13,7 +13,7 @@ use cf_run::RunNames;
 use cf_sift::SiftNames;
 
 /// What the words ask for. Names of files are not empty, and no two of one command are equal.
-#[derive(Clone, Copy, Debug)]
+#[derive(Clone, Copy)]
 pub enum Command<'a> {
     /// Read a policy.
     Check {

@@ -1,5 +1,2 @@
-mod Begun
-mod Lengths
-mod Meaning
 mod Records
 mod SoFar

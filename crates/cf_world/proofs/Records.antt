@@ -12,7 +12,8 @@ use Rattle.cf_pcap.specs.declared.Header.{Header}
 use Rattle.cf_records.specs.Capture.{AtPlace, Cut, FileEnd, Fits, Record, TooLong, classic_at, is_past, records_among}
 use Rattle.cf_records.specs.Moments.{AreTimed, AreTimedPieces, first_moment, moment_from, timed}
 use Rattle.cf_records.specs.declared.Form.TheVariants as form
-use Rattle.cf_world.specs.Capture.{AreSpaced, HasPacket, IsCaptureOf}
+use Rattle.cf_hosts.specs.Sessions.{HasPacket}
+use Rattle.cf_world.specs.Capture.{AreSpaced, IsCaptureOf}
 use Rattle.cf_world.specs.Making.{AreMade, IsMade, least_after, record_octets, records_octets}
 
 -- one more record after the others

@@ -10,8 +10,10 @@ use Rattle.cf_pcap.specs.Header.{output_octets}
 use Rattle.cf_records.specs.Capture.{Record}
 use Rattle.cf_view.specs.Moment.{moment_limit}
 use Rattle.cf_records.specs.Moments.{first_moment}
-use Rattle.cf_world.specs.Capture.{BeginsEach, IsSyn}
-use Rattle.cf_world.specs.Making.{AppendsAll, AppendsPart, AppendsRecords, AreMade, IsReadAgain, IsSent, least_after, made_record, record_octets, records_octets}
+use Rattle.cf_hosts.specs.Sessions.{IsSyn}
+use Rattle.cf_world.specs.Capture.{BeginsEach}
+use Rattle.cf_hosts.specs.Next.{IsSent, made_record}
+use Rattle.cf_world.specs.Making.{AppendsAll, AppendsPart, AppendsRecords, AreMade, IsReadAgain, least_after, record_octets, records_octets}
 use Rattle.cf_world.specs.World.{HoldsCapture, HoldsCapturePart, HoldsPolicy, LeavesCapturePart, MakesWorld, WorldNamesValue}
 use Rattle.cf_world.specs.declared.world.WorldFault.{WorldFault}
 use Rattle.cf_world.proofs.Records.{after_more, is_capture, made_more, octets_more}

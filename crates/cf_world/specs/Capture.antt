@@ -1,32 +1,12 @@
 -- The capture of a world: IsCaptureOf says of which records its octets are, and BeginsEach that each session begins in them.
 -- draft-ietf-opsawg-pcap; the settings are this project's own.
-use Rattle.std.specs.Prelude.{◌≡◌, ◌≤◌, ◌<◌, ◌⊎◌, ℕ, ◌+◌, ◌*◌, List, [], ◌∷◌, Ok, true, length, take, drop}
+use Rattle.std.specs.Prelude.{◌≡◌, ◌≤◌, ◌<◌, ℕ, ◌+◌, List, [], ◌∷◌, Ok, length, take, drop}
 use Rattle.std.specs.List.{AllByRecursion, Contains}
-use Rattle.cf_packet.specs.Packet.{PacketValue, read_record}
 use Rattle.cf_pcap.specs.Header.{header_of, output_header, output_octets}
 use Rattle.cf_records.specs.Capture.{FileEnd, Record}
 use Rattle.cf_records.specs.Moments.{AreTimed, first_moment}
-use Rattle.cf_leg.specs.Segment.{is_opening}
 use Rattle.cf_records.specs.declared.Form.TheVariants as form
-use Rattle.cf_world.specs.Flows.{client_endpoint, controller_endpoint}
-
--- the octets of a record are this packet
-abbrev pub Has : Record → PacketValue → Type 0
-Has r packet = read_record r.link r.body ≡ Ok packet
-
--- a packet is from a session's client to its controller, or back
-abbrev pub IsBetween : (session : ℕ) → PacketValue → Type 0
-IsBetween session packet =
-    ((packet.source ≡ client_endpoint session) × (packet.dest ≡ controller_endpoint session))
-    ⊎ ((packet.source ≡ controller_endpoint session) × (packet.dest ≡ client_endpoint session))
-
--- they are a packet of a session
-pub record HasPacket (r : Record) : Type 0 where
-  pub packet : PacketValue
-  pub has : Has r packet
-  pub session : ℕ
-  pub below : session < 200
-  pub between : IsBetween session packet
+use Rattle.cf_hosts.specs.Sessions.{HasPacket, IsSyn}
 
 -- the first record's stamp is at least so much, and that of each other one at least 2 milliseconds later than the one before
 abbrev pub AreSpaced : (least : ℕ) → List Record → Type 0
@@ -42,17 +22,6 @@ pub record IsCaptureOf (records : List Record) (octets : List ℕ) : Type 0 wher
       (record { place = length octets; found = FileEnd })
   pub packets : AllByRecursion HasPacket records
   pub apart : AreSpaced first_moment records
-
--- a record is a SYN with which a session may begin: from its client to its controller, without ACK, RST and FIN, with its sequence
--- number, and no earlier than the client begins
-pub record IsSyn (session : ℕ) (r : Record) : Type 0 where
-  pub packet : PacketValue
-  pub has : Has r packet
-  pub opening : is_opening packet ≡ true
-  pub source : packet.source ≡ client_endpoint session
-  pub dest : packet.dest ≡ controller_endpoint session
-  pub number : packet.seq ≡ 1000 * (session + 1)
-  pub moment : 1000000 + 20000 * session ≤ r.stamp
 
 -- each of so many sessions has one among the records
 abbrev pub BeginsEach : (sessions : ℕ) → List Record → Type 0

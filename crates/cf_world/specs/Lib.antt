@@ -1,10 +1,3 @@
 pub mod Capture
-pub mod Document
-pub mod Draws
-pub mod Flows
-pub mod Hosts
 pub mod Making
-pub mod Segments
-pub mod SilentDesk
-pub mod Tables
 pub mod World

@@ -3,7 +3,7 @@ use Rattle.std.specs.Prelude.{◌≡◌, ◌<◌, ◌⊎◌, ℕ, List, length, 
 use Rattle.cf_outside.specs.Files.{Content, IsPartly, content_after_write}
 use Rattle.cf_records.specs.Capture.{Record}
 use Rattle.cf_world.specs.Capture.{BeginsEach, IsCaptureOf}
-use Rattle.cf_world.specs.Document.{IsDocument}
+use Rattle.cf_hosts.specs.Document.{IsDocument}
 use Rattle.cf_world.specs.declared.world.TheConstants.{RECORD_LIMIT}
 use Rattle.cf_world.specs.declared.world.WorldFault.{WorldFault}
 use Rattle.cf_world.specs.declared.world.WorldNames.{WorldNames}

@@ -4,13 +4,13 @@ ghost use Rattle.cf_outside.specs.Frames.{OnlyWrites};
 ghost use Rattle.cf_policy.specs.Within.{AreAssetsWithin};
 ghost use Rattle.cf_run.specs.Step.{IsSoundEngine};
 ghost use Rattle.cf_view.specs.Moment.{moment_limit};
-ghost use Rattle.cf_world.specs.Making.{AppendsRecord, AppendsRecords, IsReadAgain, made_record};
+ghost use Rattle.cf_hosts.specs.Next.{made_record};
+ghost use Rattle.cf_world.specs.Making.{AppendsRecord, AppendsRecords, IsReadAgain};
 
-use crate::hosts::Hosts;
-use crate::next::{Next, comes_next};
 use crate::record::append_record;
 use crate::world::{RECORD_LIMIT, WorldFault};
 use arrayvec::ArrayVec;
+use cf_hosts::{Hosts, Next, comes_next};
 use cf_outside::{Files, WriteAnswer};
 use cf_policy::Policy;
 use cf_run::{Engine, StepFault};

@@ -3,10 +3,11 @@ ghost use Rattle.std.specs.Prelude.{◌≡◌, ◌<◌, ◌≤◌, ◌∷◌, []
 ghost use Rattle.cf_outside.specs.Files.{Appends};
 ghost use Rattle.cf_outside.specs.Frames.{OnlyWrites};
 ghost use Rattle.cf_view.specs.Moment.{moment_limit};
-ghost use Rattle.cf_world.specs.Making.{IsReadAgain, made_record, record_octets};
+ghost use Rattle.cf_hosts.specs.Next.{made_record};
+ghost use Rattle.cf_world.specs.Making.{IsReadAgain, record_octets};
 
 use cf_outside::{Files, WriteAnswer};
-use cf_run::packet_record;
+use cf_run::append_packet;
 
 /// Appends the record of a packet of at most 1,500 octets, at a moment in microseconds.
 pub(crate) fn append_record<F: Files>(
@@ -22,6 +23,5 @@ pub(crate) fn append_record<F: Files>(
     ensures again { IsReadAgain (made_record moment packet.now) }
     ensures writes { OnlyWrites (name.now ∷ []) F.content F.read_faults F.write_faults files.old files.new (result ≡ WriteAnswer.Failed) }
 {
-    let record = packet_record(moment, packet);
-    files.append(name, &record)
+    append_packet(name, moment, packet, files)
 }

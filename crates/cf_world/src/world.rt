@@ -5,9 +5,8 @@ ghost use Rattle.cf_outside.specs.Frames.{OnlyWrites};
 ghost use Rattle.cf_pcap.specs.Header.{output_octets};
 ghost use Rattle.cf_world.specs.World.{MakesWorld, world_names_value};
 
-use crate::document::make_document;
-use crate::hosts::Hosts;
 use crate::making::make_records;
+use cf_hosts::{Hosts, make_document};
 use cf_lane::LETTER_LIMIT;
 use cf_outside::{Files, write_whole};
 use cf_pcap::write_header;

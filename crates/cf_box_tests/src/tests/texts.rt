@@ -2,6 +2,7 @@
 //! this code, by a program of its own that spreads a seed as `rand_core` states it and that gives the first words of the generator's
 //! reference (state 42, stream 54: a15c02b7, 7b47f409, ba1d3330); and so were the texts, by what each draw means.
 use crate::tests::same;
+use cf_hosts::{Draws, make_document};
 use cf_outside::MemoryFiles;
 use cf_packet::{Packet, read_packet};
 use cf_policy::Policy;
@@ -9,7 +10,7 @@ use cf_policylang::read_policy;
 use cf_records::{NextRecord, RecordReader};
 use cf_samples::rows::hex;
 use cf_view::LinkKind;
-use cf_world::{Draws, RECORD_LIMIT, WorldNames, make_document, make_world};
+use cf_world::{RECORD_LIMIT, WorldNames, make_world};
 use std::alloc::{AllocError, Global};
 use std::fmt::Write;
 use std::test::Fail;

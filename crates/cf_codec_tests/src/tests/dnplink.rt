@@ -195,7 +195,7 @@ fn put_frame(rt: &impl Abort, frame: &Frame<'_>, octets: &[u8], out: &mut String
         frame.control,
         frame.dest,
         frame.source,
-        &user[..len],
+        &View::one(&user[..len]),
         &mut written,
     );
     if !View::one(written.as_slice()).equals(octets) {
@@ -225,7 +225,7 @@ fn put_size(rt: &impl Abort, count: &[u8], out: &mut String) {
         0x44,
         0xFFFE,
         0x0102,
-        &user[..count[0] as usize],
+        &View::one(&user[..count[0] as usize]),
         &mut written,
     );
     let frame = written.as_slice();

@@ -10,7 +10,7 @@ use cf_dnplink::write_frame;
 use cf_dnptrans::{segment_count, segment_octet};
 use cf_outq::Outq;
 use cf_policy::Asset;
-use cf_view::{Side, View, push_view};
+use cf_view::{Side, View};
 
 /// The control octet of data towards the controller: DIR, PRM and code 4.
 const TO_CONTROLLER: u8 = 0xc4;
@@ -21,7 +21,8 @@ const OCTETS: usize = 249;
 /// Transport sequences count modulo 64.
 const MODULUS: u8 = 64;
 
-/// Puts a fragment of at most 2,056 octets into the queue to a side, in frames of at most 249 application octets. The first
+/// Puts a fragment of at most 2,056 octets, which is one piece, into the queue to a side, in frames of at most 249 application
+/// octets. The first
 /// has this transport sequence; the answer is the one that follows the last. IEEE 1815-2012, section 8.2.
 pub(crate) fn push_fragment(
     asset: &Asset,
@@ -31,60 +32,60 @@ pub(crate) fn push_fragment(
     queue: &mut Outq,
 ) -> u8
     requires size { length octets.now.bytes ≤ 2056 }
+    requires one { octets.now.split ≡ length octets.now.bytes }
     requires sequence { sequence < 64 }
     requires open { queue.old.ended ≡ false }
     requires room { HasRoom (length (frames_at asset.now to sequence octets.now.bytes)) queue.old }
     ensures queue { queue.new ≡ after_push queue.old (frames_at asset.now to sequence octets.now.bytes) }
     ensures sequence { result ≡ (sequence + count_of (length octets.now.bytes)) % 64 }
 {
+    let (whole, _) = octets.pieces();
     let count = segment_count(octets.len());
     for i in 0..count {
-        push_segment(asset, to, octets, i, sequence, queue);
+        push_segment(asset, to, whole, i, sequence, queue);
     }
     (sequence + count as u8) % MODULUS
 }
 
 /// Puts segment `i` of a fragment, whose first one has this transport sequence, into the queue to a side.
-fn push_segment(
-    asset: &Asset,
-    to: Side,
-    octets: &View<'_>,
-    i: usize,
-    sequence: u8,
-    queue: &mut Outq,
-)
-    requires size { length octets.now.bytes ≤ 2056 }
-    requires inside { i < count_of (length octets.now.bytes) }
+fn push_segment(asset: &Asset, to: Side, octets: &[u8], i: usize, sequence: u8, queue: &mut Outq)
+    requires size { length octets.now ≤ 2056 }
+    requires inside { i < count_of (length octets.now) }
     requires sequence { sequence < 64 }
     requires open { queue.old.ended ≡ false }
-    requires room { HasRoom (length (data_octets asset.now to (segment_of octets.now.bytes sequence i))) queue.old }
-    ensures { queue.new ≡ after_push queue.old (data_octets asset.now to (segment_of octets.now.bytes sequence i)) }
+    requires room { HasRoom (length (data_octets asset.now to (segment_of octets.now sequence i))) queue.old }
+    ensures { queue.new ≡ after_push queue.old (data_octets asset.now to (segment_of octets.now sequence i)) }
 {
-    let mut user = ArrayVec::<u8, 250>::new();
-    write_segment(octets, i, sequence, &mut user);
     let mut frame = ArrayVec::<u8, 292>::new();
-    write_data(asset, to, user.as_slice(), &mut frame);
+    write_segment(asset, to, octets, i, sequence, &mut frame);
     queue.push(frame.as_slice());
 }
 
-/// Replaces the contents of `out` by segment `i` of a fragment.
-fn write_segment(octets: &View<'_>, i: usize, sequence: u8, out: &mut ArrayVec<u8, 250>)
-    requires size { length octets.now.bytes ≤ 2056 }
-    requires inside { i < count_of (length octets.now.bytes) }
+/// Replaces the contents of `out` by the frame of segment `i` of a fragment.
+fn write_segment(
+    asset: &Asset,
+    to: Side,
+    octets: &[u8],
+    i: usize,
+    sequence: u8,
+    out: &mut ArrayVec<u8, 292>,
+)
+    requires size { length octets.now ≤ 2056 }
+    requires inside { i < count_of (length octets.now) }
     requires sequence { sequence < 64 }
-    ensures { out.new.items ≡ segment_of octets.now.bytes sequence i }
+    ensures { out.new.items ≡ data_octets asset.now to (segment_of octets.now sequence i) }
 {
     let len = octets.len();
     let from = OCTETS * i;
-    out.clear();
-    out.push(segment_octet(len, i, (sequence + i as u8) % MODULUS));
-    push_view(out, &octets.sub(from, (from + OCTETS).min(len)));
+    let head = [segment_octet(len, i, (sequence + i as u8) % MODULUS)];
+    let part = &octets[from..(from + OCTETS).min(len)];
+    write_data(asset, to, &View::two(&head, part), out);
 }
 
 /// Replaces the contents of `out` by a data frame towards a side.
-fn write_data(asset: &Asset, to: Side, user: &[u8], out: &mut ArrayVec<u8, 292>)
-    requires { length user.now ≤ 250 }
-    ensures { out.new.items ≡ data_octets asset.now to user.now }
+fn write_data(asset: &Asset, to: Side, user: &View<'_>, out: &mut ArrayVec<u8, 292>)
+    requires { length user.now.bytes ≤ 250 }
+    ensures { out.new.items ≡ data_octets asset.now to user.now.bytes }
 {
     match to {
         Side::Controller => write_frame(TO_CONTROLLER, asset.station, asset.master, user, out),

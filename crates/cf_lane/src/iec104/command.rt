@@ -40,7 +40,8 @@ fn push_refused(
     to_client: &mut Outq,
     to_controller: &mut Outq,
 )
-    requires mirror { MatchOption stamp.now.reply (Unit {0}) (λ s. IsSmall s × (9 ≤ length asdu.now.bytes) × (to_client.old.ended ≡ false)) }
+    requires mirror { MatchOption stamp.now.reply (Unit {0})
+        (λ s. IsSmall s × (9 ≤ length asdu.now.bytes) × (to_client.old.ended ≡ false)) }
     requires small { MatchOption stamp.now.ack (Unit {0}) (λ n. n < 32768) }
     requires at_most { length asdu.now.bytes ≤ 249 }
     requires open { to_controller.old.ended ≡ false }

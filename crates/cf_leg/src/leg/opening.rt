@@ -14,7 +14,7 @@ ghost use Rattle.cf_outside.specs.Frames.{OnlyEmits};
 ghost use Rattle.std.specs.Result.{is_err};
 ghost use Rattle.cf_view.specs.Moment.{moment_limit};
 
-use super::{Leg, SECOND};
+use super::{Leg, SECOND, WINDOW};
 use crate::ends::{Phase, Role};
 use crate::send::send;
 use cf_outq::Outq;
@@ -37,7 +37,7 @@ impl Leg {
         self.phase = Phase::Greeted;
         self.deadline = moment + SECOND;
         if let Role::Passive(_, _) = self.ends.role {
-            self.window.open_to(16_384);
+            self.window.open_to(WINDOW as i64);
         }
     }
 
@@ -80,7 +80,7 @@ impl Leg {
             seq: self.own,
             ack,
             flags,
-            window: 16_384,
+            window: WINDOW as u16,
             mss: Some(1460),
             text: &[],
         };

@@ -1,6 +1,6 @@
 use Rattle.std.proofs.Common.{refl}
 use Rattle.cf_words.specs.Command.{Check, Compare}
-use Rattle.cf_box.specs.Outside.{files_value, outside}
+use Rattle.cf_ending.specs.Outside.{files_value, outside}
 use Rattle.cf_box.proofs.Comparing.{other_stops, policies_meet}
 use Rattle.cf_box.proofs.compare.compare_files.Goals as goal
 

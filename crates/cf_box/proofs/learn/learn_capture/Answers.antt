@@ -3,7 +3,7 @@ use Rattle.cf_watch.specs.FlowValue.{flow_value}
 use Rattle.cf_words.specs.Command.{Learn}
 use Rattle.cf_box.specs.Ends.{Meets}
 use Rattle.cf_box.specs.Learn.{IsLearned, LearnLeaves, LearnsAs}
-use Rattle.cf_box.specs.Outside.{files_value, outside}
+use Rattle.cf_ending.specs.Outside.{files_value, outside}
 use Rattle.cf_box.proofs.Learning.{has_watched, unlearned_meets, unwatched_meets, written_meets}
 use Rattle.cf_box.proofs.Passing.{unread_leaves}
 use Rattle.cf_box.proofs.learn.learn_capture.Goals as goal
@@ -20,9 +20,9 @@ returns-in-Err-watch-clause-meets g c = λ sink pair.
     let before = outside (files_value g.F.Files c.args.files.now) sink pair in
     let middle = outside (files_value g.F.Files c.load_policy.new.files) sink pair in
     let after = outside (files_value g.F.Files c.watch.new.files) sink pair in
-    subst (λ s. Meets (Learn c.args.policy_file.now c.args.capture.now c.args.out.now) before after (Err s)) (sym c.from.ensures)
+    subst (λ s. Meets (Learn c.args.policy_file.now c.args.capture.now c.args.out.now) before after (Err s)) (sym c.fault_stop.ensures)
     (unwatched_meets c.args.policy_file.now c.args.capture.now c.args.out.now before c.in-Ok.policy c.in-Ok.ensures.has middle after
-    c.load_policy.ensures.only c.watch.ensures.same refl refl c.in-Err-watch.fault (λ is. c.in-Err-watch.ensures.read.rose (ap Err is))
+    c.load_policy.ensures.only c.watch.ensures.reads.same refl refl c.in-Err-watch.fault (λ is. c.in-Err-watch.ensures.reads.cause.rose (ap Err is))
     c.in-Err-watch.ensures.fault)
 
 pub returns-clause-meets : goal.returns-clause-meets
@@ -33,7 +33,7 @@ returns-clause-meets g c = λ sink pair.
     let flows = map flow_value c.in-Ok-watch.flows.items in
     unlearned_meets c.args.policy_file.now c.args.capture.now c.args.out.now before c.in-Ok.policy c.in-Ok.ensures.has flows
     (has_watched c.args.policy_file.now c.args.capture.now c.args.out.now before c.in-Ok.policy c.in-Ok.ensures.has middle flows c.load_policy.ensures.only c.in-Ok-watch.ensures.watched)
-    after (record { content = c.watch.ensures.same ∙ c.load_policy.ensures.only.content; sink = refl; pair = refl }) c.in-Err-learned.stop
+    after (record { content = c.watch.ensures.reads.same ∙ c.load_policy.ensures.only.content; sink = refl; pair = refl }) c.in-Err-learned.stop
     (subst (λ l. LearnsAs c.in-Ok.policy (map flow_value l) (Err c.in-Err-learned.stop)) c.as_slice.ensures.value c.in-Err-learned.ensures)
 
 pub returns-in-Ok-learned-clause-meets : goal.returns-in-Ok-learned-clause-meets
@@ -43,10 +43,10 @@ returns-in-Ok-learned-clause-meets g c = λ sink pair.
     let watched = outside (files_value g.F.Files c.watch.new.files) sink pair in
     let after = outside (files_value g.F.Files c.write_policy.new.files) sink pair in
     let flows = map flow_value c.in-Ok-watch.flows.items in
-    let reads = c.watch.ensures.read.later in
+    let reads = c.watch.ensures.reads.cause.later in
     let earlier = c.load_policy.ensures.only.reads in
     written_meets c.args.policy_file.now c.args.capture.now c.args.out.now before c.in-Ok.policy c.in-Ok.ensures.has flows
     (has_watched c.args.policy_file.now c.args.capture.now c.args.out.now before c.in-Ok.policy c.in-Ok.ensures.has middle flows c.load_policy.ensures.only c.in-Ok-watch.ensures.watched)
     watched after c.in-Ok-learned.policy (subst (λ l. IsLearned c.in-Ok.policy (map flow_value l) c.in-Ok-learned.policy) c.as_slice.ensures.value c.in-Ok-learned.ensures.0)
-    (record { content = c.watch.ensures.same ∙ c.load_policy.ensures.only.content; reads = omega (arith, reads, earlier); writes = c.watch.ensures.writes ∙ c.load_policy.ensures.only.writes })
+    (record { content = c.watch.ensures.reads.same ∙ c.load_policy.ensures.only.content; reads = omega (arith, reads, earlier); writes = c.watch.ensures.reads.writes ∙ c.load_policy.ensures.only.writes })
     c.write_policy.ensures.only.others refl refl c.write_policy.result c.write_policy.ensures.writes c.write_policy.ensures.only.cause.rose c.write_policy.ensures.unwritten

@@ -1,6 +1,6 @@
 use Rattle.std.proofs.Common.{refl}
 use Rattle.cf_words.specs.Command.{Migrate}
-use Rattle.cf_box.specs.Outside.{files_value, outside}
+use Rattle.cf_ending.specs.Outside.{files_value, outside}
 use Rattle.cf_box.specs.Migrate.{MigrateLeaves}
 use Rattle.cf_box.proofs.Migrating.{written_meets}
 use Rattle.cf_box.proofs.Passing.{unread_leaves}

@@ -1,4 +1,5 @@
 use Rattle.std.proofs.Common.{◌≡◌, ◌+◌, ◌-◌, ◌^◌, ◌≤◌}
+use Rattle.cf_outside.specs.Frames.{OnlyReads}
 use Rattle.cf_box.proofs.Listing.{AreListed}
 use Rattle.cf_box.proofs.packets.list_records.Given as goal
 
@@ -9,9 +10,7 @@ invariant-records g l =
       listed : AreListed (content l.fn.files l.name) l.fn.reader.form l.reader l.number (g.O.Sink.text l.fn.out) (g.O.Sink.text l.out) l.lines.items;
       near : l.reader.place ≤ 2 ^ 40;
       few : l.number ≤ l.reader.place + 1;
-      same : content l.files ≡ content l.fn.files;
-      reads : g.F.Files.read_faults l.fn.files ≤ g.F.Files.read_faults l.files;
-      writes : g.F.Files.write_faults l.files ≡ g.F.Files.write_faults l.fn.files;
+      reads : OnlyReads content g.F.Files.read_faults g.F.Files.write_faults l.fn.files l.files ⊥;
       puts : g.O.Sink.faults l.fn.out ≤ g.O.Sink.faults l.out;
     }
 

@@ -2,7 +2,7 @@ use Rattle.std.proofs.Common.{inl, refl, subst, sym}
 use Rattle.cf_outside.specs.PairValue.{pair_value}
 use Rattle.cf_words.specs.Command.{Relay}
 use Rattle.cf_box.specs.Ends.{Meets}
-use Rattle.cf_box.specs.Outside.{files_value, outside}
+use Rattle.cf_ending.specs.Outside.{files_value, outside}
 use Rattle.cf_box.proofs.Relaying.{relay_after}
 use Rattle.cf_box.proofs.relay.relay.Goals as goal
 

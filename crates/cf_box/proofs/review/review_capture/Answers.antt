@@ -7,7 +7,7 @@ use Rattle.cf_watch.specs.Watch.{IsRecordingOf}
 use Rattle.cf_watch.specs.FlowValue.{flow_value}
 use Rattle.cf_words.specs.Command.{Review}
 use Rattle.cf_box.specs.Ends.{Meets}
-use Rattle.cf_box.specs.Outside.{files_value, outside}
+use Rattle.cf_ending.specs.Outside.{files_value, outside}
 use Rattle.cf_box.specs.Review.{ReviewLeaves}
 use Rattle.cf_box.proofs.Passing.{unread_leaves}
 use Rattle.cf_box.proofs.Recorded.{answered_meets, failed_meets, unwatched_meets}
@@ -25,9 +25,9 @@ returns-in-Err-watch_recording-clause-meets g c = λ sink pair.
     let before = outside (files_value g.F.Files c.args.files.now) sink pair in
     let middle = outside (files_value g.F.Files c.load_policy.new.files) sink pair in
     let after = outside (files_value g.F.Files c.watch_recording.new.files) sink pair in
-    subst (λ s. Meets (Review c.args.policy_file.now c.args.capture.now c.args.log.now) before after (Err s)) (sym c.from.ensures)
+    subst (λ s. Meets (Review c.args.policy_file.now c.args.capture.now c.args.log.now) before after (Err s)) (sym c.fault_stop.ensures)
     (unwatched_meets c.args.policy_file.now c.args.capture.now c.args.log.now before c.in-Ok.policy c.in-Ok.ensures.has middle after
-    c.load_policy.ensures.only c.watch_recording.ensures.same refl refl c.in-Err-watch_recording.fault (λ is. c.in-Err-watch_recording.ensures.read.rose (ap Err is))
+    c.load_policy.ensures.only c.watch_recording.ensures.reads.same refl refl c.in-Err-watch_recording.fault (λ is. c.in-Err-watch_recording.ensures.reads.cause.rose (ap Err is))
     c.in-Err-watch_recording.ensures.fault)
 
 pub returns-in-Ok-write_lines-clause-meets : goal.returns-in-Ok-write_lines-clause-meets
@@ -38,16 +38,16 @@ returns-in-Ok-write_lines-clause-meets g c = λ sink pair.
     let p = c.in-Ok.policy in
     let recording = c.in-Ok-watch_recording.recording in
     let flows = map flow_value recording.flows.items in
-    let reads = c.watch_recording.ensures.read.later in
+    let reads = c.watch_recording.ensures.reads.cause.later in
     let earlier = c.load_policy.ensures.only.reads in
-    let recorded = subst (λ (content : List ℕ → Content). IsRecordingOf p.assets (content c.args.capture.now) flows recording.stamps.items) (sym c.watch_recording.ensures.same)
+    let recorded = subst (λ (content : List ℕ → Content). IsRecordingOf p.assets (content c.args.capture.now) flows recording.stamps.items) (sym c.watch_recording.ensures.reads.same)
     c.in-Ok-watch_recording.ensures.watched in
     let is = subst (λ l. IsReviewOf p.assets (map flow_value l) c.in-Ok-review.reviewed) c.as_slice.ensures.value c.in-Ok-review.ensures.reviewed in
     let text : review_text p.assets c.as_slice-2.result.now (map remark_value c.as_slice-3.result.now) ≡ review_text p.assets recording.stamps.items (map remark_value c.in-Ok-review.reviewed.remarks.items) =
     ap (λ s. review_text p.assets s (map remark_value c.as_slice-3.result.now)) c.as_slice-2.ensures.value
     ∙ ap (λ l. review_text p.assets recording.stamps.items (map remark_value l)) c.as_slice-3.ensures.value in
     answered_meets c.args.policy_file.now c.args.capture.now c.args.log.now before p c.in-Ok.ensures.has middle after recording.stamps.items c.in-Ok-review.reviewed flows recorded is
-    (record { content = c.watch_recording.ensures.same ∙ c.load_policy.ensures.only.content; reads = omega (arith, reads, earlier); writes = c.watch_recording.ensures.writes ∙ c.load_policy.ensures.only.writes })
+    (record { content = c.watch_recording.ensures.reads.same ∙ c.load_policy.ensures.only.content; reads = omega (arith, reads, earlier); writes = c.watch_recording.ensures.reads.writes ∙ c.load_policy.ensures.only.writes })
     refl refl c.write_lines.ensures.writes.others
     (c.in-Ok-write_lines.ensures.done ∙ ap (content_after_write (g.F.Files.content c.watch_recording.new.files c.args.log.now)) text) c.answer.result c.answer.ensures
 
@@ -59,16 +59,16 @@ returns-clause-meets g c = λ sink pair.
     let p = c.in-Ok.policy in
     let recording = c.in-Ok-watch_recording.recording in
     let flows = map flow_value recording.flows.items in
-    let reads = c.watch_recording.ensures.read.later in
+    let reads = c.watch_recording.ensures.reads.cause.later in
     let earlier = c.load_policy.ensures.only.reads in
-    let recorded = subst (λ (content : List ℕ → Content). IsRecordingOf p.assets (content c.args.capture.now) flows recording.stamps.items) (sym c.watch_recording.ensures.same)
+    let recorded = subst (λ (content : List ℕ → Content). IsRecordingOf p.assets (content c.args.capture.now) flows recording.stamps.items) (sym c.watch_recording.ensures.reads.same)
     c.in-Ok-watch_recording.ensures.watched in
     let is = subst (λ l. IsReviewOf p.assets (map flow_value l) c.in-Ok-review.reviewed) c.as_slice.ensures.value c.in-Ok-review.ensures.reviewed in
     let text : review_text p.assets c.as_slice-2.result.now (map remark_value c.as_slice-3.result.now) ≡ review_text p.assets recording.stamps.items (map remark_value c.in-Ok-review.reviewed.remarks.items) =
     ap (λ s. review_text p.assets s (map remark_value c.as_slice-3.result.now)) c.as_slice-2.ensures.value
     ∙ ap (λ l. review_text p.assets recording.stamps.items (map remark_value l)) c.as_slice-3.ensures.value in
     failed_meets c.args.policy_file.now c.args.capture.now c.args.log.now before p c.in-Ok.ensures.has middle after recording.stamps.items c.in-Ok-review.reviewed flows recorded is
-    (record { content = c.watch_recording.ensures.same ∙ c.load_policy.ensures.only.content; reads = omega (arith, reads, earlier); writes = c.watch_recording.ensures.writes ∙ c.load_policy.ensures.only.writes })
+    (record { content = c.watch_recording.ensures.reads.same ∙ c.load_policy.ensures.only.content; reads = omega (arith, reads, earlier); writes = c.watch_recording.ensures.reads.writes ∙ c.load_policy.ensures.only.writes })
     refl refl c.write_lines.ensures.writes.others
     (c.in-Err-write_lines.ensures.writes.cause.rose refl)
     (subst (λ t. IsPartly t (g.F.Files.content c.watch_recording.new.files c.args.log.now) (g.F.Files.content c.write_lines.new.files c.args.log.now)) text c.in-Err-write_lines.ensures.partly)

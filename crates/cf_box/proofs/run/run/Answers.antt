@@ -2,7 +2,7 @@ use Rattle.std.proofs.Common.{Err, inl, refl, subst, sym}
 use Rattle.cf_run.specs.RunCapture.{run_names_value}
 use Rattle.cf_words.specs.Command.{Run}
 use Rattle.cf_box.specs.Ends.{Meets}
-use Rattle.cf_box.specs.Outside.{files_value, outside}
+use Rattle.cf_ending.specs.Outside.{files_value, outside}
 use Rattle.cf_box.proofs.Runs.{run_after}
 use Rattle.cf_box.proofs.run.run.Goals as goal
 
@@ -18,6 +18,6 @@ returns-clause-meets g c = λ sink pair.
     let before = outside (files_value g.F.Files c.args.files.now) sink pair in
     let middle = outside (files_value g.F.Files c.load_policy.new.files) sink pair in
     let after = outside (files_value g.F.Files c.run_capture.new.files) sink pair in
-    subst (λ s. Meets (Run c.args.policy_file.now names) before after (Err s)) (sym c.from.ensures)
+    subst (λ s. Meets (Run c.args.policy_file.now names) before after (Err s)) (sym c.run_stop.ensures)
     (run_after c.args.policy_file.now names before middle after c.in-Ok.policy c.in-Ok.ensures.has c.load_policy.ensures.only (Err c.in-Err-run_capture.fault)
     c.in-Err-run_capture.ensures.runs c.in-Err-run_capture.ensures.others c.in-Err-run_capture.ensures.read.rose c.in-Err-run_capture.ensures.write.rose refl refl)

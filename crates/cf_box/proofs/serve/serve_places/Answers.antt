@@ -1,5 +1,5 @@
 use Rattle.cf_box.proofs.Serving.{few_places, found_places, places_within, stops_of}
-use Rattle.cf_box.specs.Outside.{files_value}
+use Rattle.cf_ending.specs.Outside.{files_value}
 use Rattle.cf_box.specs.ServiceWords.{place_word_value, service_value}
 use Rattle.std.proofs.Common.{map, refl, subst, sym}
 use Rattle.cf_box.specs.Service.{StopsService}

@@ -1,7 +1,7 @@
 use Rattle.std.proofs.Common.{None, refl, ◌-◌, ◌^◌, ◌≡◌}
 use Rattle.cf_box.proofs.Serving.{all_served, all_stopped, policy_stops}
 use Rattle.cf_words.specs.Command.{Check}
-use Rattle.cf_box.specs.Outside.{SinkValue, files_value}
+use Rattle.cf_ending.specs.Outside.{SinkValue, files_value}
 use Rattle.cf_box.specs.ServiceWords.{service_value}
 use Rattle.cf_outside.specs.PairValue.{PairValue}
 use Rattle.cf_links.specs.Links.{LinksPlace}

@@ -1,7 +1,7 @@
 use Rattle.std.proofs.Common.{◌≡◌, ◌⊎◌, refl, subst}
 use Rattle.cf_words.specs.Command.{Command, World}
 use Rattle.cf_box.specs.Ends.{Ends}
-use Rattle.cf_box.specs.Outside.{Outside, outside_value}
+use Rattle.cf_ending.specs.Outside.{Outside, outside_value}
 use Rattle.cf_box.specs.Status.{AsksItsPair, CutsItsCapture, CutsItsStream, DeniesWhatItAsks, EndsItsIdles, ExceedsItsCells, ExceedsItsRules, LacksItsAsset, RefusesItsCapture, RefusesItsPolicy, outputs_of}
 use Rattle.cf_words.specs.Words.{command_value}
 use Rattle.cf_box.proofs.Complete.{complete_told}

@@ -1,5 +1,5 @@
 use Rattle.cf_outside.specs.PairValue.{pair_value}
-use Rattle.cf_box.specs.Outside.{sink_value}
+use Rattle.cf_ending.specs.Outside.{sink_value}
 use Rattle.cf_box.proofs.top.perform.Goals as goal
 
 pub returns-in-Check-clause-meets : goal.returns-in-Check-clause-meets

@@ -1,6 +1,6 @@
 use Rattle.std.proofs.Common.{refl}
 use Rattle.cf_run.specs.RunCapture.{run_names_value}
-use Rattle.cf_box.specs.Outside.{files_value, outside}
+use Rattle.cf_ending.specs.Outside.{files_value, outside}
 use Rattle.cf_box.proofs.Worlds.{world_meets}
 use Rattle.cf_box.proofs.world.world.Goals as goal
 

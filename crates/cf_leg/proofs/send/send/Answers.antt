@@ -1,19 +1,6 @@
-use Rattle.std.proofs.Common.{◌∙◌, ap, subst, ℕ, List}
-use Rattle.cf_outside.specs.Desk.{Adds, SentValue, with_item}
-use Rattle.cf_outside.specs.declared.files.WriteAnswer.TheVariants as write
-use Rattle.cf_leg.specs.Emitted.{spelled}
-use Rattle.cf_leg.proofs.Broken.{broken_one}
+use Rattle.std.proofs.Common.{◌∙◌}
+use Rattle.cf_packet.specs.Packet.{packet_value}
 use Rattle.cf_leg.proofs.send.send.Goals as goal
 
-pub returns-in-Done-clause-gets : goal.returns-in-Done-clause-gets
-unfolding spelled
-returns-in-Done-clause-gets g c =
-    c.in-Done.ensures.packets
-    ∙ ap (λ (octets : List ℕ). with_item {A = SentValue} (record { moment = c.args.moment; bytes = octets }) (g.D.Desk.value c.args.desk.now).packets) (c.as_slice.ensures.value ∙ c.write_packet.ensures.octets)
-
-pub returns-in-Failed-clause-gets : goal.returns-in-Failed-clause-gets
-unfolding spelled
-returns-in-Failed-clause-gets g c =
-    broken_one c.args.moment _ (g.D.Desk.value c.args.desk.now) (g.D.Desk.value c.emit.new.self)
-    (subst (λ (octets : List ℕ). Adds {A = SentValue} (record { moment = c.args.moment; bytes = octets }) ((g.D.Desk.value c.args.desk.now).octets (record { moment = c.args.moment; bytes = octets })) (g.D.Desk.value c.args.desk.now).packets (g.D.Desk.value c.emit.new.self).packets (g.D.Desk.value c.emit.new.self).packet_part write.Failed)
-    (c.as_slice.ensures.value ∙ c.write_packet.ensures.octets) c.in-Failed.ensures.packets)
+pub returns-clause-gets : goal.returns-clause-gets
+returns-clause-gets g c = c.emit.ensures.gets (packet_value c.args.packet.now) (c.as_slice.ensures.value ∙ c.write_packet.ensures.octets)

@@ -2,7 +2,7 @@ use Rattle.std.proofs.Common.{append_assoc}
 use Rattle.cf_packet.proofs.write.push_header.Goals as goal
 
 pub returns-clause-items : goal.returns-clause-items
-returns-clause-items c =
+returns-clause-items g c =
     rw (
       c.push_u32_be-2.ensures.items,
       c.push_u32_be.ensures.items,

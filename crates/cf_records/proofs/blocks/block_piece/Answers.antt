@@ -18,7 +18,7 @@ pub returns-clause-found : goal.returns-clause-found
 returns-clause-found g c =
     let file = g.F.Files.content c.args.files.now c.args.name.now in
     let whole = subst (λ (f : List ℕ → Content). IsFilled (f c.args.name.now) c.args.place c.in-Ok.size (take c.in-Some-fill_more.have c.fill_more.new.buffer))
-    c.in-Some.ensures.same c.in-Some-fill_more.ensures.filled in
+    c.in-Some.ensures.reads.same c.in-Some-fill_more.ensures.filled in
     whole_piece file (form.Blocks c.args.reader.now) (form.Blocks c.whole_at.new.reader) c.args.place 28 c.in-Ok.size c.in-Some-fill_more.have
     (take c.in-Some.have c.fill.new.buffer) c.fill_more.new.buffer c.whole_at.result c.in-Some.ensures.filled whole
     (λ octets first all. c.whole_at.ensures.found octets c.in-Ok.size all (c.in-Ok.ensures.found octets first)) c.whole_at.ensures.inside

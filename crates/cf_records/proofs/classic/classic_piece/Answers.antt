@@ -14,7 +14,7 @@ pub returns-clause-found : goal.returns-clause-found
 returns-clause-found g c =
     let file = g.F.Files.content c.args.files.now c.args.name.now in
     let whole = subst (λ (f : List ℕ → Content). IsFilled (f c.args.name.now) c.args.place c.in-Ok.size (take c.in-Some-fill.have c.fill-2.new.buffer))
-    c.in-Some.ensures.same c.in-Some-fill.ensures.filled in
+    c.in-Some.ensures.reads.same c.in-Some-fill.ensures.filled in
     whole_piece file (form.Classic c.args.header.now) (form.Classic c.args.header.now) c.args.place 16 c.in-Ok.size c.in-Some-fill.have
     (take c.in-Some.have c.fill.new.buffer) c.fill-2.new.buffer c.body_at.result c.in-Some.ensures.filled whole
     (λ octets first all. c.body_at.ensures.found octets c.in-Ok.size all (c.in-Ok.ensures.found octets first)) c.body_at.ensures.inside

@@ -1,13 +1,10 @@
 use Rattle.std.proofs.Common.{◌≤◌, ℕ, List, refl, subst, sym, ◌∙◌, arith}
-use Rattle.cf_outside.specs.Faults.{Rose}
+use Rattle.cf_outside.proofs.Frames.{reads_none, reads_on}
 use Rattle.cf_outside.specs.Files.{Content}
 use Rattle.cf_records.specs.Pieces.{FindsPiece}
 use Rattle.cf_records.specs.declared.record_reader.Piece.TheVariants as piece
 use Rattle.cf_records.proofs.Passing.{behind_all, passes_more, passes_none}
 use Rattle.cf_records.proofs.record_reader.piece_behind.Goals as goal
-
-later_rose : {a b c : ℕ} → a ≤ b → Rose b c → Rose a c
-later_rose l r = omega (arith, l, r)
 
 pub pieces-init : goal.pieces-init
 pieces-init g c = record {
@@ -17,9 +14,7 @@ pieces-init g c = record {
   long = refl;
   form = refl;
   passes = passes_none (g.F.Files.content c.args.files.now c.args.name.now) c.args.form.now c.args.place.now;
-  same = refl;
-  later = omega arith;
-  writes = refl;
+  reads = reads_none g.F.Files.content g.F.Files.read_faults g.F.Files.write_faults c.args.files.now;
 }
 
 pub pieces-preserved : goal.pieces-preserved
@@ -27,7 +22,7 @@ pieces-preserved g c =
     let so_far = c.pieces.invariant in
     let one = c.in-Passed.ensures in
     let found = subst (λ (f : List ℕ → Content). FindsPiece (f c.args.name.now) c.pieces.form c.pieces.place c.piece_at.new.form c.piece_at.new.buffer (piece.Passed c.in-Passed.used))
-    so_far.same one.found in
+    so_far.reads.same one.found in
     record {
       near = one.inside.1;
       on = omega (arith, so_far.on);
@@ -36,9 +31,7 @@ pieces-preserved g c =
       form = one.form ∙ so_far.form;
       passes = passes_more (g.F.Files.content c.args.files.now c.args.name.now) c.args.form.now c.pieces.form c.piece_at.new.form c.args.place.now c.pieces.place
           c.in-Passed.used c.piece_at.new.buffer so_far.passes found;
-      same = one.same ∙ so_far.same;
-      later = omega (arith, so_far.later, one.cause.later);
-      writes = one.writes ∙ so_far.writes;
+      reads = reads_on so_far.reads one.reads (λ none. absurd none);
     }
 
 pub returns-in_default : goal.returns-in_default
@@ -46,7 +39,7 @@ returns-in_default g c =
     let so_far = c.pieces.invariant in
     let one = c.piece_at.ensures in
     let found = subst (λ (f : List ℕ → Content). FindsPiece (f c.args.name.now) c.pieces.form c.pieces.place c.piece_at.new.form c.piece_at.new.buffer c.piece_at.result)
-    so_far.same one.found in
+    so_far.reads.same one.found in
     record {
       found = behind_all (g.F.Files.content c.args.files.now c.args.name.now) c.args.form.now c.pieces.form c.piece_at.new.form c.args.place.now c.pieces.place
           c.piece_at.new.buffer c.piece_at.result so_far.passes found c.in_default.not-Passed;
@@ -56,7 +49,5 @@ returns-in_default g c =
       none = λ used is. c.in_default.not-Passed used is;
       room = one.length ∙ so_far.long;
       form = one.form ∙ so_far.form;
-      same = one.same ∙ so_far.same;
-      cause = record { later = omega (arith, so_far.later, one.cause.later); rose = λ e. later_rose so_far.later (one.cause.rose e) };
-      writes = one.writes ∙ so_far.writes;
+      reads = reads_on so_far.reads one.reads (λ is. is);
     }

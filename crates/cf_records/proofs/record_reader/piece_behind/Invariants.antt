@@ -1,4 +1,5 @@
 use Rattle.std.proofs.Common.{◌≡◌, ◌-◌, ◌^◌, ◌≤◌, length}
+use Rattle.cf_outside.specs.Frames.{OnlyReads}
 use Rattle.cf_records.specs.Form.{room_of}
 use Rattle.cf_records.specs.Reader.{PassesSome}
 use Rattle.cf_records.proofs.record_reader.piece_behind.Given as goal
@@ -14,9 +15,7 @@ invariant-pieces g l =
       long : length l.buffer ≡ length l.fn.buffer;
       form : room_of l.form ≡ room_of l.fn.form;
       passes : PassesSome (content l.fn.files l.name) l.fn.form l.fn.place l.form l.place;
-      same : content l.files ≡ content l.fn.files;
-      later : g.F.Files.read_faults l.fn.files ≤ g.F.Files.read_faults l.files;
-      writes : g.F.Files.write_faults l.files ≡ g.F.Files.write_faults l.fn.files;
+      reads : OnlyReads content g.F.Files.read_faults g.F.Files.write_faults l.fn.files l.files ⊥;
     }
 
 abbrev pub decreases-pieces : goal.decreases-pieces

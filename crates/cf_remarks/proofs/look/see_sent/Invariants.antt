@@ -6,6 +6,7 @@ invariant-packets g l =
     record {
       near : l.sent.place ≤ 2 ^ 40;
       same : g.F.Files.content l.files ≡ g.F.Files.content l.fn.files;
+      later : g.F.Files.read_faults l.fn.files ≤ g.F.Files.read_faults l.files;
       writes : g.F.Files.write_faults l.files ≡ g.F.Files.write_faults l.fn.files;
     }
 

@@ -20,7 +20,7 @@ returns-in-Done-clause-runs g c =
     let before = content c.args.files.now in
     let created = content c.create_outputs.new.files in
     let after = content c.run_records.new.files in
-    let opened = c.in_ok-reader.ensures.same in
+    let opened = c.in_ok-reader.ensures.reads.same in
     let made = c.in-Done.ensures in
     let signed : pos 1073741824 ≡ pos c.in-Ok.engine.limit = c.in-Ok.ensures.limit in
     let limit : c.in-Ok.engine.limit ≡ 1073741824 = cc in
@@ -32,4 +32,4 @@ returns-in-Done-clause-runs g c =
 
 pub returns-clause-runs : goal.returns-clause-runs
 returns-clause-runs g c =
-    inl (subst (λ (f : List ℕ → Content). IsCreatedInPart (run_names_value c.args.names.now) f (g.F.Files.content c.create_outputs.new.files)) c.in_ok-reader.ensures.same (c.in-Failed.ensures.failed refl))
+    inl (subst (λ (f : List ℕ → Content). IsCreatedInPart (run_names_value c.args.names.now) f (g.F.Files.content c.create_outputs.new.files)) c.in_ok-reader.ensures.reads.same (c.in-Failed.ensures.failed refl))

@@ -31,28 +31,28 @@ records-preserved g c =
     let done = c.in_ok-run_record-in-Whole.ensures in
     let apart = c.requires.apart in
     record {
-      so_far = one_so_far before.so_far c.in-Whole.stamp read.found read.same c.max-moment.ensures (omega (arith, c.if-moment-ge-MOMENT_LIMIT.false)) done.steps done.limit
+      so_far = one_so_far before.so_far c.in-Whole.stamp read.found read.reads.same c.max-moment.ensures (omega (arith, c.if-moment-ge-MOMENT_LIMIT.false)) done.steps done.limit
           (done.others c.args.names.now.capture.now (apart.capture_out, (apart.capture_log, tt)));
       near = read.near;
       later = omega (arith, done.last);
       sound = done.sound;
       whole = done.whole;
-      others = λ other none. done.others other none ∙ ap (λ (f : List ℕ → Content). f other) read.same ∙ before.others other none;
-      reads = omega (arith, before.reads, read.cause.later, done.reads);
-      writes = omega (arith, before.writes, read.writes, done.cause.later);
+      others = λ other none. done.others other none ∙ ap (λ (f : List ℕ → Content). f other) read.reads.same ∙ before.others other none;
+      reads = omega (arith, before.reads, read.reads.cause.later, done.reads);
+      writes = omega (arith, before.writes, read.reads.writes, done.cause.later);
     }
 
 pub returns-in-End-clause-runs : goal.returns-in-End-clause-runs
 returns-in-End-clause-runs g c =
     let before = c.records.invariant in
     let read = c.in-End.ensures in
-    (_, runs_to before.so_far before.whole FileEnd read.same c.next.new.self.place (stands_end (g.F.Files.content c.records.files c.args.names.now.capture.now) c.records.reader c.next.new.self read.found) refl tt refl c.summary.ensures)
+    (_, runs_to before.so_far before.whole FileEnd read.reads.same c.next.new.self.place (stands_end (g.F.Files.content c.records.files c.args.names.now.capture.now) c.records.reader c.next.new.self read.found) refl tt refl c.summary.ensures)
 
 pub returns-in-Cut-clause-runs : goal.returns-in-Cut-clause-runs
 returns-in-Cut-clause-runs g c =
     let before = c.records.invariant in
     let read = c.in-Cut.ensures in
-    runs_to before.so_far before.whole Cut read.same c.next.new.self.place (stands_cut (g.F.Files.content c.records.files c.args.names.now.capture.now) c.records.reader c.next.new.self read.found) refl tt c.place.ensures c.summary-in-Cut.ensures
+    runs_to before.so_far before.whole Cut read.reads.same c.next.new.self.place (stands_cut (g.F.Files.content c.records.files c.args.names.now.capture.now) c.records.reader c.next.new.self read.found) refl tt c.place.ensures c.summary-in-Cut.ensures
 
 pub returns-then-moment-ge-MOMENT_LIMIT-clause-runs :
     goal.returns-then-moment-ge-MOMENT_LIMIT-clause-runs
@@ -61,19 +61,19 @@ returns-then-moment-ge-MOMENT_LIMIT-clause-runs g c =
     let read = c.in-Whole.ensures in
     let (place, used, stands) = stands_late (g.F.Files.content c.records.files c.args.names.now.capture.now) c.records.reader c.next.new.self c.in-Whole.stamp read.found in
     let late = too_late c.records.least used _ (omega (arith, c.if-moment-ge-MOMENT_LIMIT.true, c.max-moment.ensures)) in
-    (_, _, runs_to before.so_far before.whole _ read.same place stands late tt refl refl)
+    (_, _, runs_to before.so_far before.whole _ read.reads.same place stands late tt refl refl)
 
 pub returns-in-TooLong-clause-runs : goal.returns-in-TooLong-clause-runs
 returns-in-TooLong-clause-runs g c =
     let before = c.records.invariant in
     let read = c.in-TooLong.ensures in
-    (_, _, runs_to before.so_far before.whole TooLong read.same c.next.new.self.place (stands_long (g.F.Files.content c.records.files c.args.names.now.capture.now) c.records.reader c.next.new.self read.found) refl tt refl refl)
+    (_, _, runs_to before.so_far before.whole TooLong read.reads.same c.next.new.self.place (stands_long (g.F.Files.content c.records.files c.args.names.now.capture.now) c.records.reader c.next.new.self read.found) refl tt refl refl)
 
 pub returns-in-Large-clause-runs : goal.returns-in-Large-clause-runs
 returns-in-Large-clause-runs g c =
     let before = c.records.invariant in
     let read = c.in-Large.ensures in
-    (_, _, runs_to before.so_far before.whole Large read.same c.next.new.self.place (stands_large (g.F.Files.content c.records.files c.args.names.now.capture.now) c.records.reader c.next.new.self read.found) refl tt refl refl)
+    (_, _, runs_to before.so_far before.whole Large read.reads.same c.next.new.self.place (stands_large (g.F.Files.content c.records.files c.args.names.now.capture.now) c.records.reader c.next.new.self read.found) refl tt refl refl)
 
 pub returns-in-Refused-clause-runs : goal.returns-in-Refused-clause-runs
 returns-in-Refused-clause-runs g c =
@@ -81,14 +81,14 @@ returns-in-Refused-clause-runs g c =
     let read = c.in-Refused.ensures in (
       _,
       _,
-      runs_to before.so_far before.whole (Refused c.in-Refused.refusal) read.same c.next.new.self.place
+      runs_to before.so_far before.whole (Refused c.in-Refused.refusal) read.reads.same c.next.new.self.place
           (stands_refused (g.F.Files.content c.records.files c.args.names.now.capture.now) c.records.reader c.next.new.self c.in-Refused.refusal read.found) refl tt refl refl,
     )
 
 pub returns-in-Failed-clause-runs : goal.returns-in-Failed-clause-runs
 returns-in-Failed-clause-runs g c =
     let before = c.records.invariant in
-    runs_partly before.so_far before.whole c.in-Failed.ensures.same
+    runs_partly before.so_far before.whole c.in-Failed.ensures.reads.same
 
 pub returns-in_err-run_record-in-Whole-clause-runs : goal.returns-in_err-run_record-in-Whole-clause-runs
 returns-in_err-run_record-in-Whole-clause-runs g c =
@@ -108,10 +108,10 @@ returns-in_err-run_record-in-Whole-clause-runs g c =
     let moment = c.max-moment.result in
     let given : Input = record { moment = moment; packet = read_record next.link next.body } in
     let early : moment < moment_limit = omega (arith, c.if-moment-ge-MOMENT_LIMIT.false) in
-    let whole : are_whole names.out names.log files ≡ true = subst (λ (f : List ℕ → Content). are_whole names.out names.log f ≡ true) (sym read.same) before.whole in
+    let whole : are_whole names.out names.log files ≡ true = subst (λ (f : List ℕ → Content). are_whole names.out names.log f ≡ true) (sym read.reads.same) before.whole in
     told_on assets limit names first after fault c.from_residual.result c.from_residual.ensures.1
     (stopped assets limit names first after fault
-    (λ e. breaks_off so_far c.in-Whole.stamp next moment files after read.found read.same c.max-moment.ensures early whole
+    (λ e. breaks_off so_far c.in-Whole.stamp next moment files after read.found read.reads.same c.max-moment.ensures early whole
     (subst (λ n. StepBreaks assets n (table_after so_far.events) given (files_desk names.out names.log files) (files_desk names.out names.log after)) so_far.limited
     (failed.broken (ap Err e) so_far.events so_far.stands)))
-    (λ e. stops_between so_far c.in-Whole.stamp next moment files after read.found read.same c.max-moment.ensures early (failed.stops_whole (ap Err e)) (failed.stops (ap Err e) so_far.events so_far.stands)))
+    (λ e. stops_between so_far c.in-Whole.stamp next moment files after read.found read.reads.same c.max-moment.ensures early (failed.stops_whole (ap Err e)) (failed.stops (ap Err e) so_far.events so_far.stands)))

@@ -41,7 +41,7 @@ module _ (g : Over) (c : In-Some g) (client : Endpoint) (first : List ℕ → Co
 
   -- what was taken before it
   t : IsTakenTo asset client names first old now c.pieces.at c.pieces.sifting
-  t = subst (λ f. IsTakenTo asset client names first old f c.pieces.at c.pieces.sifting) (sym c.fill.ensures.same) (c.pieces.invariant.taken client first sifting)
+  t = subst (λ f. IsTakenTo asset client names first old f c.pieces.at c.pieces.sifting) (sym c.fill.ensures.reads.same) (c.pieces.invariant.taken client first sifting)
 
   size : length piece ≡ c.in-Some.count
   size = length-take-le c.in-Some.count c.fill.new.buffer (omega (arith, c.in-Some.ensures.inside, c.fill.ensures.length, c.pieces.invariant.piece))
@@ -96,7 +96,7 @@ returns-in_default-clause-read g c = λ is client first sifting.
     let old = content c.args.files.now in
     let now = content c.fill.new.files in
     let inv = c.pieces.invariant in
-    let t = subst (λ f. IsTakenTo asset client names first old f c.pieces.at c.pieces.sifting) (sym c.fill.ensures.same) (inv.taken client first sifting) in
+    let t = subst (λ f. IsTakenTo asset client names first old f c.pieces.at c.pieces.sifting) (sym c.fill.ensures.reads.same) (inv.taken client first sifting) in
     read_stops asset client names first c.has_one_judgement.ensures old now c.pieces.at c.pieces.sifting t
 
 pub returns-in_err-take_end-clause-write : goal.returns-in_err-take_end-clause-write
@@ -144,9 +144,9 @@ pieces-preserved g c =
       ready = f.ready c.in_default-2.is;
       letters = f.letters ∙ ap (λ n. n + length (take c.in-Some.count c.fill.new.buffer)) inv.letters ∙ ap (λ n. c.pieces.at + n) count;
       whole = f.whole;
-      others = λ other none. f.writes.others other none ∙ ap (λ (k : List ℕ → Content). k other) c.fill.ensures.same ∙ inv.others other none;
+      others = λ other none. f.writes.others other none ∙ ap (λ (k : List ℕ → Content). k other) c.fill.ensures.reads.same ∙ inv.others other none;
       piece = c.fill.ensures.length ∙ inv.piece;
       buffer = f.buffer;
-      reads = omega (arith, inv.reads, c.fill.ensures.cause.later, f.writes.reads);
-      writes = omega (arith, inv.writes, c.fill.ensures.writes, f.writes.cause.later);
+      reads = omega (arith, inv.reads, c.fill.ensures.reads.cause.later, f.writes.reads);
+      writes = omega (arith, inv.writes, c.fill.ensures.reads.writes, f.writes.cause.later);
     }

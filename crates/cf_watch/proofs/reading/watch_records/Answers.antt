@@ -1,5 +1,6 @@
 use Rattle.std.proofs.Common.{rules, ◌≡◌, ◌+◌, ◌-◌, ◌++◌, ◌∷◌, [], ◌∙◌, ℕ, List, Result, length, refl, sym, subst, ap, arith}
 use Rattle.cf_outside.specs.Files.{Content}
+use Rattle.cf_outside.proofs.Frames.{reads_none, reads_on}
 use Rattle.cf_packet.specs.Packet.{PacketValue, read_record}
 use Rattle.cf_packet.specs.declared.packet.PacketRefusal.{PacketRefusal}
 use Rattle.cf_records.proofs.Behind.{StandsBehind, stands_cut, stands_end, stands_large, stands_long, stands_refused}
@@ -20,9 +21,7 @@ records-init g c = record {
   kept = λ _. c.new-kept.ensures.items;
   near = first_low c.args.reader.now.form c.args.reader.now.place c.requires.place;
   few = omega arith;
-  same = refl;
-  reads = omega arith;
-  writes = refl;
+  reads = reads_none g.F.Files.content g.F.Files.read_faults g.F.Files.write_faults c.args.files.now;
 }
 
 pub records-preserved : goal.records-preserved
@@ -36,7 +35,7 @@ records-preserved g c =
     let number = c.records.number in
     let ws = seen_by c.args.scope assets so.newest in
     let found : FindsRecord (g.F.Files.content c.args.files.now c.args.name.now) c.records.reader reader (next.Whole stamp) =
-    subst (λ (content : List ℕ → Content). FindsRecord (content c.args.name.now) c.records.reader reader (next.Whole stamp)) before.same read.found in
+    subst (λ (content : List ℕ → Content). FindsRecord (content c.args.name.now) c.records.reader reader (next.Whole stamp)) before.reads.same read.found in
     let before_number : number ≡ number + 1 - 1 = omega arith in
     let packet : read_record c.link.result (frame_by c.args.scope c.link.result c.body.result.now) ≡ read_record reader.link (frame_by c.args.scope reader.link reader.body) =
     ap (λ l. read_record l (frame_by c.args.scope l c.body.result.now)) c.link.ensures ∙ ap (λ b. read_record reader.link (frame_by c.args.scope reader.link b)) c.body.ensures in
@@ -51,9 +50,7 @@ records-preserved g c =
           pushed ∙ ap (λ (xs : List ℕ). xs ++ stamp ∷ []) (before.kept keeps);
       near = omega (arith, c.if-place-gt-CAPTURE_LIMIT.false, c.place.ensures);
       few = omega (arith, before.few, read.on);
-      same = read.same ∙ before.same;
-      reads = omega (arith, before.reads, read.cause.later);
-      writes = read.writes ∙ before.writes;
+      reads = reads_on before.reads read.reads (λ none. absurd none);
     }
 
 pub returns-then-place-gt-CAPTURE_LIMIT-clause-fault : goal.returns-then-place-gt-CAPTURE_LIMIT-clause-fault
@@ -61,14 +58,14 @@ returns-then-place-gt-CAPTURE_LIMIT-clause-fault g c =
     let before = c.records.invariant in
     let stamp = c.in-Whole.stamp in
     let found : FindsRecord (g.F.Files.content c.args.files.now c.args.name.now) c.records.reader c.next.new.self (next.Whole stamp) =
-    subst (λ (content : List ℕ → Content). FindsRecord (content c.args.name.now) c.records.reader c.next.new.self (next.Whole stamp)) before.same c.in-Whole.ensures.found in
+    subst (λ (content : List ℕ → Content). FindsRecord (content c.args.name.now) c.records.reader c.next.new.self (next.Whole stamp)) before.reads.same c.in-Whole.ensures.found in
     read_inside (g.F.Files.content c.args.files.now c.args.name.now) c.records.reader c.next.new.self stamp 67108864 found
     (omega (arith, c.if-place-gt-CAPTURE_LIMIT.true, c.place.ensures))
 
 pub returns-in-End-clause-watched : goal.returns-in-End-clause-watched
 returns-in-End-clause-watched g c =
     let before = c.records.invariant in
-    let stands = subst (λ (content : List ℕ → Content). StandsBehind (content c.args.name.now) c.records.reader c.next.new.self.place FileEnd) before.same
+    let stands = subst (λ (content : List ℕ → Content). StandsBehind (content c.args.name.now) c.records.reader c.next.new.self.place FileEnd) before.reads.same
     (stands_end (g.F.Files.content c.records.files c.args.name.now) c.records.reader c.next.new.self c.in-End.ensures.found) in
     (before.all, is_recording before.so c.next.new.self.place c.requires.short stands, before.kept)
 
@@ -78,7 +75,7 @@ returns-in-End-clause-for_assets g c = for_assets c.records.invariant.so
 pub returns-in-Cut-clause-fault : goal.returns-in-Cut-clause-fault
 returns-in-Cut-clause-fault g c =
     let before = c.records.invariant in
-    let stands = subst (λ (content : List ℕ → Content). StandsBehind (content c.args.name.now) c.records.reader c.next.new.self.place Cut) before.same
+    let stands = subst (λ (content : List ℕ → Content). StandsBehind (content c.args.name.now) c.records.reader c.next.new.self.place Cut) before.reads.same
     (stands_cut (g.F.Files.content c.records.files c.args.name.now) c.records.reader c.next.new.self c.in-Cut.ensures.found) in
     subst (EndsAt (g.F.Files.content c.args.files.now c.args.name.now) Cut) (sym c.place-in-Cut.ensures) (ends_at before.so c.next.new.self.place Cut c.requires.short stands tt)
 
@@ -86,20 +83,20 @@ pub returns-in-Refused-clause-fault : goal.returns-in-Refused-clause-fault
 returns-in-Refused-clause-fault g c =
     let before = c.records.invariant in
     let of = c.in-Refused.refusal in
-    let stands = subst (λ (content : List ℕ → Content). StandsBehind (content c.args.name.now) c.records.reader c.next.new.self.place (Refused of)) before.same
+    let stands = subst (λ (content : List ℕ → Content). StandsBehind (content c.args.name.now) c.records.reader c.next.new.self.place (Refused of)) before.reads.same
     (stands_refused (g.F.Files.content c.records.files c.args.name.now) c.records.reader c.next.new.self of c.in-Refused.ensures.found) in
     (c.next.new.self.place, ends_at before.so c.next.new.self.place (Refused of) c.requires.short stands tt)
 
 pub returns-in-TooLong-clause-fault : goal.returns-in-TooLong-clause-fault
 returns-in-TooLong-clause-fault g c =
     let before = c.records.invariant in
-    let stands = subst (λ (content : List ℕ → Content). StandsBehind (content c.args.name.now) c.records.reader c.next.new.self.place TooLong) before.same
+    let stands = subst (λ (content : List ℕ → Content). StandsBehind (content c.args.name.now) c.records.reader c.next.new.self.place TooLong) before.reads.same
     (stands_long (g.F.Files.content c.records.files c.args.name.now) c.records.reader c.next.new.self c.in-TooLong.ensures.found) in
     (c.next.new.self.place, ends_at before.so c.next.new.self.place TooLong c.requires.short stands tt)
 
 pub returns-in-Large-clause-fault : goal.returns-in-Large-clause-fault
 returns-in-Large-clause-fault g c =
     let before = c.records.invariant in
-    let stands = subst (λ (content : List ℕ → Content). StandsBehind (content c.args.name.now) c.records.reader c.next.new.self.place Large) before.same
+    let stands = subst (λ (content : List ℕ → Content). StandsBehind (content c.args.name.now) c.records.reader c.next.new.self.place Large) before.reads.same
     (stands_large (g.F.Files.content c.records.files c.args.name.now) c.records.reader c.next.new.self c.in-Large.ensures.found) in
     large_is_long (g.F.Files.content c.args.files.now c.args.name.now) c.records.reader c.next.new.self.place 67108864 stands c.in-Large.ensures.near (omega arith)

@@ -1,4 +1,5 @@
 use Rattle.std.proofs.Common.{◌≡◌, ◌-◌, ◌^◌, ◌≤◌, ℕ, List}
+use Rattle.cf_outside.specs.Frames.{OnlyReads}
 use Rattle.cf_watch.specs.declared.scope.Scope.TheVariants as scope
 use Rattle.cf_watch.proofs.SoFar.{SoFar}
 use Rattle.cf_watch.proofs.reading.watch_records.Given as goal
@@ -12,9 +13,7 @@ invariant-records g l =
       kept : l.scope ≡ scope.Recording → l.kept.items ≡ all;
       near : l.reader.place ≤ 67108864;
       few : l.number ≤ l.reader.place;
-      same : content l.files ≡ content l.fn.files;
-      reads : g.F.Files.read_faults l.fn.files ≤ g.F.Files.read_faults l.files;
-      writes : g.F.Files.write_faults l.files ≡ g.F.Files.write_faults l.fn.files;
+      reads : OnlyReads content g.F.Files.read_faults g.F.Files.write_faults l.fn.files l.files ⊥;
     }
 
 abbrev pub decreases-records : goal.decreases-records

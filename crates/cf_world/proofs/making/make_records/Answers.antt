@@ -1,6 +1,6 @@
 use Rattle.std.proofs.Common.{◌∙◌, arith, subst, sym}
 use Rattle.std.proofs.lemmas.Result.{err_from_is_err_and}
-use Rattle.cf_world.specs.Making.{IsSent}
+use Rattle.cf_hosts.specs.Next.{IsSent}
 use Rattle.cf_world.proofs.SoFar.{one_so_far, part_made}
 use Rattle.cf_world.proofs.making.make_records.Goals as goal
 

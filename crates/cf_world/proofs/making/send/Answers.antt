@@ -1,4 +1,5 @@
-use Rattle.cf_world.specs.Making.{made_record, record_octets}
+use Rattle.cf_hosts.specs.Next.{made_record}
+use Rattle.cf_world.specs.Making.{record_octets}
 use Rattle.cf_world.proofs.SoFar.{whole_part}
 use Rattle.cf_world.proofs.making.send.Goals as goal
 

@@ -1,0 +1,9 @@
+pub mod Document
+pub mod Draws
+pub mod Flows
+pub mod Hosts
+pub mod Next
+pub mod Segments
+pub mod Sessions
+pub mod SilentDesk
+pub mod Tables

@@ -1,0 +1,165 @@
+//! The policy of a world: a table of TOML, its text, and what the text means.
+ghost use Rattle.std.specs.Prelude.{◌≡◌, IfOk, OnOk, Ok, pos, codes, string_bytes};
+ghost use Rattle.cf_policy.specs.Within.{IsWithin};
+ghost use Rattle.cf_policylang.specs.Spelling.{with_member};
+ghost use Rattle.cf_hosts.specs.Document.{IsDocument, made_policy};
+ghost use Rattle.cf_hosts.specs.Tables.{asset_items, asset_table, document_table, grouped_rule_table, only, rule_table, w0_table, w1_table};
+ghost use Rattle.cf_hosts.specs.Tables.{w2_table};
+ghost use Rattle.toml.specs.Data.{array, no_members};
+ghost use Rattle.toml.specs.View.{array_view, table_view, view};
+
+use cf_policy::Policy;
+use cf_policylang::{PolicyFault, document_text, read_policy};
+use std::alloc::{AllocError, Global};
+use toml::value::Array;
+use toml::{Table, Value};
+
+/// The policy of a world.
+#[derive(Drop)]
+pub struct Document {
+    /// The text of its file: TOML, in UTF-8.
+    pub text: String,
+    /// What the text means.
+    pub policy: Policy,
+}
+
+/// Makes the policy of a world: three assets, one a protocol, each with a rule `ok` that allows ten points. The text is
+/// what `toml` prints of the document's table, and the policy is read from it. This project's own.
+pub fn make_document(alloc: Global) -> Result<Document, AllocError>
+    ensures text { IfOk result (λ d. IsDocument (string_bytes d.text)) }
+    ensures policy { IfOk result (λ d. d.policy ≡ made_policy) }
+    ensures within { IfOk result (λ d. IsWithin d.policy) }
+{
+    let text = made_text(alloc)?;
+    match read_policy(alloc, text.as_bytes()) {
+        Ok(policy) => Ok(Document { text, policy }),
+        Err(PolicyFault::NoMemory) => Err(AllocError),
+        Err(PolicyFault::Refused(_)) => unreachable!(),
+    }
+}
+
+fn made_text(alloc: Global) -> Result<String, AllocError>
+    ensures { IfOk result (λ t. IsDocument (string_bytes t)) }
+{
+    let table = document_table(alloc)?;
+    let text = document_text(alloc, &table)?;
+    Ok(text)
+}
+
+fn document_table(alloc: Global) -> Result<Table, AllocError>
+    ensures { IfOk result (λ t. table_view t ≡ document_table) }
+{
+    let mut document = Table::new(alloc);
+    insert(alloc, &mut document, "version", Value::Integer(1))?;
+    insert(alloc, &mut document, "asset", Value::Array(assets(alloc)?))?;
+    Ok(document)
+}
+
+fn assets(alloc: Global) -> Result<Array, AllocError>
+    ensures { IfOk result (λ a. array_view a ≡ asset_items) }
+{
+    let mut assets = Vec::new(alloc);
+    assets.push(Value::Table(w0(alloc)?))?;
+    assets.push(Value::Table(w1(alloc)?))?;
+    assets.push(Value::Table(w2(alloc)?))?;
+    Ok(assets)
+}
+
+/// The asset that speaks Modbus.
+fn w0(alloc: Global) -> Result<Table, AllocError>
+    ensures { IfOk result (λ t. table_view t ≡ w0_table) }
+{
+    let rule = rule(alloc, 6, "0..9")?;
+    asset(alloc, "w0", "10.2.0.1", 502, "modbus", 1, rule)
+}
+
+/// The asset that speaks DNP3, which has a master besides.
+fn w1(alloc: Global) -> Result<Table, AllocError>
+    ensures { IfOk result (λ t. table_view t ≡ w1_table) }
+{
+    let rule = grouped_rule(alloc, 5, "3073", "0..9")?;
+    let mut asset = asset(alloc, "w1", "10.2.0.2", 20000, "dnp3", 10, rule)?;
+    insert(alloc, &mut asset, "master", Value::Integer(1))?;
+    Ok(asset)
+}
+
+/// The asset that speaks IEC 60870-5-104.
+fn w2(alloc: Global) -> Result<Table, AllocError>
+    ensures { IfOk result (λ t. table_view t ≡ w2_table) }
+{
+    let rule = grouped_rule(alloc, 45, "6", "1000..1009")?;
+    asset(alloc, "w2", "10.2.0.3", 2404, "iec104", 1, rule)
+}
+
+/// An asset with one rule, and without a master.
+fn asset(
+    alloc: Global,
+    name: &str,
+    address: &str,
+    port: i64,
+    protocol: &str,
+    station: i64,
+    rule: Table,
+) -> Result<Table, AllocError>
+    ensures { IfOk result (λ t. table_view t ≡ asset_table name.now address.now port protocol.now station (table_view rule)) }
+{
+    let mut asset = Table::new(alloc);
+    insert(alloc, &mut asset, "name", Value::string(alloc, name)?)?;
+    insert(alloc, &mut asset, "address", Value::string(alloc, address)?)?;
+    insert(alloc, &mut asset, "port", Value::Integer(port))?;
+    insert(
+        alloc,
+        &mut asset,
+        "protocol",
+        Value::string(alloc, protocol)?,
+    )?;
+    insert(alloc, &mut asset, "station", Value::Integer(station))?;
+    insert(alloc, &mut asset, "rule", only(alloc, Value::Table(rule))?)?;
+    Ok(asset)
+}
+
+/// The rule `ok`, which allows a code at points.
+fn rule(alloc: Global, code: i64, points: &str) -> Result<Table, AllocError>
+    ensures { IfOk result (λ t. table_view t ≡ rule_table code points.now) }
+{
+    let mut rule = Table::new(alloc);
+    insert(alloc, &mut rule, "name", Value::string(alloc, "ok")?)?;
+    insert(alloc, &mut rule, "action", Value::string(alloc, "allow")?)?;
+    insert(
+        alloc,
+        &mut rule,
+        "codes",
+        only(alloc, Value::Integer(code))?,
+    )?;
+    let points = only(alloc, Value::string(alloc, points)?)?;
+    insert(alloc, &mut rule, "points", points)?;
+    Ok(rule)
+}
+
+/// The rule `ok`, which allows a code of a group at points.
+fn grouped_rule(alloc: Global, code: i64, group: &str, points: &str) -> Result<Table, AllocError>
+    ensures { IfOk result (λ t. table_view t ≡ grouped_rule_table code group.now points.now) }
+{
+    let mut rule = rule(alloc, code, points)?;
+    let group = only(alloc, Value::string(alloc, group)?)?;
+    insert(alloc, &mut rule, "groups", group)?;
+    Ok(rule)
+}
+
+/// An array of one value.
+fn only(alloc: Global, value: Value) -> Result<Value, AllocError>
+    ensures { IfOk result (λ a. view a ≡ only (view value)) }
+{
+    let mut values = Vec::new(alloc);
+    values.push(value)?;
+    Ok(Value::Array(values))
+}
+
+/// Gives a table a value at a key.
+fn insert(alloc: Global, table: &mut Table, key: &str, value: Value) -> Result<(), AllocError>
+    ensures { OnOk result (table_view table.new ≡ with_member key.now (view value) (table_view table.old)) }
+{
+    let key = String::from_str(alloc, key)?;
+    table.insert(key, value)?;
+    Ok(())
+}

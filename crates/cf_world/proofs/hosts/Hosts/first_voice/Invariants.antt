@@ -1,5 +1,0 @@
-use Rattle.std.proofs.Common.{◌<◌, IfSome}
-use Rattle.cf_world.proofs.hosts.Hosts.first_voice.Given as goal
-
-abbrev pub invariant-loop-session : goal.invariant-loop-session
-invariant-loop-session l = IfSome l.first (λ voice. voice.session < l.session)
