@@ -38,7 +38,7 @@ fn main(rt: HostRuntime) -> ExitCode {
         user[i] = (i * 7 % 256) as u8;
     }
     let mut frame = ArrayVec::new();
-    write_frame(0xC4, 10, 1, &user, &mut frame);
+    write_frame(0xC4, 10, 1, &View::one(&user), &mut frame);
     ExitCode::from(read_all(frame.as_slice(), rounds))
 }
 
