@@ -1,11 +1,11 @@
 //! APDUs in a stream.
-ghost use Rattle.std.specs.Prelude.{◌≡◌, ℕ, ◌<◌, ◌≤◌, ◌+◌, ◌==◌, MatchOption, false, List, length, take, slice_index};
+ghost use Rattle.std.specs.Prelude.{◌≡◌, ℕ, ◌<◌, ◌≤◌, MatchOption, false, List, length, take, slice_index};
 ghost use Rattle.cf_view.specs.Framing.{Begins, IsPartial, BreaksAt, Frames, HasFront, framed_value, IsPrefixFree};
 ghost use Rattle.cf_view.specs.Octets.{IsOctets};
 ghost use Rattle.cf_view.specs.Places.{EachFollows};
 ghost use Rattle.cf_view.specs.Units.{HasUnits, IsUnitsThenRest, IsUnitsThenBreak};
 ghost use Rattle.cf_apci.specs.Apdu.{ApduValue, apdu_value, SpellsApdu, apdu_break, is_control};
-ghost use Rattle.cf_apci.specs.Places.{size_of, is_right, follows, fields_of, is_format, is_second, is_third, is_fourth};
+ghost use Rattle.cf_apci.specs.Places.{size_of, is_right, follows, fields_of, is_format, is_third};
 
 use cf_view::{Break, Framed, View};
 

@@ -1,9 +1,8 @@
 //! The ASDU of a command.
-ghost use Rattle.std.specs.Prelude.{◌≡◌, ℕ, ◌≤◌, List, length, slice_index, MatchOption, Result};
-ghost use Rattle.cf_asdu.specs.Asdu.{AsduValue, asdu_value, SpellsAsdu, Reads, asdu_answer, first_refusal, has_objects, is_command_cause};
+ghost use Rattle.std.specs.Prelude.{◌≡◌, ℕ, ◌≤◌, List, length, Result};
+ghost use Rattle.cf_asdu.specs.Asdu.{AsduValue, asdu_value, SpellsAsdu, Reads, asdu_answer, has_objects, is_command_cause};
 ghost use Rattle.cf_asdu.specs.Asdu.{refusal_reason};
 ghost use Rattle.cf_asdu.specs.Asdu as asdus;
-ghost use Rattle.cf_asdu.specs.declared.element.Element.{Element};
 
 use crate::element::{Element, element_of};
 use cf_view::{Reason, View};

@@ -1,5 +1,5 @@
 //! The mirror of a refused command.
-ghost use Rattle.std.specs.Prelude.{◌≡◌, ℕ, ◌<◌, ◌≤◌, ◌+◌, ◌*◌, ◌/◌, length};
+ghost use Rattle.std.specs.Prelude.{◌≡◌, ◌<◌, ◌≤◌, length};
 ghost use Rattle.cf_asdu.specs.Asdu.{AsduValue, SpellsAsdu};
 ghost use Rattle.cf_asdu.specs.Mirror.{mirror_cause, mirror_octet, mirror_of, mirrored};
 

@@ -1,9 +1,8 @@
 -- Records that are listed one by one, where lines are gathered before they are put.
-use Rattle.std.proofs.Common.{◌≡◌, ◌≢◌, ◌≤◌, ◌⊎◌, ℕ, zero, suc, ◌+◌, List, [], ◌∷◌, ◌++◌, length, min, take, drop, Option, Some, None, Result, Ok, Err, refl, subst, sym, ap, ◌∙◌, append_assoc, inl, inr, arith}
+use Rattle.std.proofs.Common.{◌≡◌, ◌≢◌, ◌⊎◌, ℕ, zero, suc, ◌+◌, List, [], ◌∷◌, ◌++◌, length, min, take, drop, Option, Some, None, Result, Ok, Err, refl, subst, sym, ap, ◌∙◌, append_assoc, inl, inr, arith}
 use Rattle.std.proofs.lemmas.List.{append-nil, length-append, drop-drop, take_all, take-append-le}
 use Rattle.std.proofs.lemmas.Bool.{cases_lt}
 use Rattle.std.proofs.Math.Seq.{take-append-add}
-use Rattle.cf_outside.specs.Faults.{HasCause}
 use Rattle.cf_outside.specs.Files.{Content, untold, absent, holds}
 use Rattle.cf_outside.specs.Sink.{printed_with}
 use Rattle.cf_records.proofs.Behind.{StandsBehind}

@@ -1,7 +1,6 @@
 -- An answer about a stored stream, as the answer of the command.
-use Rattle.std.proofs.Common.{◌≡◌, ◌≤◌, ℕ, List, None, Option, Some, Result, Ok, Err, refl, sym, subst, arith, inl, inr}
+use Rattle.std.proofs.Common.{◌≡◌, ◌≤◌, ℕ, List, None, Option, Some, Ok, Err, refl, sym, subst, arith, inl, inr}
 use Rattle.std.specs.Prelude.{IsErrOf}
-use Rattle.std.specs.Result.{IsErrAnd}
 use Rattle.cf_audit.specs.declared.line.CutReason.{CutReason}
 use Rattle.cf_outside.specs.Faults.{Rose}
 use Rattle.cf_policy.specs.declared.Asset.{Asset}
@@ -16,7 +15,6 @@ use Rattle.cf_box.specs.Ends.{Meets, PassesPolicy, StopsFor}
 use Rattle.cf_ending.specs.Outside.{Outside}
 use Rattle.cf_box.specs.PolicyFile.{FindsAsset}
 use Rattle.cf_box.specs.Sift.{SiftLeaves, TakesStream, sift_stop}
-use Rattle.cf_ending.specs.declared.Done.{Done}
 use Rattle.cf_ending.specs.declared.Done.TheVariants as done
 use Rattle.cf_ending.specs.declared.Stop.{Stop}
 use Rattle.cf_ending.specs.declared.Stop.TheVariants as stop

@@ -1,8 +1,6 @@
 -- `check POLICY`: a policy is read, and its assets and rules are counted: `Checks`.
-use Rattle.std.specs.Prelude.{◌≡◌, ◌≢◌, ℕ, List, [], ◌∷◌, Option, None, Some, if◌then◌else◌}
+use Rattle.std.specs.Prelude.{◌≡◌, ◌≢◌, ℕ, List}
 use Rattle.cf_policy.specs.declared.Policy.{Policy}
-use Rattle.cf_words.specs.Command.{Command, Check}
-use Rattle.cf_words.specs.Names.{are_names}
 use Rattle.cf_ending.specs.Outside.{Outside}
 use Rattle.cf_box.specs.PolicyFile.{HasPolicy, counted}
 use Rattle.cf_ending.specs.declared.Done.{Done}

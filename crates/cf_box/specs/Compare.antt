@@ -1,14 +1,12 @@
 -- `compare POLICY OTHER`: whether the first policy allows only what the second allows. The main definitions are `Compares`,
 -- `DeniesInclusion` and `FilesExceed`; what one policy allows beyond another is said in `cf_compare`.
-use Rattle.std.specs.Prelude.{◌≡◌, ◌≢◌, ℕ, List, [], ◌∷◌, All, Option, None, Some, Result, Ok, Err, if◌then◌else◌}
+use Rattle.std.specs.Prelude.{◌≡◌, ◌≢◌, ℕ, List, All, Result, Ok, Err}
 use Rattle.cf_compare.specs.Inclusion.{IsIncludedIn}
 use Rattle.cf_compare.specs.Outcome.{HasDifference, HasNoPartner, HasNothing, HasTooManyCells, StopsAt}
 use Rattle.cf_outside.specs.Files.{holds}
 use Rattle.cf_policy.specs.declared.Policy.{Policy}
 use Rattle.cf_policylang.specs.Documents.{policy_meaning}
 use Rattle.cf_box.specs.Check.{ChangesNothing}
-use Rattle.cf_words.specs.Command.{Command, Compare}
-use Rattle.cf_words.specs.Names.{are_names}
 use Rattle.cf_ending.specs.Outside.{Outside}
 use Rattle.cf_box.specs.PolicyFile.{HasPolicy}
 use Rattle.cf_ending.specs.declared.Denial.{Denial}

@@ -1,6 +1,6 @@
 -- `judge POLICY CAPTURE`: whether what clients sent in a capture keeps a policy. The main definitions are `KeepsPolicy`, `Objects` and
 -- `JudgesClean`; what is watched is said in `cf_watch`, and what is objected to in `cf_judge`.
-use Rattle.std.specs.Prelude.{◌≡◌, ℕ, List, [], ◌∷◌, slice_get, Option, None, Some, Result, Ok, Err, if◌then◌else◌}
+use Rattle.std.specs.Prelude.{◌≡◌, ℕ, List, slice_get, None, Some, Result, Ok, Err}
 use Rattle.cf_judge.specs.Objections.{IsJudgementOf}
 use Rattle.cf_judge.specs.declared.Complaint.{Complaint}
 use Rattle.cf_judge.specs.declared.Complaint.TheVariants as complaint
@@ -11,8 +11,6 @@ use Rattle.cf_policy.specs.declared.Asset.{Asset}
 use Rattle.cf_policy.specs.declared.Policy.{Policy}
 use Rattle.cf_watch.specs.FlowValue.{FlowValue}
 use Rattle.cf_box.specs.Check.{ChangesNothing}
-use Rattle.cf_words.specs.Command.{Command, Judge}
-use Rattle.cf_words.specs.Names.{are_names}
 use Rattle.cf_ending.specs.Outside.{Outside}
 use Rattle.cf_box.specs.Watching.{HasWatched}
 use Rattle.cf_ending.specs.declared.Denial.{Denial}

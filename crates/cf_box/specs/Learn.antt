@@ -1,14 +1,12 @@
 -- `learn POLICY CAPTURE OUT`: rules that allow exactly what a capture shows are written as a document of version 2: `HoldsLearned`.
 -- What is watched is said in `cf_watch`, and what is learned in `cf_learn`.
-use Rattle.std.specs.Prelude.{◌≡◌, ℕ, List, [], ◌∷◌, Option, None, Some, Result, Ok, Err, if◌then◌else◌}
+use Rattle.std.specs.Prelude.{◌≡◌, ℕ, List, [], ◌∷◌, Result, Ok, Err}
 use Rattle.cf_learn.specs.Assets.{AreLearned, IsFirstTooMany}
 use Rattle.cf_outside.specs.Frames.{KeepsOtherFiles}
 use Rattle.cf_policy.specs.Within.{IsWithin}
 use Rattle.cf_policy.specs.declared.Policy.{Policy}
 use Rattle.cf_watch.specs.FlowValue.{FlowValue}
 use Rattle.cf_box.specs.Check.{ChangesNothing}
-use Rattle.cf_words.specs.Command.{Command, Learn}
-use Rattle.cf_words.specs.Names.{are_names}
 use Rattle.cf_ending.specs.Outside.{Outside}
 use Rattle.cf_box.specs.PolicyFile.{HoldsPolicyPart, HoldsPolicyText, counted}
 use Rattle.cf_box.specs.Watching.{HasWatched}

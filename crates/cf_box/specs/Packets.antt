@@ -1,5 +1,5 @@
 -- `packets CAPTURE`: the packets of a capture are listed, a line each (`PacketLine`): `Lists`.
-use Rattle.std.specs.Prelude.{◌≡◌, ◌≢◌, ◌⊎◌, ℕ, List, [], ◌∷◌, take, if◌then◌else◌, Option, None, Some, Result, Ok, Err}
+use Rattle.std.specs.Prelude.{◌≡◌, ◌≢◌, ◌⊎◌, ℕ, List, take, Option, Result, Ok, Err}
 use Rattle.cf_outside.specs.Faults.{Rose}
 use Rattle.cf_outside.specs.Files.{Content}
 use Rattle.cf_outside.specs.Sink.{printed_with}
@@ -13,8 +13,6 @@ use Rattle.cf_watch.specs.Watch.{HasRecords}
 use Rattle.cf_ending.specs.declared.CaptureRefusal.{CaptureRefusal}
 use Rattle.cf_ending.specs.declared.CaptureRefusal.TheVariants as refusal
 use Rattle.cf_ending.specs.Captures.{EndsAt, Refuses, form_refusal}
-use Rattle.cf_words.specs.Command.{Command, Packets}
-use Rattle.cf_words.specs.Names.{are_names}
 use Rattle.cf_ending.specs.Outside.{Outside, SinkValue}
 use Rattle.cf_ending.specs.PacketLine.{lines_from}
 use Rattle.cf_ending.specs.declared.Done.{Done}

@@ -1,7 +1,6 @@
 -- `relay POLICY ASSET PORT IDLES LOG`: a policy between two streams. The main definitions are `HasRelayed`, and `CutsRelay` and
 -- `EndsRelayIdle`, which say it of the pair's answers alone.
-use Rattle.std.specs.Prelude.{◌≡◌, ◌⊎◌, ◌*◌, ℕ, List, [], ◌∷◌, ◌++◌, Option, None, Some, Result, Ok, Err, if◌then◌else◌, option_and_then}
-use Rattle.std.specs.Prelude.{option_map}
+use Rattle.std.specs.Prelude.{◌≡◌, ◌⊎◌, ◌*◌, ℕ, List, ◌++◌, None, Some, Result, Ok, Err}
 use Rattle.cf_audit.specs.declared.line.CutReason.{CutReason}
 use Rattle.cf_lane.specs.Judged.{Judged}
 use Rattle.cf_outside.specs.Files.{KeepsOthers}
@@ -18,8 +17,6 @@ use Rattle.cf_relay.specs.declared.done.RelayEnd.TheVariants as ends
 use Rattle.cf_relay.specs.declared.done.RelayFault.{RelayFault}
 use Rattle.cf_relay.specs.declared.done.RelayFault.TheVariants as fault
 use Rattle.cf_box.specs.Check.{ChangesNothing}
-use Rattle.cf_words.specs.Command.{Command, Relay}
-use Rattle.cf_words.specs.Names.{are_names, printed_number_in}
 use Rattle.cf_ending.specs.Outside.{Outside}
 use Rattle.cf_box.specs.PolicyFile.{FindsAsset, StopsPolicy, TellsAsset}
 use Rattle.cf_ending.specs.declared.Done.{Done}

@@ -1,6 +1,6 @@
 -- `review POLICY CAPTURE LOG`: all that a policy objects to in what clients sent in a capture, a line each: `HoldsReview`. What is
 -- watched is said in `cf_watch`, what is objected to in `cf_review`.
-use Rattle.std.specs.Prelude.{◌≡◌, ◌≢◌, ℕ, List, [], ◌∷◌, map, Option, None, Some, Result, Ok, Err, if◌then◌else◌}
+use Rattle.std.specs.Prelude.{◌≡◌, ◌≢◌, ℕ, List, [], ◌∷◌, map, Result, Ok, Err}
 use Rattle.cf_outside.specs.Files.{IsPartly, content_after_write}
 use Rattle.cf_outside.specs.Frames.{KeepsOtherFiles}
 use Rattle.cf_policy.specs.declared.Policy.{Policy}
@@ -13,8 +13,6 @@ use Rattle.cf_review.specs.declared.Reviewed.{Reviewed}
 use Rattle.cf_watch.specs.FlowValue.{FlowValue}
 use Rattle.cf_watch.specs.Watch.{IsRecordingOf}
 use Rattle.cf_box.specs.Check.{ChangesNothing}
-use Rattle.cf_words.specs.Command.{Command, Review}
-use Rattle.cf_words.specs.Names.{are_names}
 use Rattle.cf_ending.specs.Outside.{Outside}
 use Rattle.cf_box.specs.PolicyFile.{HasPolicy}
 use Rattle.cf_ending.specs.declared.Denial.{Denial}

@@ -1,5 +1,5 @@
 -- `run POLICY CAPTURE OUT LOG`: a policy is run over a capture: `Runs`.
-use Rattle.std.specs.Prelude.{◌≡◌, ◌⊎◌, ℕ, List, [], ◌∷◌, Option, None, Some, Result, Ok, Err, if◌then◌else◌}
+use Rattle.std.specs.Prelude.{◌≡◌, ◌⊎◌, ℕ, List, [], ◌∷◌, Result, Ok, Err}
 use Rattle.cf_lane.specs.declared.limit.TheConstants.{LETTER_LIMIT}
 use Rattle.cf_outside.specs.Files.{Content}
 use Rattle.cf_outside.specs.Frames.{KeepsOtherFiles}
@@ -12,8 +12,6 @@ use Rattle.cf_run.specs.declared.run.RunRefusal.TheVariants as by
 use Rattle.cf_run.specs.declared.summary.Summary.{Summary}
 use Rattle.cf_ending.specs.Captures.{EndsAt, Refuses, block_refusal, form_refusal}
 use Rattle.cf_box.specs.Check.{ChangesNothing}
-use Rattle.cf_words.specs.Command.{Command, Run}
-use Rattle.cf_words.specs.Names.{are_names}
 use Rattle.cf_ending.specs.Outside.{Outside}
 use Rattle.cf_box.specs.PolicyFile.{HasPolicy, StopsPolicy}
 use Rattle.cf_ending.specs.declared.CaptureRefusal.{CaptureRefusal}

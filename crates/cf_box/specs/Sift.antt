@@ -1,11 +1,10 @@
 -- `sift POLICY ASSET CLIENT STREAM OUT REPLIES LOG`: the stored stream of one client is filtered: `Sifts`.
-use Rattle.std.specs.Prelude.{◌≡◌, ◌⊎◌, ℕ, List, ◌∷◌, [], Option, None, Some, if◌then◌else◌, option_and_then, option_map}
+use Rattle.std.specs.Prelude.{◌≡◌, ◌⊎◌, ℕ, List, Option, None, Some}
 use Rattle.cf_audit.specs.declared.line.CutReason.{CutReason}
 use Rattle.cf_lane.specs.History.{Element}
 use Rattle.cf_lane.specs.Judged.{Judged}
 use Rattle.cf_outside.specs.Files.{holds, IsWhole}
 use Rattle.cf_policy.specs.declared.Asset.{Asset}
-use Rattle.cf_policylang.specs.Numbers.{address}
 use Rattle.cf_sift.specs.Names.{SiftNamesValue}
 use Rattle.cf_sift.specs.Sifted.{IsReadUpTo, IsSifted, IsUncreated, IsWrittenUpTo}
 use Rattle.cf_sift.specs.Stored.{GoesUpTo, stored_history}
@@ -13,8 +12,6 @@ use Rattle.cf_sift.specs.declared.SiftDone.{SiftDone}
 use Rattle.cf_sift.specs.declared.SiftFault.{SiftFault}
 use Rattle.cf_sift.specs.declared.SiftFault.TheVariants as fault
 use Rattle.cf_box.specs.Check.{ChangesNothing}
-use Rattle.cf_words.specs.Command.{Command, Sift}
-use Rattle.cf_words.specs.Names.{are_names}
 use Rattle.cf_ending.specs.Outside.{Outside}
 use Rattle.cf_box.specs.PolicyFile.{FindsAsset, TellsAsset}
 use Rattle.cf_ending.specs.declared.Done.{Done}

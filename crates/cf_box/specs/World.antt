@@ -1,12 +1,10 @@
 -- `world SEED SESSIONS POLICY CAPTURE OUT LOG`: a policy and a capture are made from a number, and run: `MakesAndRuns` and `WorldHolds`.
-use Rattle.std.specs.Prelude.{◌≡◌, ◌≢◌, ◌⊎◌, ℕ, ◌-◌, ◌^◌, ◌≤◌, List, [], ◌∷◌, Option, None, Err, if◌then◌else◌, option_and_then, option_map}
+use Rattle.std.specs.Prelude.{◌≡◌, ◌⊎◌, ℕ, List, [], ◌∷◌, Err}
 use Rattle.cf_outside.specs.Frames.{KeepsOtherFiles}
-use Rattle.cf_run.specs.RunCapture.{AreApart, RunNamesValue}
+use Rattle.cf_run.specs.RunCapture.{RunNamesValue}
 use Rattle.cf_world.specs.World.{LeavesWorld, MakesWorld, WorldNamesValue}
 use Rattle.cf_world.specs.declared.WorldFault.{WorldFault}
 use Rattle.cf_world.specs.declared.WorldFault.TheVariants as fault
-use Rattle.cf_words.specs.Command.{Command, World}
-use Rattle.cf_words.specs.Names.{are_names, printed_number_in}
 use Rattle.cf_ending.specs.Outside.{Outside}
 use Rattle.cf_box.specs.Run.{RunLeaves, Runs}
 use Rattle.cf_box.specs.RunHolds.{RunHolds}

@@ -1,5 +1,4 @@
 //! `compare POLICY OTHER`: whether the first policy allows only what the second allows.
-ghost use Rattle.std.specs.Prelude.{◌≡◌};
 ghost use Rattle.cf_words.specs.Command.{Compare};
 ghost use Rattle.cf_box.specs.Compare.{Says};
 ghost use Rattle.cf_box.specs.Ends.{Meets};

@@ -1,5 +1,5 @@
 //! `learn POLICY CAPTURE OUT`: a policy is written that allows exactly what a capture shows.
-ghost use Rattle.std.specs.Prelude.{◌≡◌, map};
+ghost use Rattle.std.specs.Prelude.{map};
 ghost use Rattle.cf_words.specs.Command.{Learn};
 ghost use Rattle.cf_box.specs.Ends.{Meets};
 ghost use Rattle.cf_box.specs.Learn.{LearnsAs};

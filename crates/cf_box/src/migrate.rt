@@ -1,5 +1,4 @@
 //! `migrate POLICY OUT`: a policy is written as a document of version 2 that means the same.
-ghost use Rattle.std.specs.Prelude.{◌≡◌};
 ghost use Rattle.cf_words.specs.Command.{Migrate};
 ghost use Rattle.cf_box.specs.Ends.{Meets};
 ghost use Rattle.cf_ending.specs.Outside.{FilesNeverFall, SinkValue, files_value, outside};

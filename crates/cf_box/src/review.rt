@@ -1,5 +1,4 @@
 //! `review POLICY CAPTURE LOG`: all that a policy objects to in what clients sent in a capture is written, a line each.
-ghost use Rattle.std.specs.Prelude.{◌≡◌};
 ghost use Rattle.cf_words.specs.Command.{Review};
 ghost use Rattle.cf_box.specs.Ends.{Meets};
 ghost use Rattle.cf_ending.specs.Outside.{FilesNeverFall, SinkValue, files_value, outside};

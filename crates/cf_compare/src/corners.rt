@@ -1,7 +1,7 @@
 //! The corners of the axes: the numbers at which some rule begins to take or has stopped taking.
 ghost use Rattle.std.specs.Prelude.{◌≡◌, ◌++◌, ◌∷◌, [], ◌*◌, ◌+◌, ◌≤◌, map, min, length, filter, IfOk, OnOk};
 ghost use Rattle.std.specs.List.{flat_map};
-ghost use Rattle.cf_compare.specs.Cells.{is_on, turns, stated_spans, axis_spans, most_cells};
+ghost use Rattle.cf_compare.specs.Cells.{is_on, turns, stated_spans, most_cells};
 ghost use Rattle.cf_compare.specs.Corners.{AreCorners, AreAllCorners};
 
 use crate::axis::{Axis, axis_spans, highest, lowest};

@@ -1,5 +1,5 @@
 -- Acts of commands are in the regions of their code's kinds.
-use Rattle.std.proofs.Common.{◌≡◌, ℕ, ◌+◌, ◌^◌, ◌<◌, length, ℤ, pos, int_le, ◌≤ℤ◌, Bool, true, false, List, [], ◌∷◌, Some, take, slice_get, get_or, refl, sym, subst, ap, ◌∙◌, arith}
+use Rattle.std.proofs.Common.{◌≡◌, ℕ, ◌^◌, ◌<◌, ℤ, pos, int_le, ◌≤ℤ◌, Bool, true, false, List, [], ◌∷◌, Some, take, slice_get, get_or, refl, sym, subst, ap, ◌∙◌, arith}
 use mathlib.Core.Logic.{⊎_elim}
 use Rattle.std.specs.List.{flat_map, filter, list_all, list_any}
 use Rattle.std.proofs.lemmas.Int.{ints}

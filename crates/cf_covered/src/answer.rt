@@ -1,5 +1,5 @@
 //! Rules that decide nothing that a command can have.
-ghost use Rattle.std.specs.Prelude.{◌≡◌, ◌<◌, ℕ, map, filter, length, slice_get, take, Some, IfOk, IfSome, true, [], ◌∷◌};
+ghost use Rattle.std.specs.Prelude.{◌≡◌, ◌<◌, map, filter, length, slice_get, take, Some, IfOk, IfSome, true, [], ◌∷◌};
 ghost use Rattle.cf_policy.specs.declared.policy.Rule.{Rule};
 ghost use Rattle.cf_covered.specs.Common.{have_common};
 ghost use Rattle.cf_covered.specs.Covered.{DecidesNoCommand, IsCover, HaveAllOf};

@@ -1,6 +1,6 @@
 //! Rules that one earlier rule covers by its lists, and those that it may have an act in common with.
 ghost use Rattle.std.specs.Prelude.{◌≡◌, ◌<◌, ◌++◌, [], ◌∷◌, All, IfOk, OnOk, filter, length, map};
-ghost use Rattle.std.specs.List.{list_all, list_any};
+ghost use Rattle.std.specs.List.{list_all};
 ghost use Rattle.cf_covered.specs.Common.{have_common};
 ghost use Rattle.cf_covered.specs.Including.{includes, includes_rule, is_inside, is_inside_some};
 ghost use Rattle.cf_covered.specs.Outlines.{HasHull, IsTold, Tells, rules_of};

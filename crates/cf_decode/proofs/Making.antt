@@ -21,7 +21,7 @@ use Rattle.cf_view.proofs.Units.{one_units_then_rest}
 use Rattle.cf_view.specs.declared.Side.TheVariants as side
 use Rattle.cf_lane.specs.Unit.{SpellsUnit, UnitValue, unit_spelling}
 use Rattle.cf_policy.specs.declared.Asset.{Asset}
-use Rattle.std.proofs.Common.{List, None, Option, [], ap, append_assoc, arith, drop, false, inl, inr, length, length-append, map, refl, reverse, subst, suc, sym, take, zero, ℕ, ◌*◌, ◌++◌, ◌+◌, ◌<◌, ◌∙◌, ◌∷◌, ◌≡◌, ◌≤◌, ◌⊎◌}
+use Rattle.std.proofs.Common.{List, None, [], ap, append_assoc, arith, drop, false, inl, inr, length, length-append, map, refl, reverse, subst, suc, sym, take, zero, ℕ, ◌*◌, ◌++◌, ◌+◌, ◌<◌, ◌∙◌, ◌∷◌, ◌≡◌, ◌≤◌, ◌⊎◌}
 use Rattle.std.proofs.Math.Seq.{take-append_seam}
 use Rattle.std.proofs.lemmas.Bool.{cases_lt}
 use Rattle.std.proofs.lemmas.Grind.{flat_map-append}

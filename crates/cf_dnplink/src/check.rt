@@ -1,5 +1,5 @@
 //! The CRC of DNP3, by a table of octets.
-ghost use Rattle.std.specs.Prelude.{◌≡◌, ◌<◌};
+ghost use Rattle.std.specs.Prelude.{◌≡◌};
 ghost use Rattle.cf_dnplink.specs.Crc.{rounds, after_octet, crc_of};
 
 use cf_view::View;

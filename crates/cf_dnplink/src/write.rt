@@ -1,8 +1,8 @@
 //! Frames written.
-ghost use Rattle.std.specs.Prelude.{◌≡◌, ℕ, ◌+◌, ◌*◌, ◌/◌, ◌<◌, ◌≤◌, List, [], ◌++◌, length, min};
+ghost use Rattle.std.specs.Prelude.{◌≡◌, ℕ, ◌+◌, ◌≤◌, List, [], ◌++◌, length};
 ghost use Rattle.arrayvec.specs.ArrayVec.{array_vec_len};
 ghost use Rattle.cf_view.specs.Framing.{Begins};
-ghost use Rattle.cf_dnplink.specs.LinkFrame.{SpellsFrame, with_crc, blocks_by, blocks_of, header_of, spelling, frame_with};
+ghost use Rattle.cf_dnplink.specs.LinkFrame.{SpellsFrame, with_crc, blocks_of, header_of, spelling, frame_with};
 
 use crate::check::crc;
 use arrayvec::ArrayVec;

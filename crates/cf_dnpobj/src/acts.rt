@@ -1,5 +1,5 @@
 //! What a request does: one act for each object of a command, one for each header of every other request.
-ghost use Rattle.std.specs.Prelude.{◌≡◌, ◌≢◌, ◌≤◌, ◌*◌, ◌<◌, ◌+◌, ◌^◌, ℕ, List, length, slice_index, slice_get, IfOk, Some, Ok, true};
+ghost use Rattle.std.specs.Prelude.{◌≡◌, ◌≢◌, ◌≤◌, ◌<◌, ◌+◌, ◌^◌, ℕ, List, length, slice_index, slice_get, IfOk, Some, Ok, true};
 ghost use Rattle.std.specs.List.{flat_map};
 ghost use Rattle.cf_dnpobj.specs.Acts.{acts, summed, each, group_of, signed, value_at, value_size, object_place, object_act, plain_act};
 ghost use Rattle.cf_dnpobj.specs.Acts.{header_acts, header_count};

@@ -1,5 +1,5 @@
 //! Object headers, read from the front.
-ghost use Rattle.std.specs.Prelude.{◌≡◌, ℕ, ◌+◌, ◌<◌, ◌≤◌, length, slice_index, IfOk, IfErr, Err, true};
+ghost use Rattle.std.specs.Prelude.{◌≡◌, ◌+◌, ◌≤◌, length, slice_index, IfOk, IfErr, Err, true};
 ghost use Rattle.cf_dnpobj.specs.Headers.{number_at, count_of, size_of, is_whole, header_size, headers_in, BeginsWithHeader};
 ghost use Rattle.cf_dnpobj.specs.Fragment.{counted};
 ghost use Rattle.cf_dnpobj.specs.Objects.{width, range_size, objects_size};

@@ -1,6 +1,6 @@
 //! The table of objects: which function codes take which objects with which qualifiers.
-ghost use Rattle.std.specs.Prelude.{◌≡◌, ◌≤◌, ◌<◌, ◌+◌, ◌*◌, IfSome};
-ghost use Rattle.cf_dnpobj.specs.Objects.{is_function, is_command, is_write, is_object, layout_of, is_span, is_all, is_counted, is_indexed};
+ghost use Rattle.std.specs.Prelude.{◌≡◌, ◌≤◌, IfSome};
+ghost use Rattle.cf_dnpobj.specs.Objects.{is_function, is_command, is_write, layout_of, is_span, is_all, is_counted, is_indexed};
 ghost use Rattle.cf_dnpobj.specs.Objects.{takes, width, range_size, index_size, objects_size};
 
 /// How the objects of a header lie. IEEE 1815-2012, section 4.2.2.

@@ -1,11 +1,11 @@
 //! Replies to refused requests.
-ghost use Rattle.std.specs.Prelude.{◌≡◌, ◌≢◌, ◌≤◌, ◌<◌, ◌+◌, ◌++◌, ◌∷◌, ℕ, List, length, slice_index, Ok, true};
+ghost use Rattle.std.specs.Prelude.{◌≡◌, ◌≢◌, ◌≤◌, ◌<◌, ◌+◌, ◌++◌, ℕ, List, length, slice_index, Ok, true};
 ghost use Rattle.std.specs.List.{flat_map};
 ghost use Rattle.arrayvec.specs.ArrayVec.{array_vec_len};
 ghost use Rattle.cf_dnpobj.specs.Objects.{is_command};
 ghost use Rattle.cf_dnpobj.specs.Headers.{headers_in, IsHeader};
-ghost use Rattle.cf_dnpobj.specs.Fragment.{wants_reply, fragment_value, read_octets};
-ghost use Rattle.cf_dnpobj.specs.Reply.{reply, body, indication_of, answers_objects, refused, refused_octet, is_status};
+ghost use Rattle.cf_dnpobj.specs.Fragment.{wants_reply};
+ghost use Rattle.cf_dnpobj.specs.Reply.{reply, indication_of, answers_objects, refused, refused_octet, is_status};
 
 use crate::acts::each;
 use crate::fragment::{Fragment, read_fragment};

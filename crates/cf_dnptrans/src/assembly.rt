@@ -1,5 +1,5 @@
 //! Fragments put together.
-ghost use Rattle.std.specs.Prelude.{◌≡◌, ℕ, ◌+◌, ◌-◌, ◌<◌, ◌≤◌, ◌↔◌, Bool, true, false, List, [], ◌∷◌, ◌++◌, length, take, drop, IfOk};
+ghost use Rattle.std.specs.Prelude.{◌≡◌, ℕ, ◌+◌, ◌<◌, ◌≤◌, ◌↔◌, true, List, [], ◌∷◌, ◌++◌, length, take, drop, IfOk};
 ghost use Rattle.std.specs.Prelude.{Some, IsSome, IsTrue};
 ghost use Rattle.cf_dnptrans.specs.Transport.{answer_to, unfinished, last_fragment};
 ghost use Rattle.cf_dnptrans.specs.AssemblyValue.{IsAssemblyOf, Steps, Adds};

@@ -1,5 +1,5 @@
 //! The first octet of a segment.
-ghost use Rattle.std.specs.Prelude.{◌≡◌, ℕ, ◌/◌, ◌%◌, ◌==◌, nat_le};
+ghost use Rattle.std.specs.Prelude.{◌≡◌, ◌/◌, ◌%◌, ◌==◌, nat_le};
 
 /// FIN: the segment is a fragment's last. IEEE 1815-2012, section 8.2.1.
 pub const FIN: u8 = 0x80;

@@ -1,5 +1,5 @@
 //! A fragment in segments.
-ghost use Rattle.std.specs.Prelude.{◌≡◌, ◌+◌, ◌<◌, ◌≤◌};
+ghost use Rattle.std.specs.Prelude.{◌≡◌, ◌<◌, ◌≤◌};
 ghost use Rattle.cf_dnptrans.specs.Segments.{count_of, octet_of};
 
 use crate::octet::{FIN, FIR};

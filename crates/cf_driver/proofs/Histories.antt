@@ -1,5 +1,5 @@
 -- What was taken of a side in a history with elements after it.
-use Rattle.std.proofs.Common.{List, ap, arith, cond, false, length, refl, sym, ℕ, ◌++◌, ◌+◌, ◌∙◌, ◌∷◌, ◌≡◌, ◌||◌, [], Bool}
+use Rattle.std.proofs.Common.{List, ap, arith, cond, false, length, refl, sym, ℕ, ◌++◌, ◌+◌, ◌∙◌, ◌∷◌, ◌≡◌, ◌||◌, []}
 use Rattle.std.proofs.Math.Bool.{or-false}
 use Rattle.std.proofs.lemmas.List.{append-nil, append_assoc, length-append}
 use Rattle.std.proofs.lemmas.List.Folds.{list_any-append}

@@ -1,5 +1,5 @@
 -- The limit on the lengths of the streams, by their numbers of letters.
-use Rattle.std.proofs.Common.{Bool, List, None, Option, Some, ap, arith, cond, false, inl, inr, refl, true, ℕ, ◌<◌, ◌∙◌, ◌≡◌, ◌||◌, if◌then◌else◌}
+use Rattle.std.proofs.Common.{Bool, List, None, Some, ap, arith, cond, false, inl, inr, refl, true, ℕ, ◌<◌, ◌≡◌, ◌||◌, if◌then◌else◌}
 use Rattle.std.specs.Prelude.{nat_le}
 use Rattle.std.proofs.lemmas.Bool.{cases_lt, le-leb, lt-leb}
 use Rattle.cf_audit.specs.declared.line.CutReason.{CutReason}

@@ -1,10 +1,10 @@
 -- Letters of a side that the lane took.
-use Rattle.std.proofs.Common.{Bool, Err, List, None, Ok, Option, Result, Some, [], ap, arith, drop, false, length, refl, subst, sym, true, ℕ, ◌*◌, ◌++◌, ◌+◌, ◌<◌, ◌∙◌, ◌∷◌, ◌≡◌, ◌≤◌, ◌||◌}
+use Rattle.std.proofs.Common.{Bool, Err, List, None, Ok, Option, Result, Some, [], ap, arith, drop, false, length, refl, subst, sym, ℕ, ◌*◌, ◌++◌, ◌+◌, ◌<◌, ◌∙◌, ◌∷◌, ◌≡◌, ◌≤◌, ◌||◌}
 use Rattle.std.specs.Prelude.{OnErr}
 use Rattle.std.proofs.Math.Bool.{or-false, or-true}
 use Rattle.std.proofs.lemmas.List.{append-nil, length-append, length-drop}
 use Rattle.cf_audit.specs.declared.line.CutReason.{CutReason}
-use Rattle.cf_lane.specs.Follows.{AddsTo, BeganApart, Follows, IsEndBehindCut, Rests, over, rest_of, with_rest}
+use Rattle.cf_lane.specs.Follows.{AddsTo, BeganApart, Follows, IsEndBehindCut, Rests, rest_of, with_rest}
 use Rattle.cf_lane.specs.Handled.{CountsBy, EndsOther, Grows, IsLaneOf, LaneValue, State, debt, state}
 use Rattle.cf_lane.specs.History.{Element, bytes_at, bytes_of, end_at, ended_of, letters_at}
 use Rattle.cf_outq.specs.SendQueue.{Queue, after_end}

@@ -1,5 +1,5 @@
 -- What was taken, over lines of one's own that are the whole log.
-use Rattle.std.proofs.Common.{List, Option, None, subst, sym, ℕ, ◌++◌, ◌∷◌, ◌≡◌}
+use Rattle.std.proofs.Common.{List, Option, subst, sym, ℕ}
 use Rattle.cf_audit.specs.declared.line.CutReason.{CutReason}
 use Rattle.cf_lane.specs.Follows.{AddsTo, Began, BeganApart, BeganApartWithin, BeganWithin, Follows, Rests, over}
 use Rattle.cf_lane.specs.Handled.{State}

@@ -1,5 +1,5 @@
 //! Answers of no, with the name of the asset at which what was asked is not so.
-ghost use Rattle.std.specs.Prelude.{◌≡◌, ◌≤◌, ◌+◌, ◌++◌, codes, length};
+ghost use Rattle.std.specs.Prelude.{◌≡◌, ◌≤◌, ◌+◌, ◌++◌, length};
 ghost use Rattle.cf_audit.specs.Text.{act_text};
 ghost use Rattle.cf_ending.specs.Denial.{denial_text, reviewed_text};
 ghost use Rattle.cf_view.specs.Text.{dotted};

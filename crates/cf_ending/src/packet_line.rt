@@ -1,5 +1,5 @@
 //! The line of a record of a capture, spelled from its end to its front.
-ghost use Rattle.std.specs.Prelude.{◌≡◌, ◌+◌, ◌<◌, ◌≤◌, ◌∷◌, ◌++◌, [], Ok, codes, drop, length};
+ghost use Rattle.std.specs.Prelude.{◌≡◌, ◌+◌, ◌<◌, ◌≤◌, ◌++◌, Ok, codes, drop, length};
 ghost use Rattle.cf_ending.specs.PacketLine.{fields_text, flag_text, flags_text, packet_text, record_line, refusal_name};
 ghost use Rattle.cf_packet.specs.Packet.{packet_value, read_record};
 

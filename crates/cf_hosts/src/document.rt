@@ -1,11 +1,10 @@
 //! The policy of a world: a table of TOML, its text, and what the text means.
-ghost use Rattle.std.specs.Prelude.{◌≡◌, IfOk, OnOk, Ok, pos, codes, string_bytes};
+ghost use Rattle.std.specs.Prelude.{◌≡◌, IfOk, OnOk, string_bytes};
 ghost use Rattle.cf_policy.specs.Within.{IsWithin};
 ghost use Rattle.cf_policylang.specs.Spelling.{with_member};
 ghost use Rattle.cf_hosts.specs.Document.{IsDocument, made_policy};
 ghost use Rattle.cf_hosts.specs.Tables.{asset_items, asset_table, document_table, grouped_rule_table, only, rule_table, w0_table, w1_table};
 ghost use Rattle.cf_hosts.specs.Tables.{w2_table};
-ghost use Rattle.toml.specs.Data.{array, no_members};
 ghost use Rattle.toml.specs.View.{array_view, table_view, view};
 
 use cf_policy::Policy;

@@ -1,6 +1,4 @@
 //! What a host says at once.
-ghost use Rattle.std.specs.Prelude.{◌≤◌};
-ghost use Rattle.arrayvec.specs.ArrayVec.{array_vec_len};
 
 use arrayvec::ArrayVec;
 use cf_view::push_bytes;

@@ -1,6 +1,6 @@
 //! The packets of the hosts.
-ghost use Rattle.std.specs.Prelude.{◌≡◌, ◌≤◌, ◌<◌, OnSome, length};
-ghost use Rattle.cf_hosts.specs.Segments.{IsPacketOf, flags_of};
+ghost use Rattle.std.specs.Prelude.{◌≡◌, ◌≤◌, OnSome, length};
+ghost use Rattle.cf_hosts.specs.Segments.{IsPacketOf};
 
 use crate::segment::{Purpose, Segment};
 use arrayvec::ArrayVec;

@@ -1,12 +1,11 @@
 //! What stands at the front of a client's bytes, and what it counts for.
-ghost use Rattle.std.specs.Prelude.{◌≡◌, ◌+◌, ◌<◌, ◌≤◌, ℕ, List, [], ◌∷◌, ◌++◌, IfOk, length, true, false};
+ghost use Rattle.std.specs.Prelude.{◌≡◌, ◌+◌, ℕ, List, [], ◌∷◌, ◌++◌, IfOk, true, false};
 ghost use Rattle.cf_apci.specs.Apdu.{SpellsApdu};
 ghost use Rattle.cf_modbus.specs.Adu.{SpellsAdu};
 ghost use Rattle.cf_dnplink.specs.LinkFrame.{IsFrame, SpellsFrame, frame_value};
 ghost use Rattle.cf_lane.specs.Judged.{Judged};
 ghost use Rattle.cf_lane.specs.Log.{command_octets};
 ghost use Rattle.cf_lane.specs.Unit.{SpellsUnit, UnitValue, frame_unit};
-ghost use Rattle.cf_policy.specs.Index.{IsIndexOf};
 ghost use Rattle.cf_policy.specs.Within.{IsAssetWithin};
 ghost use Rattle.cf_view.specs.Framing.{BreaksAt, IsPartial};
 ghost use Rattle.cf_lane.specs.declared.fate.Fate.{Fate};

@@ -1,5 +1,5 @@
 //! What an APDU of IEC 60870-5-104 counts for. Its numbers, and whether the transfer was started, are not judged.
-ghost use Rattle.std.specs.Prelude.{◌≡◌, ◌≤◌, ℕ, length, slice_index};
+ghost use Rattle.std.specs.Prelude.{◌≡◌, ◌≤◌, ℕ, length};
 ghost use Rattle.cf_apci.specs.Apdu.{Fits, apdu_value};
 ghost use Rattle.cf_lane.specs.Iec104.{fate_of_asdu};
 ghost use Rattle.cf_policy.specs.Index.{IsIndexOf};

@@ -1,11 +1,11 @@
 //! The rules that allow exactly what was seen.
-ghost use Rattle.std.specs.Prelude.{◌≡◌, ◌<◌, ◌≤◌, ◌+◌, ◌++◌, ◌∷◌, [], pos, length, codes, decimal, All, Err, IfOk, OnOk};
+ghost use Rattle.std.specs.Prelude.{◌≡◌, ◌≤◌, ◌+◌, ◌++◌, ◌∷◌, [], length, All, Err, IfOk, OnOk};
 ghost use Rattle.cf_learn.specs.Seen.{AllowsSeen, IsSeenWithin};
 ghost use Rattle.cf_learn.specs.Greatest.{IsGrouped};
 ghost use Rattle.cf_policy.specs.Within.{AreRulesWithin};
-ghost use Rattle.cf_learn.specs.Rules.{AreLearnedFrom, MakesTooMany, Part, learned_rules, rules_of_runs, goes_in, rule_of, rule_name};
-ghost use Rattle.cf_learn.specs.Rules.{value_spans, span_of, whole_span};
-ghost use Rattle.cf_learn.specs.declared.limit.TheConstants.{MOST_LEARNED, MOST_RUNS};
+ghost use Rattle.cf_learn.specs.Rules.{AreLearnedFrom, MakesTooMany, learned_rules, rules_of_runs, goes_in, rule_of, rule_name};
+ghost use Rattle.cf_learn.specs.Rules.{value_spans, whole_span};
+ghost use Rattle.cf_learn.specs.declared.limit.TheConstants.{MOST_LEARNED};
 
 use crate::limit::{MOST_LEARNED, MOST_RUNS};
 use crate::runs::{Run, runs_of, span_of};

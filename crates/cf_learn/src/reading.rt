@@ -1,13 +1,9 @@
 //! What flows show of an asset: the acts of the commands with its station and a right form, unit by unit of a client's bytes. Numbers
 //! of IEC 60870-5-104 and whether its transfer was started are not asked.
-ghost use Rattle.std.specs.Prelude.{◌≡◌, ◌≢◌, ◌+◌, ◌^◌, ◌<◌, ◌≤◌, ◌++◌, ◌∷◌, [], ℕ, List, IfOk, IfSome, OnOk, Ok, true, length, map};
+ghost use Rattle.std.specs.Prelude.{◌≡◌, ◌+◌, ◌^◌, ◌<◌, ◌≤◌, ◌++◌, ℕ, List, IfOk, OnOk, length, map};
 ghost use Rattle.cf_apci.specs.Apdu.{apdu_value};
-ghost use Rattle.cf_asdu.specs.Asdu.{asdu_value};
 ghost use Rattle.cf_dnplink.specs.LinkFrame.{IsFrame, frame_value};
-ghost use Rattle.cf_dnplink.specs.UserOctets.{user_of};
-ghost use Rattle.cf_dnpobj.specs.Fragment.{fragment_value};
 ghost use Rattle.cf_dnptrans.specs.AssemblyValue.{AssemblyValue, IsAssemblyOf};
-ghost use Rattle.cf_dnptrans.specs.Transport.{answer_to};
 ghost use Rattle.cf_lane.specs.Acts.{GivesActs};
 ghost use Rattle.cf_lane.specs.Unit.{apdu_unit, frame_unit};
 ghost use Rattle.cf_modbus.specs.Adu.{adu_value};

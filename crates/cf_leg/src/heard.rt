@@ -1,8 +1,8 @@
 //! What a packet is to a TCP end.
-ghost use Rattle.std.specs.Prelude.{◌≡◌, ◌+◌, ◌-◌, ◌*◌, ◌^◌, ◌<◌, ◌≤◌, ◌==◌, not, ◌&&◌, if◌then◌else◌, length, pos, negsuc, ◌+ℤ◌, ◌≤ℤ◌};
+ghost use Rattle.std.specs.Prelude.{◌≡◌, ◌-◌, ◌^◌, ◌≤◌, length, pos, negsuc, ◌≤ℤ◌};
 ghost use Rattle.std.specs.Prelude.{int_lt};
 ghost use Rattle.cf_packet.specs.Packet.{packet_value};
-ghost use Rattle.cf_stream.specs.Position.{position, sequence_number};
+ghost use Rattle.cf_stream.specs.Position.{position};
 ghost use Rattle.cf_leg.specs.Heard.{ack_place, answer_to, counts_as, first_answer, in_reach, is_in_reach, is_opening, open_answer};
 ghost use Rattle.cf_leg.specs.Heard.{opens_as, owes_for, reset_answer, resets_as, text_place};
 ghost use Rattle.cf_leg.specs.Segment.{has_ack, has_fin, has_rst, has_syn, letters_of};

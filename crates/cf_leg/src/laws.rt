@@ -1,5 +1,5 @@
 //! Laws of the definitions.
-ghost use Rattle.std.specs.Prelude.{◌≡◌, ℕ, ◌+◌, ◌^◌, ◌<◌, ◌≤◌, ◌==◌, min, max, ◌&&◌, ◌||◌, if◌then◌else◌, true, Bool, List, ◌∷◌};
+ghost use Rattle.std.specs.Prelude.{◌≡◌, ℕ, ◌+◌, ◌^◌, ◌<◌, ◌≤◌, min, max, true, Bool, List, ◌∷◌};
 ghost use Rattle.cf_packet.specs.Packet.{PacketValue};
 ghost use Rattle.cf_stream.specs.Stream.{Stream, letter_count};
 ghost use Rattle.cf_leg.specs.Emits.{IsRight, Pieces};
@@ -13,7 +13,7 @@ ghost use Rattle.cf_leg.specs.Heard.{opened, offers, shown};
 ghost use Rattle.cf_leg.specs.declared.ends.Role.{Role};
 ghost use Rattle.cf_leg.specs.declared.ends.Role.TheVariants as role;
 ghost use Rattle.std.specs.Option.{is_some};
-ghost use Rattle.cf_leg.specs.Told.{letters_sent, is_greeted, syn_ack, told_by_all, letters_sent_by_all, told};
+ghost use Rattle.cf_leg.specs.Told.{letters_sent, is_greeted, syn_ack, told_by_all, letters_sent_by_all};
 ghost use Rattle.cf_leg.specs.declared.ends.Ends.{Ends};
 ghost use Rattle.cf_leg.specs.declared.ends.Advertised.{Advertised};
 ghost use Rattle.cf_leg.specs.declared.ends.Way.{Way};

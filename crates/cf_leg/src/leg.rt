@@ -1,10 +1,9 @@
 //! One end of a TCP connection.
-ghost use Rattle.std.specs.Prelude.{◌≡◌, ◌+◌, ◌-◌, ◌*◌, ◌%◌, ◌^◌, ◌<◌, ◌≤◌, ◌==◌, not, ◌&&◌, ◌||◌, if◌then◌else◌, true, false, List, []};
-ghost use Rattle.std.specs.Prelude.{◌∷◌, length, None, Some, Ok, Err, IfOk, ◌≤ℤ◌, ◌+ℤ◌};
+ghost use Rattle.std.specs.Prelude.{◌≡◌, ◌<◌, ◌≤◌, not, true, List, []};
+ghost use Rattle.std.specs.Prelude.{length, IfOk};
 ghost use Rattle.cf_rebuild.specs.ReceiveWindow.{Consumes, IsWindow, base_of};
-ghost use Rattle.cf_leg.specs.Calls.{origin_as, Greeted, IsMade, no_marks, is_greeted_phase};
-ghost use Rattle.cf_leg.specs.Emits.{send_mss, to_tell};
-ghost use Rattle.cf_stream.specs.Position.{place_or_zero};
+ghost use Rattle.cf_leg.specs.Calls.{origin_as, IsMade, no_marks, is_greeted_phase};
+ghost use Rattle.cf_leg.specs.Emits.{to_tell};
 ghost use Rattle.cf_leg.specs.Event.{LegEvent};
 ghost use Rattle.cf_leg.specs.LegValue.{IsLeg, IsLegOf, Marks, LegValue, arms, is_open, told_of, way_at};
 
@@ -60,7 +59,6 @@ pub struct Leg {
 }
 
 impl Model for Leg {
-    ghost use Rattle.std.specs.Prelude.{◌≡◌};
     ghost use Rattle.cf_leg.specs.LegValue.{LegValue, IsLeg};
 
     ghost Value = { LegValue };

@@ -1,5 +1,5 @@
 //! What holds over every list of right events of an end.
-ghost use Rattle.std.specs.Prelude.{◌≡◌, ℕ, ◌+◌, ◌^◌, ◌<◌, ◌≤◌, ◌==◌, ◌&&◌, ◌||◌, if◌then◌else◌, true, Bool, List, ◌∷◌, Some};
+ghost use Rattle.std.specs.Prelude.{◌≡◌, ℕ, ◌<◌, ◌≤◌, ◌==◌, ◌&&◌, ◌||◌, if◌then◌else◌, true, Bool, List, ◌∷◌, Some};
 ghost use Rattle.cf_packet.specs.Packet.{PacketValue};
 ghost use Rattle.cf_stream.specs.Stream.{Stream, Letter, letter_at, letter_count};
 ghost use Rattle.cf_leg.specs.Emits.{AllRight, IsRight, differs, empties, letters_of_all, to_tell};

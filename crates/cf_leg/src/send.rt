@@ -1,6 +1,6 @@
 //! Segments that go out.
-ghost use Rattle.std.specs.Prelude.{◌≡◌, ◌+◌, ◌-◌, ◌*◌, ◌%◌, ◌^◌, ◌<◌, ◌≤◌, ◌==◌, ◌↔◌, min, max, not, nat_lt, ◌&&◌, ◌||◌, if◌then◌else◌};
-ghost use Rattle.std.specs.Prelude.{true, false, List, ℕ, [], ◌∷◌, length, take, None, Some, Ok, Err, IfOk, OnErr, OnOk, pos, ◌≤ℤ◌};
+ghost use Rattle.std.specs.Prelude.{◌≡◌, ◌+◌, ◌-◌, ◌^◌, ◌<◌, ◌≤◌, min, max, not, nat_lt, ◌&&◌, if◌then◌else◌};
+ghost use Rattle.std.specs.Prelude.{true, false, List, ℕ, [], ◌∷◌, length, take, IfOk, OnErr, OnOk, pos, ◌≤ℤ◌};
 ghost use Rattle.cf_outside.specs.Desk.{DeskValue};
 ghost use Rattle.cf_outside.specs.Frames.{OnlyEmits};
 ghost use Rattle.std.specs.Result.{is_err};
@@ -11,7 +11,7 @@ ghost use Rattle.cf_packet.specs.Written.{IsWritable, packet_octets};
 ghost use Rattle.cf_stream.specs.Position.{place_or_zero, sequence_number};
 ghost use Rattle.cf_stream.specs.Stream.{Stream, no_letters};
 ghost use Rattle.cf_leg.specs.Emits.{piece};
-ghost use Rattle.cf_leg.specs.Emitted.{GetsSegments, spelled};
+ghost use Rattle.cf_leg.specs.Emitted.{GetsSegments};
 ghost use Rattle.cf_leg.specs.Segment.{flags_with, segment};
 ghost use Rattle.cf_leg.specs.Calls.{SaysTo, SendsNew, SendsPiece};
 ghost use Rattle.cf_view.specs.Moment.{moment_limit};

@@ -2,7 +2,7 @@
 ghost use Rattle.std.specs.Prelude.{◌≡◌, ◌<◌, List, Option, ℕ, length, true};
 ghost use Rattle.cf_outside.specs.Faults.{HasCause};
 ghost use Rattle.cf_outside.specs.Pair.{FaultsBy};
-ghost use Rattle.cf_links.specs.Links.{Finishes, Gives, LinksEntry, LinksPlace, Reaches, SessionTold, Takes, TellsMoment};
+ghost use Rattle.cf_links.specs.Links.{Finishes, Gives, LinksEntry, LinksPlace, Reaches, Takes, TellsMoment};
 
 use cf_outside::{GiveAnswer, MomentAnswer, TakeAnswer, WriteAnswer};
 use cf_view::{Endpoint, Side};

@@ -1,5 +1,5 @@
 //! The streams of a service: TCP connections of many sessions, the places at which clients come, and the clock of the machine.
-ghost use Rattle.std.specs.Prelude.{◌≡◌, ◌≤◌, false, true, IfOk, None, ℕ};
+ghost use Rattle.std.specs.Prelude.{◌≡◌, ◌≤◌, false, IfOk, None, ℕ};
 ghost use Rattle.std.specs.BTreeSet.{contains};
 ghost use Rattle.std.specs.Ordering.{nat_cmp};
 ghost use Rattle.cf_outside.specs.Faults.{Rose};

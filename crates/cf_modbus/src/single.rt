@@ -1,6 +1,5 @@
 //! Requests that write one coil or one register.
-ghost use Rattle.std.specs.Prelude.{◌≡◌, ◌+◌, ◌≤◌, IfSome, Some, pos, length, slice_index};
-ghost use Rattle.std.specs.Option.{option_map};
+ghost use Rattle.std.specs.Prelude.{◌≡◌, ◌+◌, ◌≤◌, IfSome, length, slice_index};
 ghost use Rattle.cf_view.specs.Octets.{IsOctets, u16_be_at};
 ghost use Rattle.cf_modbus.specs.Acts.{IsRequestOf};
 

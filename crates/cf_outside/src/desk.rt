@@ -1,5 +1,5 @@
 //! A desk: where packets and log lines go.
-ghost use Rattle.std.specs.Prelude.{◌≡◌, ◌<◌, ◌≤◌, ◌*◌, ◌^◌, ◌↔◌, IsTrue, true, length};
+ghost use Rattle.std.specs.Prelude.{◌≡◌, ◌<◌, ◌≤◌, ◌↔◌, IsTrue, true, length};
 ghost use Rattle.cf_outside.specs.Desk.{DeskValue, Emits, PutsLine, line_desk};
 ghost use Rattle.cf_outside.specs.Files.{Appends};
 ghost use Rattle.cf_outside.specs.Lines.{is_line};

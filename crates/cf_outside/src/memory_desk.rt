@@ -1,5 +1,5 @@
 //! A desk in memory, whose failures are scripted.
-ghost use Rattle.std.specs.Prelude.{◌≡◌, ◌≤◌, ◌<◌, ◌*◌, ◌^◌, ◌∷◌, ◌++◌, [], true, length, map, string_bytes, OnOk, OnErr};
+ghost use Rattle.std.specs.Prelude.{◌≡◌, ◌≤◌, ◌<◌, ◌∷◌, ◌++◌, [], true, length, map, string_bytes, OnOk, OnErr};
 ghost use Rattle.cf_outside.specs.Faults.{counted};
 ghost use Rattle.cf_outside.specs.Desk.{DeskValue, Emits, PutsLine};
 ghost use Rattle.cf_outside.specs.Lines.{is_line};

@@ -1,6 +1,6 @@
 //! The Internet checksum. RFC 1071.
 ghost use Rattle.std.specs.Prelude.{◌≡◌, ℕ, ◌+◌, ◌*◌, ◌<◌, ◌≤◌, List, length};
-ghost use Rattle.cf_view.specs.Octets.{IsOctets, u16_be_at, u32_be_at};
+ghost use Rattle.cf_view.specs.Octets.{IsOctets, u32_be_at};
 ghost use Rattle.cf_packet.specs.Checksum.{Gathers, is_right, ones_sum, total, words};
 
 /// Whether octets with their checksum in them are right.

@@ -1,6 +1,6 @@
 //! The header of an IPv4 packet. RFC 791, section 3.1.
-ghost use Rattle.std.specs.Prelude.{◌≡◌, ◌+◌, ◌*◌, ◌<◌, ◌≤◌, IfNone, length};
-ghost use Rattle.cf_packet.specs.Ipv4.{header_length, header_refusal, ihl, is_bad_header, is_fragment, is_other_version, is_short};
+ghost use Rattle.std.specs.Prelude.{◌≡◌, ◌≤◌, IfNone, length};
+ghost use Rattle.cf_packet.specs.Ipv4.{header_length, header_refusal, is_bad_header, is_fragment, is_other_version, is_short};
 ghost use Rattle.cf_packet.specs.Ipv4.{total_length};
 
 use crate::checksum::is_right;

@@ -1,5 +1,5 @@
 //! The header of a TCP segment. RFC 9293, section 3.1.
-ghost use Rattle.std.specs.Prelude.{◌≡◌, ◌+◌, ◌*◌, ◌/◌, ◌%◌, ◌≤◌, ◌^◌, IfOk, false, length};
+ghost use Rattle.std.specs.Prelude.{◌≡◌, ◌+◌, ◌/◌, ◌%◌, ◌≤◌, ◌^◌, IfOk, false, length};
 ghost use Rattle.cf_packet.specs.Checksum.{total, words};
 ghost use Rattle.cf_packet.specs.Packet.{fields_of, packet_answer, packet_value, segment_in};
 ghost use Rattle.cf_packet.specs.Tcp.{is_bad, is_right_segment, pseudo_header};

@@ -1,5 +1,5 @@
 //! Packets written: IPv4 with no options, and TCP with no option but a maximum segment size.
-ghost use Rattle.std.specs.Prelude.{◌≡◌, ℕ, ◌+◌, ◌*◌, ◌^◌, ◌<◌, ◌≤◌, ◌++◌, Ok, None, Some, [], length};
+ghost use Rattle.std.specs.Prelude.{◌≡◌, ℕ, ◌+◌, ◌*◌, ◌^◌, ◌<◌, ◌≤◌, ◌++◌, Ok, None, Some};
 ghost use Rattle.arrayvec.specs.ArrayVec.{array_vec_len};
 ghost use Rattle.cf_view.specs.declared.LinkKind.TheVariants as link;
 ghost use Rattle.cf_packet.specs.Checksum.{total, words};

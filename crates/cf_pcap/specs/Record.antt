@@ -1,6 +1,6 @@
 -- What octets of a capture file say about the record that they begin: record_of. draft-ietf-opsawg-pcap, section 5; that
 -- a record has at most so many captured octets is this project's own.
-use Rattle.std.specs.Prelude.{ℕ, ◌≤◌, ◌+◌, ◌*◌, ◌^◌, ◌/◌, ◌%◌, nat_lt, if◌then◌else◌, List, ◌++◌, length, slice_range}
+use Rattle.std.specs.Prelude.{ℕ, ◌≤◌, ◌+◌, ◌*◌, ◌/◌, ◌%◌, nat_lt, if◌then◌else◌, List, ◌++◌, length, slice_range}
 use Rattle.cf_view.specs.Octets.{u32_le_octets}
 use Rattle.cf_pcap.specs.declared.header.Header.{Header}
 use Rattle.cf_pcap.specs.declared.record.RecordAnswer.{RecordAnswer}

@@ -1,6 +1,6 @@
 //! The records of a capture file.
 ghost use Rattle.std.specs.Prelude.{◌≡◌, ◌≤◌, length};
-ghost use Rattle.cf_pcap.specs.Record.{IsInside, captured_at, record_answer_value, record_of, stamp_at};
+ghost use Rattle.cf_pcap.specs.Record.{IsInside, record_answer_value, record_of, stamp_at};
 
 use crate::header::{Header, u32_at};
 use cf_view::View;

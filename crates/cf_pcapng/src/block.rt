@@ -1,7 +1,7 @@
 //! The tests of a block, and what it says.
 ghost use Rattle.std.specs.Prelude.{◌≡◌, ◌≤◌, ◌↔◌, ◌∷◌, [], IsTrue, Some, None, if◌then◌else◌, length, take};
 ghost use Rattle.cf_pcapng.specs.Answers.{HasLimits, HasRoom, HoldsPlaced, SizesRight, block_size_value, whole_block_value};
-ghost use Rattle.cf_pcapng.specs.Block.{captured_at, differs, interface_at, is_allowed, is_section, is_served, is_wrong_section, kind_at};
+ghost use Rattle.cf_pcapng.specs.Block.{captured_at, differs, is_allowed, is_section, is_served, is_wrong_section, kind_at};
 ghost use Rattle.cf_pcapng.specs.Block.{last_of, least_length, least_told, length_at, link_of, number_at, order_at, size_in, ticks_at};
 
 use crate::options::{padded, resolution_in};

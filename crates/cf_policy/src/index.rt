@@ -1,6 +1,6 @@
 //! The rules of an asset by code: for each code the rules that have it and one client, found without looking at the
 //! others.
-ghost use Rattle.std.specs.Prelude.{◌≡◌, ℕ, ◌<◌, ◌≤◌, ◌&&◌, pos, Bool, List, Some, false, true, take, length, All, AllPairs};
+ghost use Rattle.std.specs.Prelude.{◌≡◌, ℕ, ◌<◌, ◌≤◌, ◌&&◌, List, Some, false, true, take, length, All, AllPairs};
 ghost use Rattle.std.specs.Prelude.{option_and_then, option_map, position, slice_get, IfOk, IfSome, OnOk};
 ghost use Rattle.std.specs.List.{list_any};
 ghost use Rattle.cf_policy.specs.Index.{IsIndexOf, IsFrontOf, IsStartOf, HasStarts, AddsCodes, HasPairsBelow, IsPairBefore, IsPartOfCode};

@@ -1,8 +1,7 @@
 //! The assets of a policy.
-ghost use Rattle.std.specs.Prelude.{◌≡◌, ◌≤◌, [], bytes_eq, vec_len};
-ghost use Rattle.std.specs.List.{list_any};
+ghost use Rattle.std.specs.Prelude.{◌≡◌, ◌≤◌, [], vec_len};
 ghost use Rattle.toml.specs.View.{table_view, array_view};
-ghost use Rattle.cf_policy.specs.Within.{lowest_station, highest_station, highest_master, most_assets};
+ghost use Rattle.cf_policy.specs.Within.{lowest_station, highest_station, most_assets};
 ghost use Rattle.cf_policylang.specs.Tested.{Answers, AnswersPlainly};
 ghost use Rattle.cf_policylang.specs.Assets.{is_asset_taken, asset_name, asset_address, number_at, is_endpoint_taken};
 ghost use Rattle.cf_policylang.specs.Assets.{endpoint, protocol_of, protocol, no_master, master, asset, assets_from};

@@ -1,7 +1,7 @@
 //! Numbers, addresses and ranges as texts of a policy.
 ghost use Rattle.std.specs.Prelude.{◌≡◌, ◌<◌, ◌≤ℤ◌, IfSome, length, option_map};
 ghost use Rattle.cf_policylang.specs.Numbers.{has_spare, within, printed_number_in, split_at_mark, ends, span, number_span, octet, octets};
-ghost use Rattle.cf_policylang.specs.Numbers.{joined, address};
+ghost use Rattle.cf_policylang.specs.Numbers.{address};
 
 use cf_policy::Span;
 

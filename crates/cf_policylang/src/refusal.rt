@@ -1,5 +1,5 @@
 //! Refusals of a policy's text, and their words.
-ghost use Rattle.std.specs.Prelude.{◌≡◌, ◌+◌, ◌≤◌, ◌++◌, codes, length};
+ghost use Rattle.std.specs.Prelude.{◌≡◌, ◌+◌, ◌≤◌, ◌++◌, length};
 ghost use Rattle.arrayvec.specs.ArrayString.{array_string_len};
 ghost use Rattle.cf_policylang.specs.Keys.{cause_number, key_text, refusal_text};
 ghost use Rattle.cf_policylang.specs.Tested.{refusal, at_set};

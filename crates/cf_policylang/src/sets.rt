@@ -1,10 +1,9 @@
 //! The sets of points that a document of version 2 names, and the points of a rule beside them.
-ghost use Rattle.std.specs.Prelude.{◌≡◌, ◌≤◌, ◌++◌, [], IfOk, IfSome, Ok, bytes_eq, option_map, vec_len, find};
-ghost use Rattle.std.specs.List.{list_any};
+ghost use Rattle.std.specs.Prelude.{◌≡◌, ◌≤◌, ◌++◌, [], IfOk, Ok, bytes_eq, option_map, vec_len, find};
 ghost use Rattle.toml.specs.View.{view, table_view, array_view};
 ghost use Rattle.cf_policylang.specs.declared.sets.TheConstants.{MOST_SETS};
 ghost use Rattle.cf_policylang.specs.Tested.{Answers, AnswersPlainly, and_then};
-ghost use Rattle.cf_policylang.specs.Sets.{entry_spans, is_set_taken, named_in, own_span, point_entry, points_from, rule_points, set};
+ghost use Rattle.cf_policylang.specs.Sets.{is_set_taken, named_in, own_span, point_entry, points_from, rule_points, set};
 ghost use Rattle.cf_policylang.specs.Sets.{set_items, set_name, set_points, set_spans, sets, sets_from, stated_points};
 
 use crate::fields::{

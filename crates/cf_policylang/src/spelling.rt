@@ -2,9 +2,9 @@
 ghost use Rattle.std.specs.Prelude.{◌≡◌, ◌+◌, ◌<◌, ◌^◌, ◌≤◌, ◌++◌, codes, IfOk, OnOk, pos, IfSome, string_bytes, length};
 ghost use Rattle.toml.specs.View.{array_view, table_view, view};
 ghost use Rattle.std.specs.List.{All};
-ghost use Rattle.toml.specs.Data.{no_members, string};
+ghost use Rattle.toml.specs.Data.{string};
 ghost use Rattle.cf_view.specs.Text.{dotted};
-ghost use Rattle.cf_policy.specs.Within.{AreSpansWithin, IsAssetWithin, IsRuleWithin, IsSpanWithin, highest_address};
+ghost use Rattle.cf_policy.specs.Within.{IsAssetWithin, IsRuleWithin, IsSpanWithin, highest_address};
 ghost use Rattle.cf_policylang.specs.declared.sets.TheConstants.{MOST_SETS};
 ghost use Rattle.cf_policylang.specs.Spelling.{action_text, address_text, are_same, asset_table, number_text, numbers, point_items};
 ghost use Rattle.cf_policylang.specs.Spelling.{protocol_text, rule_table, rule_tables, set_place, set_table, set_text, texts, with_key};

@@ -1,5 +1,5 @@
 -- A capture file of sent packets is read again.
-use Rattle.std.proofs.Common.{◌≡◌, ℕ, ◌+◌, ◌-◌, ◌*◌, ◌^◌, ◌<◌, ◌≤◌, List, [], ◌∷◌, ◌++◌, length, map, drop, slice_range, nat_lt, true, false, Some, Ok, refl, sym, ap, ◌∙◌, subst, append_assoc, arith}
+use Rattle.std.proofs.Common.{◌≡◌, ℕ, ◌+◌, ◌-◌, ◌^◌, ◌<◌, ◌≤◌, List, [], ◌∷◌, ◌++◌, length, map, drop, slice_range, nat_lt, true, false, Some, Ok, refl, sym, ap, subst, append_assoc, arith}
 use Rattle.std.specs.List.{AllByRecursion, flat_map}
 use Rattle.std.proofs.lemmas.Bool.Decides.{nat_tests}
 use Rattle.std.proofs.lemmas.List.{length-append}
@@ -10,11 +10,10 @@ use Rattle.cf_pcap.specs.Record.{captured_at, head_octets, stamp_at}
 use Rattle.cf_view.specs.Moment.{moment_limit}
 use Rattle.cf_pcap.specs.declared.header.Header.{Header}
 use Rattle.cf_pcapng.specs.Block.{is_section}
-use Rattle.cf_policy.specs.declared.Asset.{Asset}
 use Rattle.cf_records.specs.Capture.{AreRecords, FileEnd, Fits, LastPlace, classic_at}
 use Rattle.cf_records.specs.Form.{form_of}
 use Rattle.cf_run.specs.OutputFile.{record_octets}
-use Rattle.cf_run.specs.Run.{IsRun, capture_of, inputs_of}
+use Rattle.cf_run.specs.Run.{inputs_of}
 use Rattle.cf_run.specs.Trace.{RunEvent, Input, sent}
 use Rattle.cf_session.specs.Sent.{Sent}
 use Rattle.cf_session.specs.Told.{emitted}

@@ -1,5 +1,5 @@
 //! The letters of a ring by their places: place k stands k after the place of slot `start`.
-ghost use Rattle.std.specs.Prelude.{◌≡◌, ℕ, ◌+◌, ◌-◌, ◌*◌, ◌/◌, ◌%◌, ◌^◌, ◌<◌, ◌≤◌, ◌≢◌, ◌⊎◌, true, false, IfOk, List, [], length, vec_len};
+ghost use Rattle.std.specs.Prelude.{◌≡◌, ℕ, ◌+◌, ◌-◌, ◌^◌, ◌<◌, ◌≤◌, ◌⊎◌, true, false, IfOk, List, [], length, vec_len};
 ghost use Rattle.std.specs.Prelude.{min, take, slice_index, Some, None, pos, negsuc, ◌≤ℤ◌, ◌+ℤ◌};
 ghost use Rattle.std.specs.Option.{option_or};
 ghost use Rattle.cf_stream.specs.FirstCopy.{offered};

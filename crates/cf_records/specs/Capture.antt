@@ -1,13 +1,13 @@
 -- Which records a capture file has, and how they end: AreRecords, and AreTimed where each record has its moment. The records are
 -- those of draft-ietf-opsawg-pcap, or the enhanced packets of draft-ietf-opsawg-pcapng; the order of the tests, moments and all
 -- limits are this project's own.
-use Rattle.std.specs.Prelude.{◌≡◌, ℕ, ◌+◌, ◌*◌, ◌^◌, max, min, nat_lt, ◌==◌, Bool, if◌then◌else◌, List, [], ◌∷◌, length, drop, slice_range}
+use Rattle.std.specs.Prelude.{◌≡◌, ℕ, ◌+◌, ◌^◌, min, nat_lt, ◌==◌, Bool, if◌then◌else◌, List, [], ◌∷◌, length, drop, slice_range}
 use Rattle.std.specs.Prelude.{Option, Some, None}
 use Rattle.cf_view.specs.declared.LinkKind.{LinkKind}
 use Rattle.cf_pcap.specs.Record.{captured_at, stamp_at}
 use Rattle.cf_pcap.specs.declared.header.Header.{Header}
 use Rattle.cf_pcap.specs.declared.record.TheConstants.{CAPTURED_LIMIT}
-use Rattle.cf_pcapng.specs.Block.{Begins, Describes, Found, Holds, Is, Needs, Other, Packet, Refuses, block_at, size_at}
+use Rattle.cf_pcapng.specs.Block.{Begins, Describes, Found, Holds, Is, Needs, Other, Refuses, block_at, size_at}
 use Rattle.cf_pcapng.specs.Blocks.{after_found}
 use Rattle.cf_pcapng.specs.Section.{Section}
 use Rattle.cf_pcapng.specs.declared.block.TheConstants.{REFUSED_INTERFACE, REFUSED_LENGTH, REFUSED_RESOLUTION, REFUSED_SECTION}

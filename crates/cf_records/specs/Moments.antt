@@ -1,5 +1,5 @@
 -- The moments of a file's records: moments; and its records where each is tested with its moment: AreTimed.
-use Rattle.std.specs.Prelude.{◌≡◌, ℕ, ◌+◌, ◌*◌, ◌^◌, max, nat_lt, if◌then◌else◌, List, [], ◌∷◌, drop, Option, Some, None}
+use Rattle.std.specs.Prelude.{◌≡◌, ℕ, ◌+◌, max, nat_lt, if◌then◌else◌, List, [], ◌∷◌, drop, Option, Some, None}
 use Rattle.cf_view.specs.Moment.{moment_limit}
 use Rattle.cf_records.specs.Capture.{AtPlace, Clock, Cut, FileEnd, Fits, IsLast}
 use Rattle.cf_records.specs.Capture.{Large, LastPlace, Passes, Record, Refused, TooLong, at_place}

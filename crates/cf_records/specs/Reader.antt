@@ -2,7 +2,7 @@
 use Rattle.std.specs.Prelude.{◌≡◌, ℕ, zero, suc, ◌+◌, List, drop, Result, Ok, Err}
 use Rattle.cf_outside.specs.Files.{Content, untold, absent, holds}
 use Rattle.cf_view.specs.declared.LinkKind.{LinkKind}
-use Rattle.cf_records.specs.Capture.{AtPlace, Cut, FileEnd, Fits, Large, Passes, Record, Refused, TooLong, at_place, form_behind}
+use Rattle.cf_records.specs.Capture.{AtPlace, Cut, FileEnd, Fits, Large, Passes, Refused, TooLong, at_place, form_behind}
 use Rattle.cf_records.specs.Form.{first_place, form_of}
 use Rattle.cf_records.specs.declared.form.Form.{Form}
 use Rattle.cf_records.specs.declared.form.FormRefusal.{FormRefusal}

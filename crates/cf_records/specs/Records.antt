@@ -1,5 +1,5 @@
 -- Laws of the records of a capture file, `HaveOneList`, and of their moments, `HaveOneTimedList`, of either form.
-use Rattle.std.specs.Prelude.{◌≡◌, ℕ, ◌+◌, ◌*◌, ◌^◌, ◌<◌, max, List, [], ◌∷◌, slice_get, Some}
+use Rattle.std.specs.Prelude.{◌≡◌, ℕ, ◌+◌, ◌<◌, max, List, ◌∷◌, slice_get, Some}
 use Rattle.cf_records.specs.Capture.{AreRecords, LastPlace, Record}
 use Rattle.cf_records.specs.Moments.{AreTimed, first_moment, moments}
 use Rattle.cf_records.specs.declared.form.Form.{Form}

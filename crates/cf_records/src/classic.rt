@@ -1,5 +1,5 @@
 //! The records of a classic file.
-ghost use Rattle.std.specs.Prelude.{◌≡◌, ◌+◌, ◌^◌, ◌≤◌, ℕ, List, IfErr, IfOk, Ok, length, take};
+ghost use Rattle.std.specs.Prelude.{◌≡◌, ◌^◌, ◌≤◌, ℕ, List, IfErr, IfOk, length, take};
 ghost use Rattle.cf_outside.specs.Frames.{OnlyReads};
 ghost use Rattle.cf_records.specs.Pieces.{FindsPiece, HeadAs, HeadFits, IsNoRecord, IsPieceInside, PieceAs};
 ghost use Rattle.cf_records.specs.declared.form.Form.TheVariants as form;

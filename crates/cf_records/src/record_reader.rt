@@ -1,5 +1,5 @@
 //! The records of a capture file, read one after the other.
-ghost use Rattle.std.specs.Prelude.{◌≡◌, ℕ, ◌+◌, ◌^◌, ◌<◌, ◌≤◌, IsErrOf, length};
+ghost use Rattle.std.specs.Prelude.{◌≡◌, ℕ, ◌^◌, ◌≤◌, IsErrOf, length};
 ghost use Rattle.cf_outside.specs.Frames.{OnlyReads};
 ghost use Rattle.cf_records.specs.Form.{interface_of, room_of};
 ghost use Rattle.cf_records.specs.Pieces.{FindsBehind, FindsPiece, IsPastRecord, IsPieceInside};
@@ -76,7 +76,7 @@ pub struct RecordReader {
 }
 
 impl Model for RecordReader {
-    ghost use Rattle.std.specs.Prelude.{◌≡◌, ℕ, ◌≤◌, ◌^◌, length, slice_range};
+    ghost use Rattle.std.specs.Prelude.{◌≡◌, ◌≤◌, ◌^◌, length, slice_range};
     ghost use Rattle.cf_records.specs.Form.{room_of};
     ghost use Rattle.cf_records.specs.Reader.{ReaderValue};
 

@@ -1,7 +1,7 @@
 -- What is told of a refused command, in the log and in the stream to the client: RefusedAreTold, read from the end. The replies are
 -- those of the standards as the codecs have them; which commands have none is this project's own.
 use Rattle.std.specs.Prelude.{◌≡◌, ℕ, nat_lt, not, Bool, ◌||◌, if◌then◌else◌, List, [], ◌∷◌, ◌++◌, length, slice_index}
-use Rattle.cf_apci.specs.Apdu.{ApduValue, Info}
+use Rattle.cf_apci.specs.Apdu.{Info}
 use Rattle.cf_asdu.specs.Mirror.{mirrored}
 use Rattle.cf_dnplink.specs.LinkFrame.{FrameValue}
 use Rattle.cf_dnpobj.specs.Fragment.{wants_reply}

@@ -1,5 +1,5 @@
 //! A relay between two stages of a turn, and each stage. This project's own.
-ghost use Rattle.std.specs.Prelude.{◌≡◌, ℕ, ◌<◌, [], ◌∷◌, List, Option, max, true, IfErr, OnOk, length};
+ghost use Rattle.std.specs.Prelude.{◌≡◌, ℕ, ◌<◌, [], ◌∷◌, List, Option, true, IfErr, OnOk, length};
 ghost use Rattle.cf_links.specs.LinkValue.{link_value};
 ghost use Rattle.cf_links.specs.Links.{LinksPlace};
 ghost use Rattle.cf_outq.specs.SendQueue.{IsQueue, empty, queue_length};

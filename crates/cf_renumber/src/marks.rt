@@ -1,7 +1,7 @@
 //! The marks of frames that are not acknowledged.
-ghost use Rattle.std.specs.Prelude.{◌≡◌, ◌+◌, ◌-◌, ◌<◌, ◌≤◌, [], ◌∷◌, ◌++◌, length, take, drop, IfSome, IfNone, count_by};
+ghost use Rattle.std.specs.Prelude.{◌≡◌, ◌+◌, ◌<◌, ◌≤◌, [], ◌∷◌, ◌++◌, length, drop, IfSome, IfNone, count_by};
 ghost use Rattle.circular_buffer.specs.Buffer.{buffer};
-ghost use Rattle.cf_renumber.specs.Counts.{controllers_among, is_controllers, is_admitted};
+ghost use Rattle.cf_renumber.specs.Counts.{controllers_among, is_controllers};
 ghost use Rattle.cf_renumber.specs.Numbers.{uncovered};
 ghost use Rattle.cf_renumber.specs.declared.mark.FrameFate.TheVariants as fates;
 

@@ -1,13 +1,13 @@
 //! The numbers of one session.
-ghost use Rattle.std.specs.Prelude.{◌≡◌, ℕ, ◌+◌, ◌%◌, ◌<◌, ◌≤◌, ◌↔◌, length, false, List, [], ◌∷◌, IfOk, IfSome, OnErr, MatchResult};
+ghost use Rattle.std.specs.Prelude.{◌≡◌, ℕ, ◌+◌, ◌%◌, ◌<◌, ◌≤◌, ◌↔◌, length, List, [], ◌∷◌, IfOk, IfSome, OnErr, MatchResult};
 ghost use Rattle.std.specs.Prelude.{IsSome, IsTrue, Some, None, count_by};
 ghost use Rattle.cf_renumber.specs.Counts.{NumberEvent, Started, Stopped, Admitted, Refused, ClientAck, Carried, ControllerAck};
 ghost use Rattle.cf_renumber.specs.Counts.{client_refusal, client_ack_refusal, controller_refusal, controller_ack_refusal, receive_refusal};
 ghost use Rattle.cf_renumber.specs.Counts.{admitted_stamp, refused_stamp, carried_stamp, client_translated, controller_translated};
 ghost use Rattle.cf_renumber.specs.Counts.{acked_by_controller, controllers_among, count_from, is_admitted, is_controllers, to_client};
 ghost use Rattle.cf_renumber.specs.Numbers.{HasCountsOf, IsNumbersOf, IsNumbersAwaiting, IsNumbersValue, empty, after_admitted};
-ghost use Rattle.cf_renumber.specs.Numbers.{after_refused, after_mirror, after_carried, after_controller_ack, after_dropped, ack_owed};
-ghost use Rattle.cf_renumber.specs.Numbers.{after_start, after_stop, after_client_ack, IsSmall};
+ghost use Rattle.cf_renumber.specs.Numbers.{after_mirror, after_carried, after_controller_ack, after_dropped, ack_owed};
+ghost use Rattle.cf_renumber.specs.Numbers.{after_client_ack, IsSmall};
 ghost use Rattle.cf_renumber.specs.Counts as counts;
 ghost use Rattle.cf_renumber.specs.NumbersCalls.{NumbersStep, Start, Stop, MaySend, Admit, Refuse, FromClient, AckOfClient, FromController};
 ghost use Rattle.cf_renumber.specs.NumbersCalls.{AckOfController, error_of};

@@ -1,5 +1,5 @@
 //! How a session is cut.
-ghost use Rattle.std.specs.Prelude.{false, ◌≡◌, ◌+◌, ◌*◌, ◌^◌, ◌<◌, ◌≤◌, true, List, ◌∷◌, IfOk, OnErr};
+ghost use Rattle.std.specs.Prelude.{false, ◌≡◌, ◌+◌, ◌^◌, ◌<◌, ◌≤◌, true, List, ◌∷◌, IfOk, OnErr};
 ghost use Rattle.std.specs.Result.{is_err};
 ghost use Rattle.cf_leg.specs.Event.{LegEvent, Unspoken};
 ghost use Rattle.cf_outside.specs.Desk.{DeskValue};

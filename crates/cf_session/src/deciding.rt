@@ -1,5 +1,5 @@
 //! Whether a packet cuts a session, and whether it closes one.
-ghost use Rattle.std.specs.Prelude.{◌≡◌, ◌+◌, ◌-◌, ◌*◌, ◌<◌, ◌≤◌, true, if◌then◌else◌, [], None, Some, OnErr, OnOk};
+ghost use Rattle.std.specs.Prelude.{◌≡◌, true, if◌then◌else◌, [], None, Some, OnErr, OnOk};
 ghost use Rattle.std.specs.Result.{is_err};
 ghost use Rattle.std.specs.Option.{option_or};
 ghost use Rattle.cf_outq.specs.SendQueue.{queue_length};

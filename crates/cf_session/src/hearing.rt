@@ -1,5 +1,5 @@
 //! A packet of a side is heard: its leg takes it in, and what it brings is handed over.
-ghost use Rattle.std.specs.Prelude.{◌≡◌, ◌+◌, ◌*◌, ◌^◌, ◌<◌, ◌≤◌, true, List, ◌∷◌, length, IfOk, OnErr, OnOk, None};
+ghost use Rattle.std.specs.Prelude.{◌≡◌, ◌+◌, ◌^◌, ◌<◌, ◌≤◌, true, List, ◌∷◌, length, IfOk, OnErr, OnOk};
 ghost use Rattle.std.specs.Result.{is_err};
 ghost use Rattle.cf_lane.specs.Follows.{Rests, rest_of};
 ghost use Rattle.cf_lane.specs.Handled.{IsLaneOf};

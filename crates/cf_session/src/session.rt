@@ -1,5 +1,5 @@
 //! One session between a client and an asset: two ends of TCP connections, and the lane between them.
-ghost use Rattle.std.specs.Prelude.{◌≡◌, ◌+◌, ◌-◌, ◌*◌, ◌^◌, ◌<◌, ◌≤◌, true, List, [], ◌∷◌, IfOk, IsErrOf, OnErr, OnOk, pos, ◌≤ℤ◌};
+ghost use Rattle.std.specs.Prelude.{◌≡◌, ◌-◌, ◌^◌, ◌<◌, ◌≤◌, true, List, IfOk, IsErrOf, OnErr, OnOk, pos, ◌≤ℤ◌};
 ghost use Rattle.std.specs.Result.{is_err};
 ghost use Rattle.std.specs.Option.{is_some};
 ghost use Rattle.cf_lane.specs.Handled.{IsLaneOf};

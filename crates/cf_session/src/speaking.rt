@@ -1,5 +1,5 @@
 //! Both ends speak, that of the controller first, and the client is greeted where the controller's end has opened.
-ghost use Rattle.std.specs.Prelude.{◌≡◌, ◌*◌, ◌^◌, ◌<◌, true, List, ◌∷◌, [], OnErr, OnOk, None};
+ghost use Rattle.std.specs.Prelude.{◌≡◌, ◌<◌, true, List, ◌∷◌, [], OnErr, OnOk, None};
 ghost use Rattle.std.specs.Result.{is_err};
 ghost use Rattle.cf_leg.specs.Event.{LegEvent, Unspoken};
 ghost use Rattle.cf_leg.specs.Event as leg_event;

@@ -1,5 +1,5 @@
 //! A stored stream, taken element by element.
-ghost use Rattle.std.specs.Prelude.{◌≡◌, ◌+◌, ◌<◌, ◌≤◌, None, true, IfOk, OnOk, OnErr, IsErr, IsErrOf, length};
+ghost use Rattle.std.specs.Prelude.{◌≡◌, ◌+◌, ◌≤◌, None, true, IfOk, OnOk, OnErr, IsErr, IsErrOf, length};
 ghost use Rattle.cf_lane.specs.History.{bytes_at, end_at};
 ghost use Rattle.cf_outside.specs.Faults.{HasCause};
 ghost use Rattle.cf_outside.specs.Frames.{KeepsOtherFiles, OnlyWrites};

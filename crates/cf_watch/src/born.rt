@@ -1,5 +1,5 @@
 //! The record with which each byte of a flow came: one piece for bytes in a row that came with one record.
-ghost use Rattle.std.specs.Prelude.{◌≡◌, ◌+◌, ◌-◌, ◌^◌, ◌<◌, ◌++◌, ◌∷◌, [], OnOk, length, get_or, slice_index, true};
+ghost use Rattle.std.specs.Prelude.{◌≡◌, ◌+◌, ◌^◌, ◌<◌, ◌++◌, ◌∷◌, [], OnOk, length, slice_index, true};
 ghost use Rattle.cf_watch.specs.Pieces.{ArePieces, IsLastRecord, born_of, record_by};
 
 use cf_view::NoMemory;

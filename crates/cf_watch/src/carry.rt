@@ -1,6 +1,6 @@
 //! What the letters of a packet do to a flow.
-ghost use Rattle.std.specs.Prelude.{◌≡◌, ◌==◌, ◌≢◌, ◌+◌, ◌^◌, ◌++◌, ◌∷◌, [], IfSome, ◌<◌, ◌≤◌, ◌+ℤ◌, ◌≤ℤ◌, ◌<ℤ◌, ◌⊎◌, ℕ, pos, None, Some};
-ghost use Rattle.std.specs.Prelude.{OnOk, true, false, if◌then◌else◌, length, option_map, ◌↔◌, IsTrue};
+ghost use Rattle.std.specs.Prelude.{◌≡◌, ◌==◌, ◌≢◌, ◌+◌, ◌^◌, ◌++◌, ◌∷◌, [], IfSome, ◌<◌, ◌≤◌, ◌≤ℤ◌, ℕ, pos, None, Some};
+ghost use Rattle.std.specs.Prelude.{OnOk, false, if◌then◌else◌, length, option_map, ◌↔◌, IsTrue};
 ghost use Rattle.cf_stream.specs.Stream.{Byte};
 ghost use Rattle.cf_watch.specs.Kept.{Grows, HasNoByte, Takes, TakesOut, known, letter_value, stream_of};
 

@@ -1,9 +1,8 @@
 //! Places of the letters of a packet.
-ghost use Rattle.std.specs.Prelude.{◌≡◌, ◌==◌, ◌+◌, ◌^◌, ◌<◌, ◌≤◌, ◌/◌, ◌%◌, ◌+ℤ◌, ◌≤ℤ◌, ◌<ℤ◌, neg_ℤ, ◌-ℤ◌, pos, max};
+ghost use Rattle.std.specs.Prelude.{◌≡◌, ◌==◌, ◌+◌, ◌^◌, ◌<◌, ◌≤◌, ◌/◌, ◌%◌, ◌≤ℤ◌, ◌<ℤ◌, ◌-ℤ◌, pos, max};
 ghost use Rattle.cf_packet.specs.Packet.{packet_value};
 ghost use Rattle.cf_leg.specs.Segment.{has_fin, is_opening};
-ghost use Rattle.cf_stream.specs.Position.{position, sequence_number};
-ghost use Rattle.cf_stream.specs.Stream.{Stream};
+ghost use Rattle.cf_stream.specs.Position.{position};
 ghost use Rattle.cf_watch.specs.Carried.{end_after};
 ghost use Rattle.cf_watch.specs.Watched.{text_place};
 

@@ -1,5 +1,5 @@
 //! The flows of a capture file.
-ghost use Rattle.std.specs.Prelude.{◌≡◌, ◌+◌, ◌-◌, ◌*◌, ◌^◌, ◌<◌, ◌≤◌, ◌++◌, ◌∷◌, [], ℕ, OnOk, Ok, Err, Some, None, true, false, List, All};
+ghost use Rattle.std.specs.Prelude.{◌≡◌, ◌+◌, ◌^◌, ◌<◌, ◌++◌, ◌∷◌, [], ℕ, OnOk, Ok, Err, Some, None, true, false, List, All};
 ghost use Rattle.std.specs.Prelude.{IsErrOf, length, map, IfOk, IfErr};
 ghost use Rattle.cf_outside.specs.Frames.{OnlyReads};
 ghost use Rattle.cf_outside.specs.Files.{IsAtEnd, IsLongerThan};

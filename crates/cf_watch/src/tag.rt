@@ -1,5 +1,5 @@
 //! Frames without their VLAN tags.
-ghost use Rattle.std.specs.Prelude.{◌≡◌, ◌≤◌, length};
+ghost use Rattle.std.specs.Prelude.{◌≡◌, length};
 ghost use Rattle.cf_watch.specs.Seen.{frame_by};
 ghost use Rattle.cf_watch.specs.Tagged.{has_tag, untagged, without_tags};
 

@@ -1,8 +1,7 @@
 //! The flows of records, taken one after the other.
-ghost use Rattle.std.specs.Prelude.{◌≡◌, ◌==◌, ◌+◌, ◌-◌, ◌*◌, cond, ◌^◌, ◌<◌, ◌≤◌, ◌++◌, ◌∷◌, ◌||◌, ℕ, List, [], IfOk, OnOk, OnSome};
-ghost use Rattle.std.specs.Prelude.{IfSome, Some, None, length, slice_get, true, false};
+ghost use Rattle.std.specs.Prelude.{◌≡◌, ◌+◌, ◌-◌, ◌*◌, cond, ◌^◌, ◌<◌, ◌≤◌, ◌++◌, ◌∷◌, ◌||◌, List, [], OnOk};
+ghost use Rattle.std.specs.Prelude.{IfSome, Some, None, length, slice_get};
 ghost use Rattle.cf_packet.specs.Packet.{packet_value, read_record};
-ghost use Rattle.cf_policy.specs.declared.Asset.{Asset};
 ghost use Rattle.cf_stream.specs.Stream.{letter_count};
 ghost use Rattle.std.specs.BTreeMap.{get};
 ghost use Rattle.std.specs.Ordering.{is_eq};

@@ -1,5 +1,5 @@
 //! Names of files and numbers among the words.
-ghost use Rattle.std.specs.Prelude.{◌≡◌, ◌↔◌, IsTrue, bytes_eq, decimal, length, map};
+ghost use Rattle.std.specs.Prelude.{◌≡◌, ◌↔◌, IsTrue, bytes_eq, decimal, map};
 ghost use Rattle.std.specs.List.{list_any};
 ghost use Rattle.cf_words.specs.Names.{are_names, printed_number, printed_number_in};
 

@@ -1,6 +1,5 @@
 //! The words of a run.
 ghost use Rattle.std.specs.Prelude.{◌≡◌, IfSome, map, option_map, string_bytes};
-ghost use Rattle.cf_run.specs.RunCapture.{run_names_value};
 ghost use Rattle.cf_words.specs.Forms.{run_command, run_of};
 ghost use Rattle.cf_words.specs.Words.{HasFitWords, command_value};
 

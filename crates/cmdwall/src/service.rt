@@ -1,5 +1,4 @@
 //! `serve`: the words of a service, over the files and the network of the machine.
-ghost use Rattle.std.specs.Prelude.{IfSome};
 
 use cf_box::serve_main;
 use cf_explain::asset_message;

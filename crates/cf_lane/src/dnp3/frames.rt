@@ -1,12 +1,11 @@
 //! What becomes of a frame.
-ghost use Rattle.std.specs.Prelude.{◌≡◌, ◌+◌, ◌*◌, ◌<◌, [], true, false, if◌then◌else◌, IfOk, OnOk, OnErr, IsErr, length};
+ghost use Rattle.std.specs.Prelude.{◌≡◌, ◌+◌, ◌*◌, [], true, if◌then◌else◌, IfOk, OnOk, OnErr, IsErr, length};
 ghost use Rattle.cf_dnplink.specs.LinkFrame.{IsFrame, frame_value};
 ghost use Rattle.cf_outq.specs.SendQueue.{after_push};
 ghost use Rattle.cf_outside.specs.Faults.{HasCause};
 ghost use Rattle.cf_outside.specs.Desk.{DeskValue};
 ghost use Rattle.cf_lane.specs.Rings.{IsRulesOf, says_by};
 ghost use Rattle.cf_policy.specs.Within.{IsAssetWithin};
-ghost use Rattle.cf_lane.specs.Dnp3.{is_data, stray_of};
 ghost use Rattle.cf_lane.specs.Fragments.{MissesFrame, TakesFrame, owed_by, parts};
 ghost use Rattle.cf_lane.specs.Handled.{Grows, HasRoom, IsOpen, WritesLog};
 ghost use Rattle.cf_lane.specs.History.{is_side};

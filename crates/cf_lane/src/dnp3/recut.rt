@@ -1,5 +1,5 @@
 //! Fragments cut anew into data frames.
-ghost use Rattle.std.specs.Prelude.{◌≡◌, ◌+◌, ◌*◌, ◌%◌, ◌<◌, ◌≤◌, false, length};
+ghost use Rattle.std.specs.Prelude.{◌≡◌, ◌+◌, ◌%◌, ◌<◌, ◌≤◌, false, length};
 ghost use Rattle.cf_dnptrans.specs.Segments.{count_of, segment_of};
 ghost use Rattle.cf_outq.specs.SendQueue.{after_push};
 ghost use Rattle.cf_lane.specs.Dnp3.{data_octets, frames_at};

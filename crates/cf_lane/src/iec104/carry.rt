@@ -1,5 +1,5 @@
 //! APDUs that are carried: those of format U and S, and the I frames of a controller.
-ghost use Rattle.std.specs.Prelude.{◌≡◌, ◌≤◌, ◌+◌, ◌++◌, None, Some, Option, List, length, true, false, ℕ};
+ghost use Rattle.std.specs.Prelude.{◌≡◌, ◌≤◌, ◌+◌, ◌++◌, None, Some, Option, List, length, false, ℕ};
 ghost use Rattle.cf_apci.specs.Apdu.{Ack, Control, Info, spelling};
 ghost use Rattle.cf_outq.specs.SendQueue.{Queue};
 ghost use Rattle.cf_lane.specs.Handled.{Grows, HasRoom, IsOpen};

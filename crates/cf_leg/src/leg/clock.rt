@@ -1,10 +1,9 @@
 //! The retransmission timer of an end.
-ghost use Rattle.std.specs.Prelude.{◌≡◌, ◌+◌, ◌-◌, ◌*◌, ◌%◌, ◌^◌, ◌<◌, ◌≤◌, ◌==◌, min, not, nat_lt, ◌&&◌, ◌||◌, if◌then◌else◌, true, []};
-ghost use Rattle.std.specs.Prelude.{◌∷◌, None, Some, Ok, IfOk, OnErr, OnOk, ◌≤ℤ◌, ◌+ℤ◌, false};
+ghost use Rattle.std.specs.Prelude.{◌≡◌, ◌+◌, ◌*◌, ◌%◌, ◌^◌, ◌<◌, ◌≤◌, not, nat_lt, true};
+ghost use Rattle.std.specs.Prelude.{IfOk, OnErr, false};
 ghost use Rattle.cf_rebuild.specs.ReceiveWindow.{base_of};
 ghost use Rattle.cf_leg.specs.Calls.{ClockBreaks, Clocked, SendsAgain, SendsOldest, answer_again, answer_oldest, due_of, is_due};
 ghost use Rattle.cf_leg.specs.Timer.{backoff};
-ghost use Rattle.cf_leg.specs.LegValue.{is_open};
 ghost use Rattle.cf_outside.specs.Desk.{DeskValue};
 ghost use Rattle.cf_outside.specs.Frames.{OnlyEmits};
 ghost use Rattle.std.specs.Result.{is_err};

@@ -1,5 +1,5 @@
 //! How an end takes in a packet of its peer.
-ghost use Rattle.std.specs.Prelude.{◌≡◌, ◌+◌, ◌-◌, ◌*◌, ◌%◌, ◌^◌, ◌<◌, ◌≤◌, ◌==◌, max, not, ◌&&◌, ◌||◌, if◌then◌else◌, true, List, [], ◌∷◌};
+ghost use Rattle.std.specs.Prelude.{◌≡◌, ◌+◌, ◌-◌, ◌^◌, ◌<◌, ◌≤◌, max, if◌then◌else◌, true, List, ◌∷◌};
 ghost use Rattle.std.specs.Prelude.{length, pos, negsuc, ◌≤ℤ◌, ◌+ℤ◌};
 ghost use Rattle.cf_outq.specs.SendQueue.{IsQueue};
 ghost use Rattle.cf_outq.specs.SendQueue.{IsQueueOf};
@@ -13,7 +13,7 @@ ghost use Rattle.cf_stream.specs.Stream.{Stream};
 ghost use Rattle.cf_leg.specs.Calls.{KeepsList, Continues, Newly, Counts, Heard, end_state_of, queue_counted, rises_by};
 ghost use Rattle.cf_leg.specs.Heard.{ack_place, text_place};
 ghost use Rattle.cf_stream.specs.Position.{place_or_zero};
-ghost use Rattle.cf_leg.specs.LegValue.{IsLeg, is_open};
+ghost use Rattle.cf_leg.specs.LegValue.{IsLeg};
 ghost use Rattle.cf_view.specs.Moment.{moment_limit};
 
 use super::{Leg, SECOND};

@@ -1,13 +1,10 @@
 //! The RST of an end that gives up.
-ghost use Rattle.std.specs.Prelude.{◌≡◌, ◌+◌, ◌-◌, ◌*◌, ◌%◌, ◌^◌, ◌<◌, ◌≤◌, ◌==◌, ◌&&◌, ◌||◌, if◌then◌else◌, true, [], ◌∷◌, None, Ok};
-ghost use Rattle.std.specs.Prelude.{OnErr, OnOk, ◌≤ℤ◌, ◌+ℤ◌};
+ghost use Rattle.std.specs.Prelude.{◌≡◌, ◌+◌, ◌^◌, ◌<◌, ◌≤◌, true, [], ◌∷◌};
 ghost use Rattle.cf_packet.specs.Packet.{packet_value};
 ghost use Rattle.cf_rebuild.specs.ReceiveWindow.{base_of};
 ghost use Rattle.cf_leg.specs.Calls.{CutOff, rst_of};
 ghost use Rattle.cf_leg.specs.Emits.{rst};
-ghost use Rattle.cf_stream.specs.Position.{place_or_zero};
 ghost use Rattle.cf_leg.specs.Emitted.{GetsSegments};
-ghost use Rattle.cf_leg.specs.LegValue.{is_open};
 ghost use Rattle.cf_outside.specs.Desk.{DeskValue};
 ghost use Rattle.cf_outside.specs.Frames.{OnlyEmits};
 ghost use Rattle.std.specs.Result.{is_err};

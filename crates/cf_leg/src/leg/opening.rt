@@ -1,6 +1,5 @@
 //! How an end opens: its SYN or SYN ACK, and the packet that opens it.
-ghost use Rattle.std.specs.Prelude.{◌≡◌, ◌+◌, ◌-◌, ◌*◌, ◌%◌, ◌^◌, ◌<◌, ◌≤◌, ◌==◌, min, max, not, ◌&&◌, ◌||◌, if◌then◌else◌, true, [], ◌∷◌};
-ghost use Rattle.std.specs.Prelude.{None, Some, Ok, OnErr, OnOk, ◌≤ℤ◌, ◌+ℤ◌};
+ghost use Rattle.std.specs.Prelude.{◌≡◌, ◌<◌, ◌≤◌, true, [], ◌∷◌};
 ghost use Rattle.cf_outq.specs.SendQueue.{IsQueueOf};
 ghost use Rattle.cf_packet.specs.Packet.{packet_value};
 ghost use Rattle.cf_rebuild.specs.ReceiveWindow.{IsWindow};

@@ -1,13 +1,13 @@
 //! What an end says at the end of an event.
-ghost use Rattle.std.specs.Prelude.{◌≡◌, ◌+◌, ◌-◌, ◌*◌, ◌%◌, ◌^◌, ◌<◌, ◌≤◌, ◌==◌, not, ◌&&◌, ◌||◌, if◌then◌else◌, true, false, [], ◌∷◌, Ok};
-ghost use Rattle.std.specs.Prelude.{OnErr, OnOk, ◌≤ℤ◌, ◌+ℤ◌};
+ghost use Rattle.std.specs.Prelude.{◌≡◌, ◌+◌, ◌^◌, ◌<◌, ◌≤◌, ◌||◌, true, false};
+ghost use Rattle.std.specs.Prelude.{OnErr, OnOk};
 ghost use Rattle.cf_outq.specs.SendQueue.{IsQueueOf};
 ghost use Rattle.cf_rebuild.specs.ReceiveWindow.{IsWindow, base_of};
 ghost use Rattle.cf_stream.specs.Sizes.{window_size};
 ghost use Rattle.cf_stream.specs.Stream.{Stream};
-ghost use Rattle.cf_leg.specs.Calls.{AddressBreaks, SpeakingBreaks, Widens, IsTold, Addressed, Spoken, is_due, rearmed};
-ghost use Rattle.cf_leg.specs.Emits.{differs, to_tell};
-ghost use Rattle.cf_leg.specs.LegValue.{IsLeg, arms, is_open};
+ghost use Rattle.cf_leg.specs.Calls.{AddressBreaks, SpeakingBreaks, Widens, IsTold, Addressed, Spoken, rearmed};
+ghost use Rattle.cf_leg.specs.Emits.{differs};
+ghost use Rattle.cf_leg.specs.LegValue.{IsLeg, is_open};
 ghost use Rattle.cf_outside.specs.Desk.{DeskValue};
 ghost use Rattle.cf_outside.specs.Frames.{OnlyEmits};
 ghost use Rattle.std.specs.Result.{is_err};

@@ -1,4 +1,4 @@
-use Rattle.std.proofs.Common.{◌≡◌, ◌+◌, ◌-◌, ◌^◌, ◌≤◌}
+use Rattle.std.proofs.Common.{◌+◌, ◌-◌, ◌^◌, ◌≤◌}
 use Rattle.cf_outside.specs.Frames.{OnlyReads}
 use Rattle.cf_box.proofs.Listing.{AreListed}
 use Rattle.cf_box.proofs.packets.list_records.Given as goal

@@ -1,4 +1,4 @@
-use Rattle.std.proofs.Common.{◌≡◌, map, rules}
+use Rattle.std.proofs.Common.{map, rules}
 use Rattle.cf_covered.specs.Common.{have_common}
 use Rattle.cf_covered.specs.Covered.{HaveAllOf}
 use Rattle.cf_covered.proofs.Commands.{filtered_have}

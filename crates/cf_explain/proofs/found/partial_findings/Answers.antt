@@ -1,4 +1,4 @@
-use Rattle.std.proofs.Common.{◌≡◌, All, refl, sym, subst, ◌∙◌}
+use Rattle.std.proofs.Common.{All, refl, sym, subst, ◌∙◌}
 use Rattle.cf_explain.specs.Rules.{Holds}
 use Rattle.cf_explain.proofs.Codes.{all_listed, none_added, some_weaker}
 use Rattle.cf_explain.proofs.found.partial_findings.Goals as goal

@@ -1,4 +1,4 @@
-use Rattle.std.proofs.Common.{ap, append_assoc, arith, length, ◌+◌, ◌*◌}
+use Rattle.std.proofs.Common.{ap, append_assoc, arith, length}
 use Rattle.cf_packet.specs.Packet.{packet_value}
 use Rattle.cf_packet.specs.Written.{header_checksum, header_with, option_words, segment_checksum, segment_header}
 use Rattle.cf_packet.proofs.write.headers.Goals as goal

@@ -1,4 +1,4 @@
-use Rattle.std.proofs.Common.{◌≤◌, ℕ, List, refl, subst, sym, ◌∙◌, arith}
+use Rattle.std.proofs.Common.{ℕ, List, refl, subst, sym, ◌∙◌, arith}
 use Rattle.cf_outside.proofs.Frames.{reads_none, reads_on}
 use Rattle.cf_outside.specs.Files.{Content}
 use Rattle.cf_records.specs.Pieces.{FindsPiece}
