@@ -3,7 +3,12 @@
 use crate::link::link_name;
 use crate::page::Page;
 use cf_outside::Files;
+use cf_pcap::u32_at;
 use cf_records::{BlockRefusal, RecordReader};
+use cf_view::View;
+
+/// The type of an enhanced packet block. draft-ietf-opsawg-pcapng, section 4.3.
+const ENHANCED_PACKET: u32 = 6;
 
 /// Says why the block at the place of a reader is refused, and what to do.
 pub(crate) fn push_refused<F: Files>(
@@ -33,14 +38,12 @@ pub(crate) fn push_refused<F: Files>(
 
 /// Says why packets of an interface are not read.
 fn push_interface(out: &mut Page, reader: &RecordReader, number: u32) {
-    out.push(", has a packet of interface ");
-    out.push_number(u64::from(number));
+    out.push_number_after(", has a packet of interface ", u64::from(number));
     let Some(interface) = reader.interface(number) else {
         out.push(", which its section does not describe");
         return;
     };
-    out.push(", whose link type is ");
-    out.push_number(u64::from(interface.link));
+    out.push_number_after(", whose link type is ", u64::from(interface.link));
     out.push_all(&[
         link_name(u32::from(interface.link)),
         "; only 1 (Ethernet) and 101 (raw IP) are read\n  \
@@ -53,10 +56,12 @@ fn push_interface(out: &mut Page, reader: &RecordReader, number: u32) {
 fn packet_interface<F: Files>(place: u64, file: &str, files: &mut F) -> Option<u32> {
     let mut head = [0u8; 12];
     files.read_at(file, place, &mut head);
-    let [a, b, c, d, _, _, _, _, e, f, g, h] = head;
-    match [a, b, c, d] {
-        [6, 0, 0, 0] => Some(u32::from_le_bytes([e, f, g, h])),
-        [0, 0, 0, 6] => Some(u32::from_be_bytes([e, f, g, h])),
-        _ => None,
+    let head = View::one(&head);
+    if u32_at(&head, 0, false) == ENHANCED_PACKET {
+        Some(u32_at(&head, 8, false))
+    } else if u32_at(&head, 0, true) == ENHANCED_PACKET {
+        Some(u32_at(&head, 8, true))
+    } else {
+        None
     }
 }

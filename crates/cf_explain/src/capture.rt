@@ -39,7 +39,7 @@ pub fn capture_message<F: Files>(
     out.push_all(&[file, ": "]);
     let is_told = push_why(&mut out, file, has_moments, files);
     let text = out.finish()?;
-    Ok(if is_told { Some(text) } else { None })
+    Ok(is_told.then_some(text))
 }
 
 /// Says why a capture is refused or where it is cut, if it is, and whether it did.
@@ -51,16 +51,30 @@ fn push_why<F: Files>(out: &mut Page, file: &str, has_moments: bool, files: &mut
             true
         }
         Err(OpenFault::Read | OpenFault::NoMemory) => false,
-        Ok(mut reader) => {
-            let (number, place, last) = last_record(&mut reader, file, has_moments, files);
-            if let Last::Found(NextRecord::Refused(refusal)) = last {
-                push_block(out, number, place);
-                push_refused(out, &reader, file, refusal, files);
-                push_before(out, number);
-                return true;
-            }
-            push_record(out, is_section(&first), number, place, last)
+        Ok(mut reader) => push_records(out, file, has_moments, files, &first, &mut reader),
+    }
+}
+
+/// Says where the records of a capture end before the file, if they do, and whether it did.
+fn push_records<F: Files>(
+    out: &mut Page,
+    file: &str,
+    has_moments: bool,
+    files: &mut F,
+    first: &[u8; HEADER_OCTETS],
+    reader: &mut RecordReader,
+) -> bool
+    requires near { reader.old.place ≤ 2 ^ 40 }
+{
+    let (number, place, last) = last_record(reader, file, has_moments, files);
+    match last {
+        Last::Found(NextRecord::Refused(refusal)) => {
+            push_block(out, number, place);
+            push_refused(out, reader, file, refusal, files);
+            push_before(out, number);
+            true
         }
+        _ => push_record(out, is_section(first), number, place, last),
     }
 }
 
@@ -104,8 +118,7 @@ fn magic(first: &[u8; HEADER_OCTETS]) -> &'static str {
 /// Says which link type a header has: in the byte order in which its magic stands.
 fn push_link(out: &mut Page, first: &[u8; HEADER_OCTETS]) {
     let link = u32_at(&View::one(first), 20, first[0] == 0xA1);
-    out.push("its link type is ");
-    out.push_number(u64::from(link));
+    out.push_number_after("its link type is ", u64::from(link));
     out.push_all(&[
         link_name(link),
         ", and only 1 (Ethernet) and 101 (raw IP) are read",
@@ -152,8 +165,7 @@ fn push_record(out: &mut Page, has_blocks: bool, number: u64, place: u64, last: 
         }
         Last::Found(NextRecord::TooLong) => {
             push_placed(out, has_blocks, number, place);
-            out.push(", has more than ");
-            out.push_number(u64::from(CAPTURED_LIMIT));
+            out.push_number_after(", has more than ", u64::from(CAPTURED_LIMIT));
             out.push(" bytes");
         }
         Last::Found(NextRecord::Large) => {
@@ -201,10 +213,8 @@ fn push_late(out: &mut Page, has_blocks: bool, number: u64, place: u64) {
 }
 
 fn push_numbers(out: &mut Page, before: &str, first: u64, between: &str, second: u64) {
-    out.push(before);
-    out.push_number(first);
-    out.push(between);
-    out.push_number(second);
+    out.push_number_after(before, first);
+    out.push_number_after(between, second);
 }
 
 /// Says what writes the records that stand before.

@@ -4,7 +4,7 @@ ghost use Rattle.cf_policy.specs.Within.{IsWithin};
 use crate::code_names::code_name;
 use crate::page::Page;
 use crate::policy::push_rule_place;
-use crate::quote::push_quoted;
+use crate::quote::{push_quoted, push_titled};
 use cf_acts::{Groups, Kind, kinds};
 use cf_compare::{CompareFault, Compared, MOST_CELLS, compare};
 use cf_policy::{Asset, Decider, Policy, Protocol, Span, Verdict, verdict};
@@ -87,10 +87,8 @@ fn asset_named<'a>(policy: &'a Policy, name: &str) -> Option<(u32, &'a Asset)> {
 
 /// The number, from 1, and the name of an asset.
 fn push_asset(out: &mut Page, place: u32, asset: &Asset) {
-    out.push("asset ");
-    out.push_number(u64::from(place).saturating_add(1));
-    out.push(" ");
-    push_quoted(out, asset.name.as_str());
+    let number = u64::from(place).saturating_add(1);
+    push_titled(out, "asset ", number, asset.name.as_str());
 }
 
 /// That the other policy has no asset of this name, or one that is another controller.
@@ -191,13 +189,17 @@ fn push_rule(
     number: usize,
     does: &str,
 ) {
-    let rule_number = u32::try_from(number).unwrap_or(u32::MAX).saturating_add(1);
+    let rule_number = (number as u64).saturating_add(1);
     out.push(source.name);
-    push_rule_place(out, source.text, place.saturating_add(1), rule_number);
+    push_rule_place(
+        out,
+        source.text,
+        u64::from(place).saturating_add(1),
+        rule_number,
+    );
     out.push(": ");
     push_asset(out, place, asset);
-    out.push(", rule ");
-    out.push_number(u64::from(rule_number));
+    out.push_number_after(", rule ", rule_number);
     if let Some(rule) = asset.rules.as_slice().get(number) {
         out.push(" ");
         push_quoted(out, rule.name.as_str());
@@ -217,20 +219,14 @@ fn lacking(reason: Reason) -> &'static str {
 /// An act of a client in words.
 fn push_act(out: &mut Page, protocol: Protocol, shown: &Shown) {
     let act = &shown.act;
-    out.push("code ");
-    out.push_number(u64::from(act.code));
+    out.push_number_after("code ", u64::from(act.code));
     if let Some(name) = code_name(protocol, act.code) {
         out.push_all(&[" (", name, ")"]);
     }
-    out.push(", group ");
-    out.push_number(u64::from(act.group));
-    out.push(", point ");
-    out.push_number(u64::from(act.point));
+    out.push_number_after(", group ", u64::from(act.group));
+    out.push_number_after(", point ", u64::from(act.point));
     match act.value {
-        Some(value) => {
-            out.push(", value ");
-            out.push_signed(value);
-        }
+        Some(value) => out.push_signed_after(", value ", value),
         None => out.push(", without a value"),
     }
     out.push(" from ");
@@ -238,13 +234,11 @@ fn push_act(out: &mut Page, protocol: Protocol, shown: &Shown) {
 }
 
 fn push_address(out: &mut Page, address: u32) {
-    out.push_number(u64::from(address / 16_777_216));
-    out.push(".");
-    out.push_number(u64::from(address / 65_536 % 256));
-    out.push(".");
-    out.push_number(u64::from(address / 256 % 256));
-    out.push(".");
-    out.push_number(u64::from(address % 256));
+    let address = u64::from(address);
+    out.push_number(address / 16_777_216);
+    out.push_number_after(".", address / 65_536 % 256);
+    out.push_number_after(".", address / 256 % 256);
+    out.push_number_after(".", address % 256);
 }
 
 /// Whether some command of the protocol has the act.

@@ -7,26 +7,40 @@ use toml::Value;
 
 /// Why a text is no number from `low` to `high` as it is printed, if it is none.
 fn number_fault(key: Key, low: i64, high: i64, text: &str) -> Option<&'static str> {
+    match front_fault(text) {
+        Some(fault) => Some(fault),
+        None => match text.parse::<i64>() {
+            Ok(number) => outside(low, high, number),
+            Err(_) => Some(misread(key, text)),
+        },
+    }
+}
+
+/// Why a text begins as no number does, if it does.
+fn front_fault(text: &str) -> Option<&'static str> {
     if text.is_empty() {
-        return Some("a number is missing");
+        Some("a number is missing")
+    } else if text.starts_with("+") {
+        Some("a number has no plus sign")
+    } else if text.starts_with("0x") || text.starts_with("0b") || text.starts_with("0o") {
+        Some("numbers are decimal")
+    } else if text == "-0" {
+        Some("0 has no sign")
+    } else if text.starts_with("-0") || (text.len() > 1 && text.starts_with("0")) {
+        Some("a number has no leading zero")
+    } else {
+        None
     }
-    if text.starts_with("+") {
-        return Some("a number has no plus sign");
-    }
-    if text.starts_with("0x") || text.starts_with("0b") || text.starts_with("0o") {
-        return Some("numbers are decimal");
-    }
-    if text == "-0" {
-        return Some("0 has no sign");
-    }
-    if text.starts_with("-0") || (text.len() > 1 && text.starts_with("0")) {
-        return Some("a number has no leading zero");
-    }
-    match text.parse::<i64>() {
-        Ok(number) if number < low => Some("the number is too low"),
-        Ok(number) if number > high => Some("the number is too high"),
-        Ok(_) => None,
-        Err(_) => Some(misread(key, text)),
+}
+
+/// On which side a number is outside a range, if it is.
+fn outside(low: i64, high: i64, number: i64) -> Option<&'static str> {
+    if number < low {
+        Some("the number is too low")
+    } else if number > high {
+        Some("the number is too high")
+    } else {
+        None
     }
 }
 
@@ -46,7 +60,14 @@ fn misread(key: Key, text: &str) -> &'static str {
         "each number or range is a text of its own"
     } else if text.contains("_") {
         "a number has no underscores"
-    } else if text.bytes().all(|byte| byte.is_ascii_digit()) {
+    } else {
+        no_number(text)
+    }
+}
+
+/// What a text is that is no number, and has none of the parts by which one is misread.
+fn no_number(text: &str) -> &'static str {
+    if text.bytes().all(|byte| byte.is_ascii_digit()) {
         "the number is too high"
     } else {
         "it is no number"
@@ -56,11 +77,9 @@ fn misread(key: Key, text: &str) -> &'static str {
 /// Why a text is no number and no range of numbers from `low` to `high`, if it is neither.
 fn span_fault(key: Key, low: i64, high: i64, text: &str) -> Option<&'static str> {
     let (first, last) = text.split_once("..").unwrap_or((text, text));
-    if let Some(fault) = number_fault(key, low, high, first) {
-        return Some(fault);
-    }
-    if let Some(fault) = number_fault(key, low, high, last) {
-        return Some(fault);
+    let fault = number_fault(key, low, high, first).or(number_fault(key, low, high, last));
+    if fault.is_some() {
+        return fault;
     }
     match (first.parse::<i64>(), last.parse::<i64>()) {
         (Ok(first), Ok(last)) if first > last => Some("the first number is above the second"),
@@ -103,10 +122,7 @@ fn point_fault(names_sets: bool, text: &str) -> Option<&'static str> {
 /// Why an entry of the kind of a key's list is refused, if it is; in the points of some rules sets may be named.
 fn entry_fault(key: Key, names_sets: bool, value: &Value) -> Option<&'static str> {
     match (key, value) {
-        (Key::Codes, Value::Integer(code)) if *code < 0 => Some("the number is too low"),
-        (Key::Codes, Value::Integer(code)) if *code > HIGHEST_CODE => Some(
-            "the number is too high",
-        ),
+        (Key::Codes, Value::Integer(code)) => outside(0, HIGHEST_CODE, *code),
         (Key::Clients, Value::String(text)) => client_fault(text.as_str()),
         (Key::Groups, Value::String(text)) => span_fault(key, 0, HIGHEST_GROUP, text.as_str()),
         (Key::Points, Value::String(text)) => point_fault(names_sets, text.as_str()),
@@ -126,12 +142,14 @@ pub(crate) fn first_fault(
     names_sets: bool,
     entries: &[Value],
 ) -> Option<(usize, &Value, &'static str)> {
-    let index = entries
-        .iter()
-        .position(|entry| entry_fault(key, names_sets, entry).is_some())?;
-    let entry = entries.get(index)?;
-    let fault = entry_fault(key, names_sets, entry)?;
-    Some((index.saturating_add(1), entry, fault))
+    let mut number = 0usize;
+    for entry in entries {
+        number = number.saturating_add(1);
+        if let Some(fault) = entry_fault(key, names_sets, entry) {
+            return Some((number, entry, fault));
+        }
+    }
+    None
 }
 
 /// Why a text is no name, if it is none.

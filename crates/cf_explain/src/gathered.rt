@@ -64,14 +64,40 @@ fn gather_asset(
     let outlines = outlines(alloc, asset.rules.as_slice())?;
     for rule in 0..asset.rules.len() {
         let earlier = covering(alloc, outlines.as_slice(), rule)?;
-        let found = findings(alloc, asset, &earlier, rule)?;
-        let others = beside(alloc, asset, &earlier, rule, found.as_slice())?;
-        for what in found.as_slice() {
-            put(all, number, rule, Some(Warning::Found(*what)))?;
-        }
-        for told in &others {
-            put(all, number, rule, *told)?;
-        }
+        gather_rule(alloc, all, number, asset, &earlier, rule)?;
+    }
+    Ok(())
+}
+
+/// Adds what is warned of the rule of a number of the asset of a number.
+fn gather_rule(
+    alloc: Global,
+    all: &mut Vec<Warned>,
+    asset_number: usize,
+    asset: &Asset,
+    earlier: &Earlier<'_>,
+    number: usize,
+) -> Result<(), AllocError>
+    requires inside { number < length asset.now.rules }
+    requires earlier { IsTold asset.now.rules number earlier.now }
+{
+    let found = findings(alloc, asset, earlier, number)?;
+    let others = beside(alloc, asset, earlier, number, found.as_slice())?;
+    put_found(all, asset_number, number, found.as_slice())?;
+    for told in &others {
+        put(all, asset_number, number, *told)?;
+    }
+    Ok(())
+}
+
+fn put_found(
+    all: &mut Vec<Warned>,
+    asset: usize,
+    rule: usize,
+    found: &[What],
+) -> Result<(), AllocError> {
+    for what in found {
+        put(all, asset, rule, Some(Warning::Found(*what)))?;
     }
     Ok(())
 }

@@ -37,9 +37,14 @@ fn is_entry(key: Key, value: &Value) -> bool {
 
 /// The first entry of another kind, with its number from 1.
 fn first_other(key: Key, entries: &[Value]) -> Option<(usize, &Value)> {
-    let index = entries.iter().position(|entry| !is_entry(key, entry))?;
-    let entry = entries.get(index)?;
-    Some((index.saturating_add(1), entry))
+    let mut number = 0usize;
+    for entry in entries {
+        number = number.saturating_add(1);
+        if !is_entry(key, entry) {
+            return Some((number, entry));
+        }
+    }
+    None
 }
 
 /// The entries of a list; none of what is no list.
@@ -81,8 +86,7 @@ pub(crate) fn push_wrong_kind(out: &mut Page, key: Key, value: &Value) {
 
 /// An entry of a key's list, with its number.
 pub(crate) fn push_entry(out: &mut Page, key: Key, number: usize, entry: &Value) {
-    out.push("entry ");
-    out.push_number(number as u64);
+    out.push_number_after("entry ", number as u64);
     out.push_all(&[" of `", key.as_str(), "` is "]);
     push_value(out, entry);
 }

@@ -26,6 +26,11 @@ pub(crate) fn nearest<'a>(out: &mut Page, word: &str, known: &[&'a str]) -> Opti
     best
 }
 
+/// Whether a known word alone may be meant by this one.
+pub(crate) fn is_near(out: &mut Page, word: &str, known: &str) -> bool {
+    word.len() <= LONGEST && distance(out, word, known) < word.len().min(EDITS + 1)
+}
+
 /// How many edits lie between two words; more than any word has where memory runs out.
 fn distance(out: &mut Page, word: &str, other: &str) -> usize {
     match osa_distance(out.alloc, word, other) {

@@ -1,5 +1,5 @@
 //! What stands in a command's outputs where its work stopped, and which asset may be meant.
-use crate::nearest::nearest;
+use crate::nearest::is_near;
 use crate::page::Page;
 use crate::quote::push_quoted;
 use cf_policy::{Asset, Policy};
@@ -45,9 +45,10 @@ pub fn asset_message(
 /// Asks whether the first asset of a name near to this one was meant, if there is one.
 fn push_meant_asset(out: &mut Page, assets: &[Asset], name: &str) {
     for asset in assets {
-        if let Some(meant) = nearest(out, name, &[asset.name.as_str()]) {
+        let meant = asset.name.as_str();
+        if is_near(out, name, meant) {
             out.push_all(&["; did you mean ", meant, "?"]);
-            break;
+            return;
         }
     }
 }

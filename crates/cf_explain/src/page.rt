@@ -81,6 +81,17 @@ impl Page {
         }
     }
 
+    /// Puts a number behind a piece.
+    pub(crate) fn push_number_after(&mut self, piece: &str, number: u64) {
+        self.push(piece);
+        self.push_number(number);
+    }
+
+    pub(crate) fn push_signed_after(&mut self, piece: &str, number: i64) {
+        self.push(piece);
+        self.push_signed(number);
+    }
+
     /// Puts a refusal as it is printed.
     pub(crate) fn push_refusal(&mut self, refusal: &PolicyRefusal) {
         if self.is_whole {

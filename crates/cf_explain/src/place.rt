@@ -3,6 +3,7 @@
 //! The lines are scanned for what looks like it, and the reader of TOML is the judge: the text before such a line has to be
 //! a document without the table or key, and one with it once the line is there. So a place that is told is right, and one
 //! in a string, in an inline table or in an unusual spelling is not told.
+use crate::sets::list_at;
 use std::alloc::Global;
 use toml::{Table, Value};
 
@@ -57,11 +58,8 @@ pub(crate) fn table_at(document: &Table, asset: u32, rule: u32) -> Option<&Table
 
 /// The table of a number, from 1, in the list at a key.
 fn entry_at<'a>(table: &'a Table, key: &str, number: u32) -> Option<&'a Table> {
-    let Some(Value::Array(entries)) = table.get(key) else {
-        return None;
-    };
     let index = (number as usize).checked_sub(1)?;
-    match entries.get(index) {
+    match list_at(table, key).get(index) {
         Some(Value::Table(entry)) => Some(entry),
         _ => None,
     }
@@ -84,22 +82,29 @@ fn text_has(alloc: Global, text: &[u8], target: &Target<'_>) -> Option<bool> {
     }
 }
 
-/// Whether what is looked for comes with the text after a front: that text alone adds it.
-fn comes_with(alloc: Global, front: &[u8], added: &[u8], target: &Target<'_>) -> bool {
+/// Whether what is looked for comes with two pieces after a front: those alone add it.
+fn comes_with(
+    alloc: Global,
+    front: &[u8],
+    added: &[u8],
+    behind: &[u8],
+    target: &Target<'_>,
+) -> bool {
     if text_has(alloc, front, target) != Some(false) {
         return false;
     }
-    match joined(alloc, front, added) {
+    match joined(alloc, front, added, behind) {
         Some(text) => text_has(alloc, &text, target) == Some(true),
         None => false,
     }
 }
 
-fn joined(alloc: Global, front: &[u8], added: &[u8]) -> Option<Vec<u8>> {
+fn joined(alloc: Global, front: &[u8], added: &[u8], behind: &[u8]) -> Option<Vec<u8>> {
     let mut text = Vec::new(alloc);
-    text.extend_from_slice(front).ok()?;
-    text.extend_from_slice(added).ok()?;
-    Some(text)
+    let is_whole = text.extend_from_slice(front).is_ok()
+        && text.extend_from_slice(added).is_ok()
+        && text.extend_from_slice(behind).is_ok();
+    is_whole.then_some(text)
 }
 
 /// What a line looks like: a table's header with its name, a key with its value, or neither.
@@ -193,6 +198,11 @@ impl Section {
     }
 }
 
+/// Whether a byte of a text ends a line.
+pub(crate) fn is_line_end(byte: &u8) -> bool {
+    *byte == b'\n'
+}
+
 /// Where a table or a key begins in a text, if a line says so.
 pub(crate) fn find_place(alloc: Global, text: &[u8], target: &Target<'_>) -> Option<TextPlace> {
     let mut section = Section {
@@ -203,7 +213,7 @@ pub(crate) fn find_place(alloc: Global, text: &[u8], target: &Target<'_>) -> Opt
     };
     let mut tries = TRIES;
     let mut start = 0usize;
-    for line in text.split(|byte| *byte == b'\n') {
+    for line in text.split(is_line_end) {
         let look = look_of(std::str::from_utf8(line).unwrap_or(""));
         if section.may_have(look, target) && tries > 0 {
             tries -= 1;
@@ -217,6 +227,14 @@ pub(crate) fn find_place(alloc: Global, text: &[u8], target: &Target<'_>) -> Opt
     None
 }
 
+/// A value for the key of a line, where it has one.
+fn value_behind(look: Look<'_>) -> &'static [u8] {
+    match look {
+        Look::Pair(_) => b" = 0",
+        _ => b"",
+    }
+}
+
 /// The place of a line's first letter, if what is looked for comes with the line.
 fn place_at(
     alloc: Global,
@@ -227,15 +245,12 @@ fn place_at(
     target: &Target<'_>,
 ) -> Option<TextPlace> {
     let front = text.get(..start)?;
-    let comes = match look {
-        Look::Header(_) => comes_with(alloc, front, line.trim_ascii(), target),
-        Look::Pair(key) => {
-            let pair = joined(alloc, key.as_bytes(), b" = 0")?;
-            comes_with(alloc, front, &pair, target)
-        }
-        Look::Other => false,
+    let added = match look {
+        Look::Header(_) => line.trim_ascii(),
+        Look::Pair(key) => key.as_bytes(),
+        Look::Other => return None,
     };
-    if !comes {
+    if !comes_with(alloc, front, added, value_behind(look), target) {
         return None;
     }
     let indent = line.len().saturating_sub(line.trim_ascii_start().len());

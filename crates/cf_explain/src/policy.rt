@@ -1,7 +1,7 @@
 //! Why a policy was refused, and how its text is mended.
 use crate::allowed::{allowed, apart};
 use crate::page::Page;
-use crate::place::{Target, TextPlace, find_place, table_at};
+use crate::place::{Target, TextPlace, find_place, is_line_end, table_at};
 use crate::quote::push_shown;
 use crate::unknown::{Level, unknown_key};
 use crate::wrong::{Case, cause_of, push_where, push_wrong};
@@ -24,8 +24,7 @@ pub fn policy_message(
     let mut out = Page::new(alloc);
     out.push(file);
     if refusal.number == Cause::TooMany.number() && refusal.key == Key::Nothing {
-        out.push(": the file has more than ");
-        out.push_number(LONGEST_TEXT as u64);
+        out.push_number_after(": the file has more than ", LONGEST_TEXT as u64);
         out.push(" bytes");
     } else {
         push_why(&mut out, text, refusal);
@@ -72,13 +71,12 @@ fn toml_hint(line: &str) -> Option<&'static str> {
         return Some("write [[asset]] and [[asset.rule]] with two brackets each time");
     }
     let (_, value) = line.split_once("=")?;
-    if value
-        .trim()
-        .starts_with(|letter: char| letter.is_ascii_alphabetic())
-    {
-        return Some("a text stands between quotation marks, as \"allow\"");
+    match value.trim().as_bytes().first() {
+        Some(first) if first.is_ascii_alphabetic() => {
+            Some("a text stands between quotation marks, as \"allow\"")
+        }
+        _ => None,
     }
-    None
 }
 
 /// A message in one line.
@@ -94,19 +92,15 @@ fn push_line(out: &mut Page, message: &str) {
 /// The line of a text in which its front ends; an empty one where it is no UTF-8.
 fn line_of<'a>(text: &'a [u8], before: &[u8]) -> &'a str {
     let number = TextPlace::behind(before).line;
-    let line = text
-        .split(|byte| *byte == b'\n')
-        .nth(number.saturating_sub(1));
+    let line = text.split(is_line_end).nth(number.saturating_sub(1));
     std::str::from_utf8(line.unwrap_or(b""))
         .unwrap_or("")
         .trim()
 }
 
 fn push_place(out: &mut Page, place: TextPlace) {
-    out.push(":");
-    out.push_number(place.line as u64);
-    out.push(":");
-    out.push_number(place.column as u64);
+    out.push_number_after(":", place.line as u64);
+    out.push_number_after(":", place.column as u64);
 }
 
 /// What is wrong with a document, and what is allowed.
@@ -171,10 +165,15 @@ fn table_place(alloc: Global, text: &[u8], asset: u32, rule: u32) -> Option<Text
 }
 
 /// Adds the place of a rule's header, if a line says it.
-pub(crate) fn push_rule_place(out: &mut Page, text: &[u8], asset: u32, rule: u32) {
-    if let Some(place) = table_place(out.alloc, text, asset, rule) {
+pub(crate) fn push_rule_place(out: &mut Page, text: &[u8], asset: u64, rule: u64) {
+    if let Some(place) = table_place(out.alloc, text, capped(asset), capped(rule)) {
         push_place(out, place);
     }
+}
+
+/// A number as a refusal has it.
+fn capped(number: u64) -> u32 {
+    u32::try_from(number).unwrap_or(u32::MAX)
 }
 
 /// The place of the key, or of the table that lacks it.

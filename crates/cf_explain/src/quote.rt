@@ -32,6 +32,13 @@ pub(crate) fn push_quoted(out: &mut Page, text: &str) {
     out.push("\"");
 }
 
+/// What a word says that a thing is, with its number and its name.
+pub(crate) fn push_titled(out: &mut Page, word: &str, number: u64, name: &str) {
+    out.push_number_after(word, number);
+    out.push(" ");
+    push_quoted(out, name);
+}
+
 /// A value with its kind.
 pub(crate) fn push_value(out: &mut Page, value: &Value) {
     out.push(kind_of(value));

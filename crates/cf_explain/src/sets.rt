@@ -8,7 +8,7 @@ pub(crate) fn sets_of(document: &Table) -> &[Value] {
 }
 
 /// The list at a key; an empty one where there is none.
-fn list_at<'a>(table: &'a Table, key: &str) -> &'a [Value] {
+pub(crate) fn list_at<'a>(table: &'a Table, key: &str) -> &'a [Value] {
     match table.get(key) {
         Some(value) => entries_of(value),
         None => &[],
@@ -58,18 +58,13 @@ fn names(rule: &Value, name: &str) -> bool {
     false
 }
 
-/// The first of the sets before this one, by its number from 1, that states the same points in the same order. The set's own
-/// number counts from 1.
-pub(crate) fn twin_of(sets: &[Value], number: usize) -> Option<usize> {
-    let set = sets.get(number.checked_sub(1)?)?;
-    let mut earlier = 0usize;
-    for other in sets {
-        earlier = earlier.saturating_add(1);
-        if earlier >= number {
-            return None;
-        }
+/// The first of the earlier sets, with its number from 1, that states the same points in the same order as a set.
+pub(crate) fn twin_of<'a>(earlier: &'a [Value], set: &Value) -> Option<(usize, &'a Value)> {
+    let mut number = 0usize;
+    for other in earlier {
+        number = number.saturating_add(1);
         if are_same(list_of(other, "points"), list_of(set, "points")) {
-            return Some(earlier);
+            return Some((number, other));
         }
     }
     None

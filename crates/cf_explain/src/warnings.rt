@@ -3,7 +3,7 @@ use crate::found::What;
 use crate::gathered::{Silence, Warned, Warning, gathered, silence_about};
 use crate::page::Page;
 use crate::policy::push_rule_place;
-use crate::quote::push_quoted;
+use crate::quote::push_titled;
 use crate::sets::{is_named, name_of, sets_of, twin_of};
 use crate::unmet::{Unmet, reaches_place};
 use cf_acts::{Groups, Kind, kinds};
@@ -53,21 +53,26 @@ pub fn policy_warnings(
     policy: &Policy,
 ) -> Result<String, AllocError> {
     let source = Source { file, text };
+    let all = gathered(alloc, policy)?;
     let mut report = Report {
         lines: Page::new(alloc),
         count: 0,
     };
-    let all = gathered(alloc, policy)?;
     push_rules(&mut report, &source, policy, &all, Order::Silent);
-    if may_have_sets(text) {
-        match toml::table_from_slice(alloc, text) {
-            Ok(document) => push_sets(&mut report, &source, &document),
-            Err(_) => report.lines.run_out(),
-        }
-    }
+    push_stated_sets(&mut report, &source);
     push_rules(&mut report, &source, policy, &all, Order::Other);
     push_more(&mut report, file);
     report.lines.finish()
+}
+
+/// The warnings about the sets that a text has.
+fn push_stated_sets(report: &mut Report, source: &Source<'_>) {
+    if may_have_sets(source.text) {
+        match toml::table_from_slice(report.lines.alloc, source.text) {
+            Ok(document) => push_sets(report, source, &document),
+            Err(_) => report.lines.run_out(),
+        }
+    }
 }
 
 /// Whether a document may have sets: its text has their key, which no letter stands before, or an escape, by which a key may be
@@ -99,14 +104,14 @@ fn push_more(report: &mut Report, file: &str) {
 fn push_sets(report: &mut Report, source: &Source<'_>, document: &Table) {
     let sets = sets_of(document);
     push_set_count(&mut report.lines, source.file, sets.len());
-    let mut number = 0usize;
-    for set in sets {
-        number = number.saturating_add(1);
+    for (index, set) in sets.iter().enumerate() {
+        let number = index.saturating_add(1);
         if !is_named(document, name_of(set)) {
             push_set(report, source, number, set, None);
         }
-        if let Some(twin) = twin_of(sets, number) {
-            push_set(report, source, number, set, Some((twin, sets)));
+        let twin = twin_of(sets.get(..index).unwrap_or(sets), set);
+        if twin.is_some() {
+            push_set(report, source, number, set, twin);
         }
     }
 }
@@ -131,25 +136,18 @@ fn push_set(
     source: &Source<'_>,
     number: usize,
     set: &Value,
-    twin: Option<(usize, &[Value])>,
+    twin: Option<(usize, &Value)>,
 ) {
     if report.count < MOST {
         let out = &mut report.lines;
         out.push(source.file);
-        push_rule_place(
-            out,
-            source.text,
-            0,
-            u32::try_from(number).unwrap_or(u32::MAX),
-        );
+        push_rule_place(out, source.text, 0, number as u64);
         out.push(": warning: ");
         push_set_name(out, number, set);
         match twin {
-            Some((earlier, sets)) => {
+            Some((earlier, other)) => {
                 out.push(": it has the points of ");
-                if let Some(other) = sets.get(earlier.saturating_sub(1)) {
-                    push_set_name(out, earlier, other);
-                }
+                push_set_name(out, earlier, other);
             }
             None => out.push(": no rule names it"),
         }
@@ -159,10 +157,7 @@ fn push_set(
 }
 
 fn push_set_name(out: &mut Page, number: usize, set: &Value) {
-    out.push("set ");
-    out.push_number(number as u64);
-    out.push(" ");
-    push_quoted(out, name_of(set));
+    push_titled(out, "set ", number as u64, name_of(set));
 }
 
 /// Which warnings about rules are written.
@@ -185,18 +180,10 @@ fn push_rules(
     for warned in all {
         if let Some(subject) = subject_of(policy, warned) {
             let silence = silence_about(subject.asset, warned);
-            if is_of_order(silence, order) {
+            if silence.is_some() == matches!(order, Order::Silent) {
                 push_rule(report, source, &subject, warned.told, silence);
             }
         }
-    }
-}
-
-/// Whether a warning with or without a silence is of an order.
-fn is_of_order(silence: Option<Silence>, order: Order) -> bool {
-    match order {
-        Order::Silent => silence.is_some(),
-        Order::Other => silence.is_none(),
     }
 }
 
@@ -233,25 +220,25 @@ fn push_rule(
 
 fn push_subject(out: &mut Page, source: &Source<'_>, subject: &Subject<'_>) {
     out.push(source.file);
-    push_rule_place(
+    push_rule_place(out, source.text, subject.asset_number, subject.rule_number);
+    let name = subject.asset.name.as_str();
+    push_titled(out, ": warning: asset ", subject.asset_number, name);
+    push_titled(
         out,
-        source.text,
-        u32::try_from(subject.asset_number).unwrap_or(u32::MAX),
-        u32::try_from(subject.rule_number).unwrap_or(u32::MAX),
+        ", rule ",
+        subject.rule_number,
+        subject.rule.name.as_str(),
     );
-    out.push(": warning: asset ");
-    out.push_number(subject.asset_number);
-    out.push(" ");
-    push_quoted(out, subject.asset.name.as_str());
-    out.push(", ");
-    push_rule_name(out, subject.rule_number, subject.rule);
 }
 
-fn push_rule_name(out: &mut Page, number: u64, rule: &Rule) {
-    out.push("rule ");
-    out.push_number(number);
-    out.push(" ");
-    push_quoted(out, rule.name.as_str());
+/// An earlier rule by its number, from 0.
+fn push_earlier(out: &mut Page, number: usize, rule: &Rule) {
+    push_titled(
+        out,
+        "rule ",
+        (number as u64).saturating_add(1),
+        rule.name.as_str(),
+    );
 }
 
 /// That a rule never refuses anything.
@@ -275,7 +262,7 @@ fn push_silence(out: &mut Page, subject: &Subject<'_>, silence: Silence) {
 /// The rule that allows all that a later one names.
 fn push_allowance(out: &mut Page, subject: &Subject<'_>, number: usize, but: &str) {
     if let Some(first) = subject.asset.rules.as_slice().get(number) {
-        push_rule_name(out, (number as u64).saturating_add(1), first);
+        push_earlier(out, number, first);
         out.push(" before it allows all that it names");
         if first.rate.is_some() {
             out.push(", as often as its rate lets");
@@ -318,8 +305,7 @@ fn push_passed(out: &mut Page, rule: &Rule, code: u16, high: i64) {
             between = ", ";
         }
     }
-    out.push(" never come with code ");
-    out.push_number(u64::from(code));
+    out.push_number_after(" never come with code ", u64::from(code));
     push_range(out, high);
 }
 
@@ -328,8 +314,7 @@ fn push_range(out: &mut Page, high: i64) {
     if high == 0 {
         out.push(": its point is always 0");
     } else {
-        out.push(": its points are 0 to ");
-        out.push_signed(high);
+        out.push_signed_after(": its points are 0 to ", high);
     }
 }
 
@@ -343,24 +328,19 @@ fn push_slip(out: &mut Page, slip: Slip) {
 
 /// What an object group without its variation means, and what it means with variation 1.
 fn push_group(out: &mut Page, number: i64) {
-    out.push("group ");
-    out.push_signed(number);
-    out.push(" is object group 0 with variation ");
-    out.push_signed(number);
-    out.push("; object group ");
-    out.push_signed(number);
-    out.push(" with variation 1 is ");
-    out.push_signed(number.saturating_mul(256).saturating_add(1));
+    out.push_signed_after("group ", number);
+    out.push_signed_after(" is object group 0 with variation ", number);
+    out.push_signed_after("; object group ", number);
+    let meant = number.saturating_mul(256).saturating_add(1);
+    out.push_signed_after(" with variation 1 is ", meant);
 }
 
 /// The point that a manual means by a register.
 fn push_register(out: &mut Page, number: i64, first: i64) {
-    out.push("points count from 0, and a manual that numbers registers from ");
-    out.push_signed(first);
-    out.push(" means point ");
-    out.push_signed(number.saturating_sub(first));
-    out.push(" by ");
-    out.push_signed(number);
+    let counted = "points count from 0, and a manual that numbers registers from ";
+    out.push_signed_after(counted, first);
+    out.push_signed_after(" means point ", number.saturating_sub(first));
+    out.push_signed_after(" by ", number);
 }
 
 fn push_what(out: &mut Page, subject: &Subject<'_>, what: What) {
@@ -370,8 +350,7 @@ fn push_what(out: &mut Page, subject: &Subject<'_>, what: What) {
             push_reason(out, subject, code, why);
         }
         What::Code(code, why) => {
-            out.push("no command with code ");
-            out.push_number(u64::from(code));
+            out.push_number_after("no command with code ", u64::from(code));
             out.push(" meets it: ");
             push_reason(out, subject, code, why);
         }
@@ -386,7 +365,7 @@ fn push_what(out: &mut Page, subject: &Subject<'_>, what: What) {
 fn push_covered(out: &mut Page, subject: &Subject<'_>, earlier: usize) {
     out.push("it decides nothing: ");
     if let Some(first) = subject.asset.rules.as_slice().get(earlier) {
-        push_rule_name(out, (earlier as u64).saturating_add(1), first);
+        push_earlier(out, earlier, first);
         out.push(before_it(first.action, subject.rule.action));
     }
     push_unrated(out, subject);
@@ -411,8 +390,7 @@ fn before_it(first: Action, later: Action) -> &'static str {
 fn push_reason(out: &mut Page, subject: &Subject<'_>, code: u16, why: Unmet) {
     let protocol = subject.asset.protocol;
     let kinds = kinds(protocol, code);
-    out.push("code ");
-    out.push_number(u64::from(code));
+    out.push_number_after("code ", u64::from(code));
     out.push(lack(why));
     match why {
         Unmet::Code => out.push(served_codes(protocol)),
@@ -488,7 +466,6 @@ fn values_of(rule: &Rule, kind: &Kind) -> Option<Span> {
 fn push_span(out: &mut Page, span: Span) {
     out.push_signed(span.low);
     if span.low != span.high {
-        out.push(" to ");
-        out.push_signed(span.high);
+        out.push_signed_after(" to ", span.high);
     }
 }

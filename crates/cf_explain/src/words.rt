@@ -126,8 +126,8 @@ fn push_command_fault(out: &mut Page, command: &str, form: &str, words: &[String
     } else {
         push_wrong_count(out, command, form, words.len());
     }
-    out.push_all(&["\n  cmdwall ", command, " ", form]);
-    out.push(if goes_on { ".." } else { "" });
+    let more = if goes_on { ".." } else { "" };
+    out.push_all(&["\n  cmdwall ", command, " ", form, more]);
 }
 
 /// Whether more places may follow the last word.
@@ -138,12 +138,19 @@ fn has_places(form: &str) -> bool {
 /// Too few or too many words.
 fn push_wrong_count(out: &mut Page, command: &str, form: &str, count: usize) {
     let wanted = count_of(form);
-    out.push_all(&[command, " takes "]);
-    out.push(if has_places(form) { "at least " } else { "" });
-    out.push_number(wanted as u64);
-    out.push(if wanted == 1 { " word" } else { " words" });
-    out.push(", and has ");
-    out.push_number(count as u64);
+    let takes = if has_places(form) {
+        " takes at least "
+    } else {
+        " takes "
+    };
+    let has = if wanted == 1 {
+        " word, and has "
+    } else {
+        " words, and has "
+    };
+    out.push(command);
+    out.push_number_after(takes, wanted as u64);
+    out.push_number_after(has, count as u64);
 }
 
 /// The first of these that holds: a word that is none of its role, two files of one name.
@@ -205,10 +212,8 @@ fn push_word_fault(out: &mut Page, name: &str, word: &str) {
 fn push_role(out: &mut Page, role: Role, word: &str) {
     match role {
         Role::Number(low, high) => {
-            out.push(", no whole number from ");
-            out.push_number(low);
-            out.push(" to ");
-            out.push_number(high);
+            out.push_number_after(", no whole number from ", low);
+            out.push_number_after(" to ", high);
         }
         Role::Place => out.push(
             ", no asset with an address and a port from 1 to 65535, as pump=127.0.0.1:5020",
@@ -258,22 +263,35 @@ fn push_same_places(out: &mut Page, form: &str, words: &[String]) -> bool {
         Some(places) => places,
         None => return false,
     };
-    for (index, word) in places.iter().enumerate() {
-        for part in [name_of(word.as_str()), endpoint_of(word.as_str())] {
-            if places.iter().take(index).any(|other| {
-                name_of(other.as_str()) == part || endpoint_of(other.as_str()) == part
-            }) {
-                push_quoted(out, part.unwrap_or(""));
-                out.push(" stands twice among the places");
-                return true;
-            }
-        }
+    if let Some(part) = first_again(places) {
+        push_quoted(out, part);
+        out.push(" stands twice among the places");
+        return true;
     }
     if places.len() > PLACE_LIMIT {
         out.push("there are more than 256 places");
         return true;
     }
     false
+}
+
+/// The first asset or endpoint of a place that an earlier place has.
+fn first_again(places: &[String]) -> Option<&str> {
+    for (index, word) in places.iter().enumerate() {
+        let earlier = places.get(..index)?;
+        for part in [name_of(word.as_str()), endpoint_of(word.as_str())] {
+            if some_has(earlier, part) {
+                return Some(part.unwrap_or(""));
+            }
+        }
+    }
+    None
+}
+
+/// Whether one of the places has this asset or endpoint.
+fn some_has(places: &[String], part: Option<&str>) -> bool {
+    places.iter().any(|place| name_of(place.as_str()) == part
+        || endpoint_of(place.as_str()) == part)
 }
 
 /// The name of a place's asset.

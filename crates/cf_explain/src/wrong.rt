@@ -1,10 +1,11 @@
 //! What is wrong with a policy that is TOML, by the cause of its refusal.
 use crate::entries::{address_fault, first_fault, name_fault};
 use crate::kinds::{entries_of, push_entry, push_keyed, push_wrong_kind};
-use crate::nearest::{nearest, push_meant};
+use crate::nearest::{is_near, push_meant};
 use crate::page::Page;
 use crate::place::table_at;
 use crate::quote::{push_quoted, push_value};
+use crate::sets::{name_of, sets_of};
 use crate::unknown::{Level, push_unknown};
 use cf_policy::MOST_SPANS;
 use cf_policylang::{Cause, Key, PolicyRefusal};
@@ -72,14 +73,21 @@ fn push_wrong_value(out: &mut Page, case: &Case<'_>, value: &Value) {
 /// A key that is missing, and one that may be meant for it.
 fn push_missing(out: &mut Page, case: &Case<'_>) {
     out.push_all(&["`", case.name, "` is missing"]);
-    for key in case.table.keys() {
-        if nearest(out, key.as_str(), &[case.name]).is_some() {
-            out.push("; did you write ");
-            push_quoted(out, key.as_str());
-            out.push(" for it?");
-            break;
+    if let Some(key) = key_near(out, case.table, case.name) {
+        out.push("; did you write ");
+        push_quoted(out, key);
+        out.push(" for it?");
+    }
+}
+
+/// The first key of a table that may be meant for this one.
+fn key_near<'a>(out: &mut Page, table: &'a Table, name: &str) -> Option<&'a str> {
+    for key in table.keys() {
+        if is_near(out, key.as_str(), name) {
+            return Some(key.as_str());
         }
     }
+    None
 }
 
 /// A value outside its range, or an address that is none.
@@ -96,35 +104,49 @@ fn push_bad(out: &mut Page, case: &Case<'_>, value: &Value) {
 
 /// A list without entries, or its first entry that is refused.
 fn push_bad_list(out: &mut Page, case: &Case<'_>, entries: &[Value]) {
+    if entries.is_empty() {
+        out.push_all(&["`", case.name, "` is an empty list"]);
+        return;
+    }
     match first_fault(case.key, names_sets(case), entries) {
         Some((number, entry, fault)) => {
             push_entry(out, case.key, number, entry);
             out.push_all(&[": ", fault]);
         }
-        None if entries.is_empty() => out.push_all(&["`", case.name, "` is an empty list"]),
         None => out.push_all(&["an entry of `", case.name, "` is out of its range"]),
     }
 }
 
 /// Whether the points of the table may name sets: those of a rule of version 2.
 fn names_sets(case: &Case<'_>) -> bool {
-    case.asset != 0 && case.document.get("version") == Some(&Value::Integer(2))
+    case.asset != 0 && matches!(case.document.get("version"), Some(Value::Integer(2)))
 }
 
 /// The first entry that names no set of the document, and a set that may be meant.
 fn push_unknown_set(out: &mut Page, case: &Case<'_>, value: &Value) {
-    let sets = case.document.get("set").map_or(&[][..], entries_of);
-    for (index, entry) in entries_of(value).iter().enumerate() {
+    let sets = sets_of(case.document);
+    match first_unknown(sets, entries_of(value)) {
+        Some((number, entry, name)) => {
+            push_entry(out, case.key, number, entry);
+            out.push(": no set has this name");
+            push_near_set(out, name, sets);
+        }
+        None => push_keyed(out, case.name, value),
+    }
+}
+
+/// The first entry that names none of the sets, with its number from 1 and that name.
+fn first_unknown<'a>(sets: &[Value], entries: &'a [Value]) -> Option<(usize, &'a Value, &'a str)> {
+    let mut number = 0usize;
+    for entry in entries {
+        number = number.saturating_add(1);
         if let Some(name) = set_named(entry) {
-            if !sets.iter().any(|set| name_of(set) == Some(name)) {
-                push_entry(out, case.key, index.saturating_add(1), entry);
-                out.push(": no set has this name");
-                push_near_set(out, name, sets);
-                return;
+            if !sets.iter().any(|set| name_of(set) == name) {
+                return Some((number, entry, name));
             }
         }
     }
-    push_keyed(out, case.name, value);
+    None
 }
 
 /// The name after `@` of an entry that names a set.
@@ -135,22 +157,12 @@ fn set_named(entry: &Value) -> Option<&str> {
     }
 }
 
-/// The name that a set's table states.
-fn name_of(set: &Value) -> Option<&str> {
-    match set {
-        Value::Table(table) => table.get("name")?.as_str(),
-        _ => None,
-    }
-}
-
 /// The first set whose name may be meant by this one.
 fn push_near_set(out: &mut Page, name: &str, sets: &[Value]) {
     for set in sets {
-        if let Some(meant) = name_of(set) {
-            if nearest(out, name, &[meant]).is_some() {
-                out.push_all(&["; did you mean \"@", meant, "\"?"]);
-                return;
-            }
+        if is_near(out, name, name_of(set)) {
+            out.push_all(&["; did you mean \"@", name_of(set), "\"?"]);
+            return;
         }
     }
 }
@@ -190,7 +202,7 @@ fn push_duplicate(out: &mut Page, case: &Case<'_>, value: &Value) {
         return;
     }
     push_keyed(out, "name", value);
-    match earlier_name(case, value) {
+    match earlier_same(case, &["name"]) {
         Some(number) => push_holder(out, Level::of(case.asset, case.rule), number),
         None => out.push(", which the log uses for what is no rule"),
     }
@@ -198,53 +210,61 @@ fn push_duplicate(out: &mut Page, case: &Case<'_>, value: &Value) {
 
 /// The set, the asset, or the rule of the same asset, that has a name.
 fn push_holder(out: &mut Page, level: Level, number: u32) {
-    out.push(match level {
+    let which = match level {
         Level::Set => ", which set ",
         Level::Rule => ", which rule ",
         _ => ", which asset ",
-    });
-    out.push_number(u64::from(number));
-    out.push(if level == Level::Rule {
-        " of this asset has"
-    } else {
-        " has"
+    };
+    out.push_number_after(which, u64::from(number));
+    out.push(match level {
+        Level::Rule => " of this asset has",
+        _ => " has",
     });
 }
 
-/// The first set, asset, or rule of this asset, before this one that has the same name.
-fn earlier_name(case: &Case<'_>, name: &Value) -> Option<u32> {
-    if case.rule == 0 {
-        (1..case.asset).find(|number| at_key(case.document, *number, 0, "name") == Some(name))
+/// The first set, asset, or rule of this asset, before this one that has the same values at keys.
+fn earlier_same(case: &Case<'_>, keys: &[&str]) -> Option<u32> {
+    let end = if case.rule == 0 {
+        case.asset
     } else {
-        (1..case.rule).find(|number| at_key(case.document, case.asset, *number, "name")
-            == Some(name))
+        case.rule
+    };
+    for number in 1..end {
+        if are_same(case.table, earlier_at(case, number), keys) {
+            return Some(number);
+        }
+    }
+    None
+}
+
+/// The table of the set, the asset, or the rule of this asset, of a number.
+fn earlier_at<'a>(case: &Case<'a>, number: u32) -> Option<&'a Table> {
+    if case.rule == 0 {
+        table_at(case.document, number, 0)
+    } else {
+        table_at(case.document, case.asset, number)
     }
 }
 
-/// The value at a key of a set, an asset or a rule.
-fn at_key<'a>(document: &'a Table, asset: u32, rule: u32, key: &str) -> Option<&'a Value> {
-    table_at(document, asset, rule)?.get(key)
+/// Whether another table has the same values at keys.
+fn are_same(table: &Table, other: Option<&Table>, keys: &[&str]) -> bool {
+    let Some(other) = other else {
+        return false;
+    };
+    for key in keys {
+        if table.get(*key) != other.get(*key) {
+            return false;
+        }
+    }
+    true
 }
 
 fn push_same_endpoint(out: &mut Page, case: &Case<'_>) {
-    match earlier_endpoint(case) {
-        Some(number) => {
-            out.push("asset ");
-            out.push_number(u64::from(number));
-        }
+    match earlier_same(case, &["address", "port"]) {
+        Some(number) => out.push_number_after("asset ", u64::from(number)),
         None => out.push("an earlier asset"),
     }
     out.push(" has the same address and port");
-}
-
-/// The first asset before this one that has the same address and port.
-fn earlier_endpoint(case: &Case<'_>) -> Option<u32> {
-    let address = case.table.get("address");
-    let port = case.table.get("port");
-    (1..case.asset).find(|number| {
-        at_key(case.document, *number, 0, "address") == address
-            && at_key(case.document, *number, 0, "port") == port
-    })
 }
 
 /// A list of more entries than it may have.
@@ -254,8 +274,8 @@ fn push_too_many(out: &mut Page, name: &str, value: &Value) {
         return;
     }
     let count = entries_of(value).len();
-    out.push_all(&["`", name, "` has "]);
-    out.push_number(count as u64);
+    out.push_all(&["`", name]);
+    out.push_number_after("` has ", count as u64);
     out.push(" entries");
     if count <= MOST_SPANS {
         out.push(", and with the points of the sets that they name more than 64");
@@ -264,7 +284,10 @@ fn push_too_many(out: &mut Page, name: &str, value: &Value) {
 
 /// The name of a table, if it states one.
 pub(crate) fn push_named(out: &mut Page, table: Option<&Table>) {
-    if let Some(Value::String(name)) = table.and_then(|table| table.get("name")) {
+    let Some(table) = table else {
+        return;
+    };
+    if let Some(Value::String(name)) = table.get("name") {
         out.push(" ");
         push_quoted(out, name.as_str());
     }
@@ -287,7 +310,6 @@ pub(crate) fn push_where(out: &mut Page, document: &Table, refusal: &PolicyRefus
 
 /// A table by its number, and its name if it states one.
 fn push_table(out: &mut Page, word: &str, number: u32, table: Option<&Table>) {
-    out.push(word);
-    out.push_number(u64::from(number));
+    out.push_number_after(word, u64::from(number));
     push_named(out, table);
 }

@@ -3,7 +3,10 @@
 
 mod help;
 mod remark;
+mod say;
+mod service;
 mod why;
 
 pub use help::{Asked, print_help, print_topic, print_version, question_of};
-pub use why::{expect_files, explain, explain_fault, explain_policy, explain_words, policy_again};
+pub use service::{expect_service_files, explain_service};
+pub use why::{expect_files, explain};

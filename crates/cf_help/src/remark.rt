@@ -1,12 +1,14 @@
 //! What standard error says after work that was done: what a run cannot know, and why a capture shows nothing.
 
+use crate::say::say_lines;
 use crate::why::policy_again;
 use cf_machine::{Gather, RealFiles};
+use cf_policy::Asset;
 use cf_remarks::{
-    Frames, dropped_alone, dropped_text, has_gaps, learned_text, left_open, look_again,
+    Frames, Look, dropped_alone, dropped_text, has_gaps, learned_text, left_open, look_again,
     read_summary, run_text,
 };
-use cf_run::RunNames;
+use cf_run::{RunNames, Summary};
 use std::rt::Files as FileSystem;
 use std::{fs, io};
 
@@ -20,34 +22,75 @@ pub(crate) fn remark_on_run<R: FileSystem + Eprint + AllocGlobal>(
     files: &mut RealFiles<'_, R>,
 ) -> io::Result<()> {
     let summary = read_summary(printed);
-    for name in [policy, names.capture, names.out, names.log] {
-        if !is_file(rt, name) {
-            return if has_gaps(&summary) {
-                say_unread(rt, name)
-            } else {
-                Ok(())
-            };
-        }
-    }
-    let Some(left) = left_open(names.log, &summary, files) else {
-        return say_unread(rt, names.log);
-    };
-    if left == 0 && !has_gaps(&summary) {
-        return Ok(());
-    }
-    let Some((read, _)) = policy_again(rt, policy, files) else {
-        return say_unread(rt, policy);
-    };
-    let mut others = RealFiles::new(rt, rt.alloc(), Gather::Nothing);
-    let assets = read.assets.as_slice();
-    match look_again(rt.alloc(), assets, names, files, &mut others) {
-        Some(look) => print_lines(rt, &run_text(rt.alloc(), &summary, &look, left)?),
-        None => say_unread(rt, names.capture),
+    let all = [policy, names.capture, names.out, names.log];
+    match all.iter().find(|name| !is_file(rt, name)) {
+        Some(name) if has_gaps(&summary) => say_unread(rt, name),
+        Some(_) => Ok(()),
+        None => remark_on_files(rt, policy, names, &summary, files),
     }
 }
 
+/// The same, where all names are those of files.
+fn remark_on_files<R: FileSystem + Eprint + AllocGlobal>(
+    rt: &R,
+    policy: &str,
+    names: &RunNames<'_>,
+    summary: &Summary,
+    files: &mut RealFiles<'_, R>,
+) -> io::Result<()> {
+    match left_open(names.log, summary, files) {
+        None => say_unread(rt, names.log),
+        Some(0) if !has_gaps(summary) => Ok(()),
+        Some(left) => remark_on_gaps(rt, policy, names, summary, left, files),
+    }
+}
+
+/// The same, where something was left out; `left` sessions never closed.
+fn remark_on_gaps<R: FileSystem + Eprint + AllocGlobal>(
+    rt: &R,
+    policy: &str,
+    names: &RunNames<'_>,
+    summary: &Summary,
+    left: u64,
+    files: &mut RealFiles<'_, R>,
+) -> io::Result<()> {
+    match policy_again(rt, policy, files) {
+        Some((read, _)) => {
+            match look_beside(rt, read.assets.as_slice(), names, files) {
+                Some(look) => say_lines(rt, run_text(rt.alloc(), summary, &look, left)),
+                None => say_unread(rt, names.capture),
+            }
+        }
+        None => say_unread(rt, policy),
+    }
+}
+
+/// Looks at CAPTURE and OUT again, each through files of its own.
+fn look_beside<R: FileSystem + AllocGlobal>(
+    rt: &R,
+    assets: &[Asset],
+    names: &RunNames<'_>,
+    files: &mut RealFiles<'_, R>,
+) -> Option<Look> {
+    let mut others = RealFiles::new(rt, rt.alloc(), Gather::Nothing);
+    look_again(rt.alloc(), assets, names, files, &mut others)
+}
+
+/// Says why no record is a packet, where a listing has a record that was dropped and that is so.
+pub(crate) fn remark_on_listed<R: FileSystem + Eprint + AllocGlobal>(
+    rt: &R,
+    capture: &str,
+    printed: &str,
+    files: &mut RealFiles<'_, R>,
+) -> io::Result<()> {
+    if !printed.contains(" dropped ") {
+        return Ok(());
+    }
+    remark_on_dropped(rt, capture, Frames::AsTheyStand, files)
+}
+
 /// Says why no record of a capture is a packet, where that is so.
-pub(crate) fn remark_on_dropped<R: FileSystem + Eprint + AllocGlobal>(
+fn remark_on_dropped<R: FileSystem + Eprint + AllocGlobal>(
     rt: &R,
     capture: &str,
     frames: Frames,
@@ -57,29 +100,39 @@ pub(crate) fn remark_on_dropped<R: FileSystem + Eprint + AllocGlobal>(
         return Ok(());
     }
     match dropped_alone(rt.alloc(), capture, frames, files) {
-        Some(dropped) => print_lines(rt, &dropped_text(rt.alloc(), &dropped)?),
+        Some(dropped) => say_lines(rt, dropped_text(rt.alloc(), &dropped)),
         None => Ok(()),
     }
 }
 
-/// Says that a capture has no connection to an asset from its beginning on; and why no record is a packet, where that is so.
-pub(crate) fn remark_on_nothing<R: FileSystem + Eprint + AllocGlobal>(
+/// Where nothing was judged, says that a capture has no connection to an asset from its beginning on; and why no record is a packet,
+/// where that is so.
+pub(crate) fn remark_on_judged<R: FileSystem + Eprint + AllocGlobal>(
     rt: &R,
     capture: &str,
+    printed: &str,
     files: &mut RealFiles<'_, R>,
 ) -> io::Result<()> {
+    if printed != "yes flows 0 commands 0\n" {
+        return Ok(());
+    }
     eprintln!(rt;
         "cmdwall: note: no connection to an asset of POLICY begins in CAPTURE: no SYN goes to an asset's address and port"
     )?;
     remark_on_dropped(rt, capture, Frames::AsTheyStand, files)
 }
 
-/// Says that a capture has no connection to an asset at all; and why no record is a packet, where that is so.
-pub(crate) fn remark_on_no_review<R: FileSystem + Eprint + AllocGlobal>(
+/// Where nothing was reviewed, says that a capture has no connection to an asset at all; and why no record is a packet, where that is
+/// so.
+pub(crate) fn remark_on_reviewed<R: FileSystem + Eprint + AllocGlobal>(
     rt: &R,
     capture: &str,
+    printed: &str,
     files: &mut RealFiles<'_, R>,
 ) -> io::Result<()> {
+    if !printed.starts_with("flows 0\n") {
+        return Ok(());
+    }
     eprintln!(rt;
         "cmdwall: note: no connection to an asset of POLICY is in CAPTURE: neither a SYN nor data goes to an asset's address and port"
     )?;
@@ -101,7 +154,7 @@ pub(crate) fn remark_on_learned<R: FileSystem + Eprint + AllocGlobal>(
         return Ok(());
     }
     match policy_again(rt, policy, files) {
-        Some((read, _)) => print_lines(rt, &learned_text(rt.alloc(), &read, capture, files)?),
+        Some((read, _)) => say_lines(rt, learned_text(rt.alloc(), &read, capture, files)),
         None => Ok(()),
     }
 }
@@ -118,11 +171,4 @@ fn say_unread<R: Eprint>(rt: &R, name: &str) -> io::Result<()> {
     eprintln!(rt;
         "cmdwall: note: {name}: it cannot be read again, so no more is said of what was counted"
     )
-}
-
-fn print_lines<R: Eprint>(rt: &R, text: &str) -> io::Result<()> {
-    for line in text.lines() {
-        eprintln!(rt; "cmdwall: {line}")?;
-    }
-    Ok(())
 }

@@ -3,8 +3,9 @@ ghost use Rattle.std.specs.Prelude.{IfSome};
 ghost use Rattle.cf_policy.specs.Within.{IsWithin};
 
 use crate::remark::{
-    remark_on_dropped, remark_on_learned, remark_on_no_review, remark_on_nothing, remark_on_run,
+    remark_on_judged, remark_on_learned, remark_on_listed, remark_on_reviewed, remark_on_run,
 };
+use crate::say::{say, say_lines};
 use cf_explain::{
     PolicyFile, asset_message, capture_message, inclusion_message, outputs_message, policy_message,
     policy_warnings, words_message,
@@ -13,13 +14,13 @@ use cf_machine::{LinkFault, Part, RealFiles, Withheld};
 use cf_outside::{Files, ReadAnswer, WholeFault, read_whole};
 use cf_policy::Policy;
 use cf_policylang::{Cause, Key, LONGEST_TEXT, PolicyFault, PolicyRefusal, read_policy};
-use cf_remarks::Frames;
 use cf_watch::CAPTURE_LIMIT;
 use cf_words::status::{
     CAPTURE_CUT, CAPTURE_REFUSED, DENIED, DONE, IDLE_END, LINK_FAULT, NO_MEMORY, POLICY_REFUSED,
     READ_FAULT, STREAM_CUT, TOO_MANY_CELLS, TOO_MANY_RULES, UNKNOWN_ASSET, WRITE_FAULT,
 };
 use cf_words::{Command, read_words};
+use std::alloc::AllocError;
 use std::io;
 use std::rt::Files as FileSystem;
 
@@ -108,9 +109,8 @@ pub fn explain<R: FileSystem + Eprint + AllocGlobal>(
 }
 
 /// Which word is wrong, and how the words have to be.
-pub fn explain_words<R: Eprint + AllocGlobal>(rt: &R, words: &[String]) -> io::Result<()> {
-    let message = words_message(rt.alloc(), words)?;
-    eprintln!(rt; "cmdwall: {message}")
+pub(crate) fn explain_words<R: Eprint + AllocGlobal>(rt: &R, words: &[String]) -> io::Result<()> {
+    say(rt, words_message(rt.alloc(), words))
 }
 
 /// What is said of work that was done.
@@ -130,15 +130,9 @@ fn remark<R: FileSystem + Eprint + AllocGlobal>(
             remark_on_learned(rt, policy, capture, printed, files)?;
             warn_of_learned(rt, out)
         }
-        Command::Judge { capture, .. } if printed == "yes flows 0 commands 0\n" => {
-            remark_on_nothing(rt, capture, files)
-        }
-        Command::Review { capture, .. } if printed.starts_with("flows 0\n") => {
-            remark_on_no_review(rt, capture, files)
-        }
-        Command::Packets { capture } if printed.contains(" dropped ") => {
-            remark_on_dropped(rt, capture, Frames::AsTheyStand, files)
-        }
+        Command::Judge { capture, .. } => remark_on_judged(rt, capture, printed, files),
+        Command::Review { capture, .. } => remark_on_reviewed(rt, capture, printed, files),
+        Command::Packets { capture } => remark_on_listed(rt, capture, printed, files),
         Command::Run { policy, names } => remark_on_run(rt, policy, names, printed, files),
         _ => Ok(()),
     }
@@ -238,7 +232,10 @@ fn explain_status<R: Eprint>(rt: &R, status: u8) -> io::Result<()> {
 }
 
 /// Why an output was withheld, or the file that failed and what the system said.
-pub fn explain_fault<R: FileSystem + Eprint>(rt: &R, files: &RealFiles<'_, R>) -> io::Result<()> {
+pub(crate) fn explain_fault<R: FileSystem + Eprint>(
+    rt: &R,
+    files: &RealFiles<'_, R>,
+) -> io::Result<()> {
     if let Some(withheld) = files.withheld() {
         return explain_withheld(rt, withheld);
     }
@@ -289,17 +286,34 @@ fn explain_outputs<R: FileSystem + Eprint + AllocGlobal>(
     command: &Command<'_>,
     files: &RealFiles<'_, R>,
 ) -> io::Result<()> {
-    let mut begun = Vec::new(rt.alloc());
-    let mut left = Vec::new(rt.alloc());
+    let begun = outputs_that(rt, command, true, files)?;
+    explain_rest(rt, command, begun.as_slice(), files)
+}
+
+fn explain_rest<R: FileSystem + Eprint + AllocGlobal>(
+    rt: &R,
+    command: &Command<'_>,
+    begun: &[&str],
+    files: &RealFiles<'_, R>,
+) -> io::Result<()> {
+    let left = outputs_that(rt, command, false, files)?;
+    say(rt, outputs_message(rt.alloc(), begun, left.as_slice()))
+}
+
+/// The files of a command that were made anew, or those that were not.
+fn outputs_that<'a, R: FileSystem + AllocGlobal>(
+    rt: &R,
+    command: &Command<'a>,
+    are_begun: bool,
+    files: &RealFiles<'_, R>,
+) -> Result<Vec<&'a str>, AllocError> {
+    let mut found = Vec::new(rt.alloc());
     for name in outputs_of(command) {
-        if files.is_begun(name) {
-            begun.push(name)?;
-        } else if !name.is_empty() {
-            left.push(name)?;
+        if !name.is_empty() && files.is_begun(name) == are_begun {
+            found.push(name)?;
         }
     }
-    let message = outputs_message(rt.alloc(), begun.as_slice(), left.as_slice())?;
-    eprintln!(rt; "cmdwall: {message}")
+    Ok(found)
 }
 
 /// The policy's file of a command.
@@ -320,31 +334,43 @@ fn policy_of<'a>(command: &Command<'a>) -> Option<&'a str> {
 }
 
 /// Why a policy is refused, and whether it is. A pipe cannot be read a second time, so no more is said of it.
-pub fn explain_policy<R: FileSystem + Eprint + AllocGlobal>(
+pub(crate) fn explain_policy<R: FileSystem + Eprint + AllocGlobal>(
     rt: &R,
     name: &str,
     files: &mut RealFiles<'_, R>,
 ) -> io::Result<bool> {
-    let alloc = rt.alloc();
-    let message = match read_whole(alloc, name, LONGEST_TEXT as u64, files) {
-        Ok(text) => match read_policy(alloc, &text) {
-            Err(PolicyFault::Refused(refusal)) => policy_message(alloc, name, &text, &refusal)?,
-            _ => return Ok(false),
-        },
-        Err(WholeFault::TooLong) => policy_message(alloc, name, &[], &TOO_LONG)?,
+    match read_whole(rt.alloc(), name, LONGEST_TEXT as u64, files) {
+        Ok(text) => explain_text(rt, name, &text),
+        Err(WholeFault::TooLong) => say_refused(rt, name, &[], &TOO_LONG),
         Err(_) => {
             eprintln!(rt;
                 "cmdwall: {name}: its text cannot be read a second time, so no more is said"
             )?;
-            return Ok(false);
+            Ok(false)
         }
-    };
-    eprintln!(rt; "cmdwall: {message}")?;
+    }
+}
+
+/// Why a text is refused, and whether it is.
+fn explain_text<R: Eprint + AllocGlobal>(rt: &R, name: &str, text: &[u8]) -> io::Result<bool> {
+    match read_policy(rt.alloc(), text) {
+        Err(PolicyFault::Refused(refusal)) => say_refused(rt, name, text, &refusal),
+        _ => Ok(false),
+    }
+}
+
+fn say_refused<R: Eprint + AllocGlobal>(
+    rt: &R,
+    name: &str,
+    text: &[u8],
+    refusal: &PolicyRefusal,
+) -> io::Result<bool> {
+    say(rt, policy_message(rt.alloc(), name, text, refusal))?;
     Ok(true)
 }
 
 /// The policy of a file and its text, if it can be read a second time.
-pub fn policy_again<R: FileSystem + AllocGlobal>(
+pub(crate) fn policy_again<R: FileSystem + AllocGlobal>(
     rt: &R,
     name: &str,
     files: &mut RealFiles<'_, R>,
@@ -363,14 +389,10 @@ fn warn<R: FileSystem + Eprint + AllocGlobal>(
     name: &str,
     files: &mut RealFiles<'_, R>,
 ) -> io::Result<()> {
-    let Some((policy, text)) = policy_again(rt, name, files) else {
-        return Ok(());
-    };
-    let warnings = policy_warnings(rt.alloc(), name, &text, &policy)?;
-    for line in warnings.as_str().lines() {
-        eprintln!(rt; "cmdwall: {line}")?;
+    match policy_again(rt, name, files) {
+        Some((policy, text)) => say_lines(rt, policy_warnings(rt.alloc(), name, &text, &policy)),
+        None => Ok(()),
     }
-    Ok(())
 }
 
 /// What a learned policy is not.
@@ -384,27 +406,41 @@ fn warn_of_learned<R: Eprint>(rt: &R, out: &str) -> io::Result<()> {
 fn explain_inclusion<R: FileSystem + Eprint + AllocGlobal>(
     rt: &R,
     name: &str,
-    other_name: &str,
+    other: &str,
     files: &mut RealFiles<'_, R>,
 ) -> io::Result<()> {
-    let Some((policy, text)) = policy_again(rt, name, files) else {
-        return Ok(());
-    };
-    let Some((other, other_text)) = policy_again(rt, other_name, files) else {
-        return Ok(());
-    };
-    let ours = PolicyFile {
-        name,
-        text: &text,
-        policy: &policy,
-    };
-    let other = PolicyFile {
-        name: other_name,
-        text: &other_text,
-        policy: &other,
-    };
-    let message = inclusion_message(rt.alloc(), &ours, &other)?;
-    eprintln!(rt; "cmdwall: {message}")
+    match policy_again(rt, name, files) {
+        Some((policy, text)) => {
+            let ours = PolicyFile {
+                name,
+                text: &text,
+                policy: &policy,
+            };
+            explain_inclusion_of(rt, &ours, other, files)
+        }
+        None => Ok(()),
+    }
+}
+
+fn explain_inclusion_of<R: FileSystem + Eprint + AllocGlobal>(
+    rt: &R,
+    ours: &PolicyFile<'_>,
+    name: &str,
+    files: &mut RealFiles<'_, R>,
+) -> io::Result<()>
+    requires within { IsWithin ours.now.policy.now }
+{
+    match policy_again(rt, name, files) {
+        Some((policy, text)) => {
+            let other = PolicyFile {
+                name,
+                text: &text,
+                policy: &policy,
+            };
+            say(rt, inclusion_message(rt.alloc(), ours, &other))
+        }
+        None => Ok(()),
+    }
 }
 
 /// Which assets a policy has that has none of a name.
@@ -414,11 +450,10 @@ fn explain_asset<R: FileSystem + Eprint + AllocGlobal>(
     asset: &str,
     files: &mut RealFiles<'_, R>,
 ) -> io::Result<()> {
-    let Some((policy, _)) = policy_again(rt, name, files) else {
-        return Ok(());
-    };
-    let message = asset_message(rt.alloc(), name, &policy, asset)?;
-    eprintln!(rt; "cmdwall: {message}")
+    match policy_again(rt, name, files) {
+        Some((policy, _)) => say(rt, asset_message(rt.alloc(), name, &policy, asset)),
+        None => Ok(()),
+    }
 }
 
 /// Why a capture is refused that is watched: it is too long, or its octets are at fault. A pipe cannot be read a second time.

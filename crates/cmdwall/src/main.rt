@@ -14,44 +14,57 @@ use std::process::ExitCode;
 use std::{env, io};
 
 fn main(rt: HostRuntime) -> ExitCode {
-    let words = match words_of(&rt) {
-        Ok(words) => words,
+    match words_of(&rt) {
+        Ok(words) => answer(&rt, &words),
         Err(error) if matches!(error.kind(), io::ErrorKind::OutOfMemory) => {
-            return ExitCode::from(NO_MEMORY);
+            ExitCode::from(NO_MEMORY)
         }
         // Words that cannot be read are words of no form.
-        Err(_) => Vec::new(rt.alloc()),
+        Err(_) => answer(&rt, &[]),
+    }
+}
+
+/// Does what the words ask for.
+fn answer(rt: &HostRuntime, words: &[String]) -> ExitCode {
+    match question_of(words) {
+        Asked::Help => printed(print_help(rt)),
+        Asked::HelpOf(topic) => printed(print_topic(rt, topic)),
+        Asked::Version => printed(print_version(rt)),
+        Asked::Work if is_service(words) => serve(rt, words),
+        Asked::Work => work(rt, words),
+    }
+}
+
+/// Does the work of a command over the files of the machine.
+fn work(rt: &HostRuntime, words: &[String]) -> ExitCode {
+    let command = read_words(words);
+    let mut files = RealFiles::new(rt, rt.alloc(), gather_of(&command));
+    let status = match command {
+        Some(command) if expect_files(&command, &mut files).is_err() => NO_MEMORY,
+        _ => run_box(rt, words, &mut files),
     };
-    match question_of(&words) {
-        Asked::Help => return printed(print_help(&rt)),
-        Asked::HelpOf(topic) => return printed(print_topic(&rt, topic)),
-        Asked::Version => return printed(print_version(&rt)),
-        Asked::Work => {}
-    }
-    if is_service(&words) {
-        return serve(&rt, &words);
-    }
-    let command = read_words(&words);
-    // People follow the log of a relay.
-    let gather = match command {
+    ExitCode::from(status)
+}
+
+/// People follow the log of a relay.
+fn gather_of(command: &Option<Command<'_>>) -> Gather {
+    match command {
         Some(Command::Relay { .. }) => Gather::Nothing,
         _ => Gather::Pieces,
-    };
-    let mut files = RealFiles::new(&rt, rt.alloc(), gather);
-    if let Some(command) = command {
-        if expect_files(&command, &mut files).is_err() {
-            return ExitCode::from(NO_MEMORY);
-        }
     }
-    let mut out = RealSink::new(io::writer(&rt));
-    let mut pair = LinkPair::new(&rt);
-    let done = box_main(rt.alloc(), &words, &mut files, &mut out, &mut pair);
+}
+
+/// Runs the proved program, and says on standard error what there is to say.
+fn run_box(rt: &HostRuntime, words: &[String], files: &mut RealFiles<'_, HostRuntime>) -> u8 {
+    let mut out = RealSink::new(io::writer(rt));
+    let mut pair = LinkPair::new(rt);
+    let done = box_main(rt.alloc(), words, files, &mut out, &mut pair);
     pair.leave();
     // What was gathered is part of the work: where it cannot be written, the work is not done.
     let status = if files.finish() { done } else { WRITE_FAULT };
     let printed = str::from_utf8(out.last()).unwrap_or("");
-    explain(&rt, &words, status, printed, &mut files, pair.fault());
-    ExitCode::from(status)
+    explain(rt, words, status, printed, files, pair.fault());
+    status
 }
 
 /// The words after the program's name.

@@ -1,0 +1,22 @@
+//! Lines on standard error.
+
+use std::alloc::AllocError;
+use std::io;
+
+/// Says a message, where there was memory for it.
+pub(crate) fn say<R: Eprint>(rt: &R, message: Result<String, AllocError>) -> io::Result<()> {
+    let message = message?;
+    eprintln!(rt; "cmdwall: {message}")
+}
+
+/// Says each line of a text, where there was memory for it.
+pub(crate) fn say_lines<R: Eprint>(rt: &R, text: Result<String, AllocError>) -> io::Result<()> {
+    print_lines(rt, &text?)
+}
+
+fn print_lines<R: Eprint>(rt: &R, text: &str) -> io::Result<()> {
+    for line in text.lines() {
+        eprintln!(rt; "cmdwall: {line}")?;
+    }
+    Ok(())
+}
