@@ -71,7 +71,7 @@ fn found(alloc: Global, subject: Subject, given: &str) -> Result<String, Fail> {
     }
 }
 
-/// Plays a row. Of what is wanted a line that begins with four spaces goes on with the one before it.
+/// Plays a row.
 fn play(
     rt: &impl Abort,
     alloc: Global,
@@ -79,12 +79,8 @@ fn play(
     given: &str,
     wanted: &str,
 ) -> Result<(), Fail> {
-    let wanted = wanted.replace(alloc, "\n    ", " ")?;
     let found = found(alloc, subject, given)?;
-    assert!(rt;
-        found.as_str() == wanted.as_str(),
-        "{given}\nfound\n{found}"
-    );
+    assert!(rt; found.as_str() == wanted, "{given}\nfound\n{found}");
     Ok(())
 }
 
@@ -97,8 +93,10 @@ fn play_lines(rt: &impl Abort, alloc: Global, subject: Subject, rows: &str) -> R
     Ok(())
 }
 
-/// Plays rows of several lines, apart by an empty one: a line that gives, and those that are wanted.
+/// Plays rows of several lines, apart by an empty one: a line that gives, and those that are wanted. A line that begins with four
+/// spaces goes on with the one before it.
 fn play_blocks(rt: &impl Abort, alloc: Global, subject: Subject, rows: &str) -> Result<(), Fail> {
+    let rows = rows.replace(alloc, "\n    ", " ")?;
     for row in rows.split("\n\n") {
         let (given, wanted) = row.split_once("\n").unwrap_or((row, ""));
         play(rt, alloc, subject, given, wanted)?;

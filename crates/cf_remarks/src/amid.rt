@@ -1,5 +1,6 @@
 //! Packets of connections whose SYN a capture does not have.
 ghost use Rattle.std.specs.Prelude.{◌≤◌, ◌^◌};
+ghost use Rattle.cf_outside.specs.Frames.{OnlyReads};
 
 use crate::pair::{PairKey, pair_of};
 use crate::way::is_opening;
@@ -18,7 +19,9 @@ pub(crate) fn amid_in<F: Files>(
     assets: &[Asset],
     capture: &str,
     files: &mut F,
-) -> Option<u64> {
+) -> Option<u64>
+    ensures reads { OnlyReads F.content F.read_faults F.write_faults files.old files.new ⊥ }
+{
     let mut reader = RecordReader::open(alloc, capture, files).ok()?;
     let mut begun = Begun {
         pairs: BTreeMap::new(alloc),
@@ -48,6 +51,7 @@ impl Begun {
         files: &mut F,
     ) -> bool
         requires near { reader.old.place ≤ 2 ^ 40 }
+        ensures reads { OnlyReads F.content F.read_faults F.write_faults files.old files.new ⊥ }
     {
         'records: loop {
             match reader.next(capture, files) {

@@ -1,5 +1,6 @@
 //! What clients sent to each asset, counted: the commands that `learn` reads, and what it leaves out.
 ghost use Rattle.std.specs.Prelude.{IfSome};
+ghost use Rattle.cf_outside.specs.Frames.{OnlyReads};
 ghost use Rattle.cf_policy.specs.Within.{AreAssetsWithin, IsAssetWithin, IsWithin};
 
 use cf_judge::{Front, Reader, Ruling};
@@ -83,6 +84,7 @@ pub(crate) fn heard_in<F: Files>(
     files: &mut F,
 ) -> Option<Senders>
     requires within { IsWithin policy.now }
+    ensures reads { OnlyReads F.content F.read_faults F.write_faults files.old files.new ⊥ }
 {
     let flows = watch(alloc, policy, capture, files).ok()?;
     let mut senders = BTreeMap::new(alloc);

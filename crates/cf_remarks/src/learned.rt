@@ -1,4 +1,5 @@
 //! What a policy was learned from, in words.
+ghost use Rattle.cf_outside.specs.Frames.{OnlyReads};
 ghost use Rattle.cf_policy.specs.Within.{IsWithin};
 
 use crate::amid::amid_in;
@@ -14,7 +15,7 @@ const MOST: usize = 100;
 
 /// A line for each client of each asset with the commands that it sent and what was left out, in the order of the assets and of the
 /// addresses, at most 100 of them; and how many packets have no connection's SYN before them. The text is empty where the capture
-/// cannot be read a second time.
+/// cannot be read a second time. Changes no file.
 pub fn learned_text<F: Files>(
     alloc: Global,
     policy: &Policy,
@@ -22,6 +23,7 @@ pub fn learned_text<F: Files>(
     files: &mut F,
 ) -> Result<String, AllocError>
     requires within { IsWithin policy.now }
+    ensures reads { OnlyReads F.content F.read_faults F.write_faults files.old files.new ⊥ }
 {
     let mut lines = Lines::new(alloc);
     let assets = policy.assets.as_slice();

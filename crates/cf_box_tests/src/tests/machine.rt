@@ -77,32 +77,36 @@ fn a_pair_moves_bytes_and_ends(rt: HostRuntime) -> Result<(), TestFail> {
         controller.read(&mut buf)? == 3,
     );
     holds(&rt, "the bytes that it got", &buf == b"xyz");
+    ends(&rt, &mut pair, client)
+}
 
-    // A side that was closed for sending may still send.
+/// A side that was closed for sending may still send; its end is the last that comes of it.
+fn ends<R: Net + Clock + Eprint + AllocGlobal>(
+    rt: &impl Abort,
+    pair: &mut LinkPair<'_, R>,
+    mut client: TcpStream,
+) -> Result<(), TestFail> {
+    let mut buf = [0u8; 3];
     holds(
-        &rt,
+        rt,
         "the client is closed for sending",
         pair.finish(Side::Client) == WriteAnswer::Done,
     );
-    holds(&rt, "the client hears the end", client.read(&mut buf)? == 0);
+    holds(rt, "the client hears the end", client.read(&mut buf)? == 0);
     client.write_all(b"def")?;
     holds(
-        &rt,
+        rt,
         "the client sends on",
-        take(&mut pair, Side::Client) == Some(*b"def"),
+        take(pair, Side::Client) == Some(*b"def"),
     );
     drop(client);
+    holds(rt, "the client is gone", take(pair, Side::Client).is_none());
     holds(
-        &rt,
-        "the client is gone",
-        take(&mut pair, Side::Client).is_none(),
-    );
-    holds(
-        &rt,
+        rt,
         "the client's end",
         pair.take(Side::Client, &mut buf) == TakeAnswer::End,
     );
-    holds(&rt, "no fault", pair.fault().is_none());
+    holds(rt, "no fault", pair.fault().is_none());
     Ok(())
 }
 

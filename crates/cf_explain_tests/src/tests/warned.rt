@@ -122,16 +122,19 @@ p: note: 1 set of points
 p:2:1: warning: set 1 "low": no rule names it
 .
 
-version: version = 2 / [[set]] / name = "a" / points = ["1", "4..5"] / [[set]] / name = "b" / points = ["1..1", "4..5"] | lists: codes = [6] / points = ["@b", "@a"]
+version: version = 2 / [[set]] / name = "a" / points = ["1", "4..5"] / [[set]] / name = "b" / points = ["1..1", "4..5"] |
+    lists: codes = [6] / points = ["@b", "@a"]
 p: note: 2 sets of points
 p:5:1: warning: set 2 "b": it has the points of set 1 "a"
 .
 
-version: version = 2 / [[set]] / name = "a" / points = ["1", "4"] / [[set]] / name = "b" / points = ["4", "1"] | lists: codes = [6] / points = ["@b", "@a"]
+version: version = 2 / [[set]] / name = "a" / points = ["1", "4"] / [[set]] / name = "b" / points = ["4", "1"] |
+    lists: codes = [6] / points = ["@b", "@a"]
 p: note: 2 sets of points
 .
 
-version: version = 2 / [[set]] / name = "a" / points = ["7"] / [[set]] / name = "b" / points = ["7"] / [[set]] / name = "c" / points = ["7"] | lists: codes = [99] / points = ["@c"]
+version: version = 2 / [[set]] / name = "a" / points = ["7"] / [[set]] / name = "b" / points = ["7"] / [[set]] / name = "c" /
+    points = ["7"] | lists: codes = [99] / points = ["@c"]
 p: note: 3 sets of points
 p:2:1: warning: set 1 "a": no rule names it
 p:5:1: warning: set 2 "b": no rule names it
@@ -147,7 +150,8 @@ p:14:1: warning: asset 1 "x", rule 2 "b" never refuses anything: rule 1 "a" befo
 lists: codes = [5] / points = ["3"] / values = ["0"] | more: [[asset.rule]] / name = "b" / action = "refuse" / codes = [5] / points = ["3"]
 .
 
-lists: clients = ["0.0.0.0..255.255.255.255"] / codes = [5] / groups = ["0"] / points = ["0..65535"] | more: [[asset.rule]] / name = "b" / action = "refuse" / codes = [5]
+lists: clients = ["0.0.0.0..255.255.255.255"] / codes = [5] / groups = ["0"] / points = ["0..65535"] | more: [[asset.rule]] /
+    name = "b" / action = "refuse" / codes = [5]
 p:15:1: warning: asset 1 "x", rule 2 "b" never refuses anything: rule 1 "a" before it allows all that it names
 .
 
@@ -165,21 +169,25 @@ p:13:1: warning: asset 1 "x", rule 2 "b" never refuses anything: rule 1 "a" befo
 lists: codes = [5] / points = ["0..4", "6..9"] | more: [[asset.rule]] / name = "b" / action = "refuse" / codes = [5] / points = ["0..9"]
 .
 
-lists: codes = [5] / points = ["0..4"] | more: [[asset.rule]] / name = "b" / action = "allow" / codes = [5] / points = ["5..9"] / [[asset.rule]] / name = "c" / action = "refuse" / codes = [5] / points = ["3..8"]
+lists: codes = [5] / points = ["0..4"] | more: [[asset.rule]] / name = "b" / action = "allow" / codes = [5] / points = ["5..9"] /
+    [[asset.rule]] / name = "c" / action = "refuse" / codes = [5] / points = ["3..8"]
 p:18:1: warning: asset 1 "x", rule 3 "c" never refuses anything: the rules before it together allow all that it names
 .
 
-lists: codes = [5] / points = ["0..4"] | more: [[asset.rule]] / name = "b" / action = "refuse" / codes = [5] / points = ["5..9"] / [[asset.rule]] / name = "c" / action = "refuse" / codes = [5] / points = ["3..8"]
+lists: codes = [5] / points = ["0..4"] | more: [[asset.rule]] / name = "b" / action = "refuse" / codes = [5] /
+    points = ["5..9"] / [[asset.rule]] / name = "c" / action = "refuse" / codes = [5] / points = ["3..8"]
 p:18:1: warning: asset 1 "x", rule 3 "c" never refuses anything: the rules before it together decide all that it names, and not all
     of them refuse
 .
 
-action: action = "refuse" | lists: codes = [5] / points = ["5"] | more: [[asset.rule]] / name = "b" / action = "allow" / codes = [5] / points = ["0..9"] / [[asset.rule]] / name = "c" / action = "refuse" / codes = [5] / points = ["3..8"]
+action: action = "refuse" | lists: codes = [5] / points = ["5"] | more: [[asset.rule]] / name = "b" / action = "allow" /
+    codes = [5] / points = ["0..9"] / [[asset.rule]] / name = "c" / action = "refuse" / codes = [5] / points = ["3..8"]
 p:18:1: warning: asset 1 "x", rule 3 "c" never refuses anything: rule 2 "b" before it allows all that it names, but for what still
     earlier rules refuse
 .
 
-lists: codes = [5] / values = ["0"] | more: [[asset.rule]] / name = "b" / action = "allow" / codes = [5] / values = ["1"] / [[asset.rule]] / name = "c" / action = "allow" / codes = [5] / most = 1 / seconds = 1
+lists: codes = [5] / values = ["0"] | more: [[asset.rule]] / name = "b" / action = "allow" / codes = [5] / values = ["1"] /
+    [[asset.rule]] / name = "c" / action = "allow" / codes = [5] / most = 1 / seconds = 1
 p:18:1: warning: asset 1 "x", rule 3 "c": it decides nothing: the rules before it together have all that it has, so its rate bounds
     nothing
 .
@@ -195,7 +203,8 @@ p:12:1: warning: asset 1 "x", rule 2 "b": no command with code 99 meets it: code
     and 23
 .
 
-lists: codes = [99] | more: [[asset.rule]] / name = "b" / action = "allow" / codes = [5] / [[asset.rule]] / name = "c" / action = "refuse" / codes = [5] / points = ["1"]
+lists: codes = [99] | more: [[asset.rule]] / name = "b" / action = "allow" / codes = [5] / [[asset.rule]] / name = "c" /
+    action = "refuse" / codes = [5] / points = ["1"]
 p:16:1: warning: asset 1 "x", rule 3 "c" never refuses anything: rule 2 "b" before it allows all that it names
 p:8:1: warning: asset 1 "x", rule 1 "a": no command meets it: code 99 is not served; codes of Modbus are 1 to 6, 15, 16, 22 and 23
 .
