@@ -12,6 +12,9 @@ use cf_view::{Break, Framed, View};
 /// The first octet of an APDU. IEC 60870-5-104, section 5.
 pub const START: u8 = 0x68;
 
+/// The octets of an APDU that are tested: start, length and control field. IEC 60870-5-104, section 5.
+const TESTED: usize = 6;
+
 /// An APDU of IEC 60870-5-104, section 5.
 #[derive(Drop)]
 pub enum Apdu<'a> {
@@ -117,7 +120,8 @@ fn first_wrong(bytes: &View<'_>, end: usize) -> Option<usize>
     ensures { MatchOption result (EachFollows follows bytes.now.bytes end) (λ p. (p < end) × EachFollows follows bytes.now.bytes p
         × (follows (take p bytes.now.bytes) (slice_index bytes.now.bytes p) ≡ false)) }
 {
-    for place in 0..end {
+    // Behind the control field any octet may stand.
+    for place in 0..end.min(TESTED) {
         if !may_follow(bytes, place) {
             return Some(place);
         }

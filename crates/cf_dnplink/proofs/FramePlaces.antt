@@ -1,13 +1,14 @@
 -- The places of a frame.
-use Rattle.std.proofs.Common.{◌≡◌, ℕ, zero, suc, ◌+◌, ◌-◌, ◌<◌, ◌≤◌, ◌==◌, nat_lt, ◌⊎◌, if◌then◌else◌, true, List, [], ◌∷◌, ◌++◌, length, get_or, take, drop, inl, inr, refl, ◌∙◌, ap, arith, length-append, slice_range}
+use Rattle.std.proofs.Common.{◌≡◌, ℕ, zero, suc, ◌+◌, ◌-◌, ◌/◌, ◌%◌, ◌<◌, ◌≤◌, ◌*◌, ◌==◌, nat_lt, min, max, ◌⊎◌, if◌then◌else◌, true, false, List, [], ◌∷◌, ◌++◌, length, get_or, take, drop, inl, inr, refl, ◌∙◌, ap, arith, length-append, slice_range}
 use Rattle.std.proofs.Math.Seq.{get_or-append_seam}
 use Rattle.std.proofs.lemmas.Bool.{cases_lt, le-ltb, lt-ltb}
 use Rattle.std.proofs.lemmas.Bool.Decides.{nat_tests}
 use Rattle.std.proofs.lemmas.List.{take-take, drop-take, get_or_append_left, get_or-take, length-take-le}
 use Rattle.cf_view.specs.Octets.{IsOctets, u16_le_at}
 use Rattle.cf_view.specs.Framing.{IsPrefixFree, HasFront}
+use Rattle.cf_view.specs.Places.{EachFollows}
 use Rattle.cf_dnplink.specs.Crc.{crc_of}
-use Rattle.cf_dnplink.specs.FramePlaces.{frame_size, size_of, block_start, block_end, block_sum, crc_octet, checks, follows, fields_of, SpellsByPlaces}
+use Rattle.cf_dnplink.specs.FramePlaces.{frame_size, size_of, block_start, block_end, crc_octet, checks, follows, fields_of, IsBlock, SpellsByPlaces}
 use Rattle.cf_view.proofs.Places.{IsTold, GoesOn, prefix_free, has_front}
 use Rattle.std.proofs.lemmas.Grind.{common_steps}
 
@@ -127,11 +128,61 @@ fields_front xs n h = grind (arith, common_steps, drop-take, get_or-take)
 pub frame_front : (xs : List ℕ) → IsOctets xs → HasFront SpellsByPlaces xs
 frame_front xs o = has_front follows size_of told next goes_on fields_of (λ ys. omega (arith, size_least ys)) xs o
 
--- the CRC of a block is that of its second octet too
-same_block : (len place : ℕ) → block_end len (place + 1) < place + 1
-    → (block_start (place + 1) ≡ block_start place) × ((block_end len (place + 1) ≡ block_end len place) × (block_end len place ≤ place))
-same_block len place h = grind (arith, nat_tests, common_steps, cases_lt, lt-ltb, le-ltb)
+-- before the CRC of its block any octet may stand
+pub inside_block : (xs : List ℕ) (p octet : ℕ) → 2 < p → p ≤ length xs → p < block_end (get_or xs 2 0) p → follows (take p xs) octet ≡ true
+inside_block xs p octet l h b = grind (arith, common_steps, follows_front, lt-ltb)
 
-pub sum_kept : (octets : List ℕ) (place sum : ℕ) → (block_end (get_or octets 2 0) place ≤ place → sum ≡ block_sum octets place)
-    → block_end (get_or octets 2 0) (place + 1) < place + 1 → sum ≡ block_sum octets (place + 1)
-sum_kept octets place sum h k = grind (arith, common_steps, same_block)
+-- an octet of a CRC
+pub at_sum : (xs : List ℕ) (start stop p octet : ℕ) → 2 < p → p ≤ length xs → block_start p ≡ start → block_end (get_or xs 2 0) p ≡ stop → stop ≤ p → follows (take p xs) octet ≡ (octet == crc_octet (crc_of (slice_range xs start stop)) (p - stop))
+at_sum xs start stop p octet l h s e b = grind (arith, common_steps, follows_front, le-ltb)
+
+other_octet : (a b : ℕ) → (a ≡ b → ⊥) → (a == b) ≡ false
+other_octet a b h = grind (arith, nat_tests)
+
+equal_octet : (a b : ℕ) → a ≡ b → (a == b) ≡ true
+equal_octet a b h = grind (arith, nat_tests)
+
+-- the two octets of the CRC of a block, of which the sum is known
+module _ (xs : List ℕ) (start stop sum octet : ℕ) (past : 2 < stop) (order : start ≤ stop) (block : IsBlock (get_or xs 2 0) start stop) (is : sum ≡ crc_of (slice_range xs start stop)) where
+  low_is : stop ≤ length xs → follows (take stop xs) octet ≡ (octet == sum % 256)
+  low_is h =
+      let b = block stop order (omega arith) in
+      let e : stop - stop ≡ 0 = omega arith in
+      at_sum xs start stop stop octet past h b.0 b.1 (omega arith) ∙ rw (is, e) refl
+
+  high_is : stop + 1 ≤ length xs → follows (take (stop + 1) xs) octet ≡ (octet == sum / 256)
+  high_is h =
+      let b = block (stop + 1) (omega arith) (omega arith) in
+      let e : stop + 1 - stop ≡ 1 = omega arith in
+      at_sum xs start stop (stop + 1) octet (omega arith) h b.0 b.1 (omega arith) ∙ rw (is, e) refl
+
+  pub low_wrong : stop ≤ length xs → (octet ≡ sum % 256 → ⊥) → follows (take stop xs) octet ≡ false
+  low_wrong h n = low_is h ∙ other_octet octet (sum % 256) n
+
+  pub low_right : stop ≤ length xs → octet ≡ sum % 256 → follows (take stop xs) octet ≡ true
+  low_right h e = low_is h ∙ equal_octet octet (sum % 256) e
+
+  pub high_wrong : stop + 1 ≤ length xs → (octet ≡ sum / 256 → ⊥) → follows (take (stop + 1) xs) octet ≡ false
+  high_wrong h n = high_is h ∙ other_octet octet (sum / 256) n
+
+  pub high_right : stop + 1 ≤ length xs → octet ≡ sum / 256 → follows (take (stop + 1) xs) octet ≡ true
+  high_right h e = high_is h ∙ equal_octet octet (sum / 256) e
+
+-- what stands before a block and in it
+pub to_sum : (xs : List ℕ) (start stop most n : ℕ) → most ≤ length xs → IsBlock (get_or xs 2 0) start stop → 3 ≤ most → EachFollows follows xs (min most (max 3 start)) → n ≤ most → n ≤ stop → EachFollows follows xs n
+to_sum xs start stop most n h block some before l k p below =
+    elim (cases_lt p (max 3 start)) [
+      | inl v ↦ before p (omega arith)
+      | inr v ↦ inside_block xs p (get_or xs p 0) (omega arith) (omega arith) (let b = block p (omega arith) (omega arith) in omega (arith, b.1))
+    ]
+
+-- the header is a block, and so are 16 user octets, or the last ones that are fewer
+pub header_block : (len : ℕ) → IsBlock len 0 8
+header_block len p l h = grind (arith, nat_tests, common_steps, lt-ltb)
+
+pub user_block : (len k start stop : ℕ) → start ≡ 10 + k * 18 → stop ≡ start + min 16 (len - 5 - k * 16) → IsBlock len start stop
+user_block len k start stop s e p l h = grind (arith, nat_tests, common_steps, le-ltb)
+
+-- behind the last block nothing of the frame stands
+pub block_more : (xs : List ℕ) (k most : ℕ) → 3 ≤ length xs → most ≤ size_of xs → 10 + k * 18 < most → min most (10 + k * 18 + min 16 (get_or xs 2 0 - 5 - k * 16) + 2) ≡ min most (10 + (k + 1) * 18)
+block_more xs k most h size l = (let s = size_long xs h in omega (arith, s))

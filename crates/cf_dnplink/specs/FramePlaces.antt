@@ -1,9 +1,9 @@
 -- Steps of the proof: a link frame by places: which octet may follow those before it (`follows`), and how long the frame is
 -- (`size_of`). The reader goes by these places; that they give the frames of `LinkFrame` is proved where the reader is.
-use Rattle.std.specs.Prelude.{ℕ, ◌+◌, ◌-◌, ◌*◌, ◌/◌, ◌%◌, ◌==◌, nat_lt, nat_le, min, Bool, true, if◌then◌else◌, List, length, drop}
-use Rattle.std.specs.Prelude.{slice_index, slice_range}
+use Rattle.std.specs.Prelude.{◌≡◌, ℕ, ◌+◌, ◌-◌, ◌*◌, ◌/◌, ◌%◌, ◌<◌, ◌≤◌, ◌==◌, nat_lt, nat_le, min, Bool, true, false, if◌then◌else◌, List, length, take}
+use Rattle.std.specs.Prelude.{drop, slice_index, slice_range, Option, MatchOption}
 use Rattle.cf_view.specs.Octets.{u16_le_at}
-use Rattle.cf_view.specs.Places.{SpellsBy}
+use Rattle.cf_view.specs.Places.{EachFollows, SpellsBy}
 use Rattle.cf_dnplink.specs.Crc.{crc_of}
 use Rattle.cf_dnplink.specs.LinkFrame.{FrameValue}
 
@@ -54,3 +54,13 @@ fields_of octets =
 -- the octets are this frame, place by place
 abbrev pub SpellsByPlaces : FrameValue → List ℕ → Type 0
 SpellsByPlaces = SpellsBy follows size_of fields_of
+
+-- the first of the first n octets that may not follow those before it, where no more than `most` are looked at
+abbrev pub IsFirstWrong : List ℕ → ℕ → ℕ → Option ℕ → Type 0
+IsFirstWrong octets most n result =
+    MatchOption result (EachFollows follows octets (min most n))
+    (λ p. (p < most) × EachFollows follows octets p × (follows (take p octets) (slice_index octets p) ≡ false))
+
+-- in a frame with this LENGTH one block lies from start to stop, and its CRC behind it
+abbrev pub IsBlock : ℕ → ℕ → ℕ → Type 0
+IsBlock len start stop = (p : ℕ) → start ≤ p → p < stop + 2 → (block_start p ≡ start) × (block_end len p ≡ stop)

@@ -1,5 +1,6 @@
 //! The CRC of DNP3, by a table of octets.
 ghost use Rattle.std.specs.Prelude.{◌≡◌};
+ghost use Rattle.std.specs.List.{fold};
 ghost use Rattle.cf_dnplink.specs.Crc.{rounds, after_octet, crc_of};
 
 use cf_view::View;
@@ -45,15 +46,24 @@ fn after(register: u16, octet: u8) -> u16
     (mixed / 256) ^ entry((mixed % 256) as u8)
 }
 
+/// The register after some octets.
+#[tactic(auto, using(std::proofs::lemmas::List::Sums::fold_more, std::proofs::lemmas::List::take_all))]
+fn over(register: u16, octets: &[u8]) -> u16
+    ensures { result ≡ fold after_octet register octets.now }
+{
+    let mut register = register;
+    for i in 0..octets.len() {
+        register = after(register, octets[i]);
+    }
+    register
+}
+
 /// The CRC of some octets by the polynomial 3D65; that of the nine characters `123456789` is 0xEA82. On the wire its low octet
 /// comes first. IEEE 1815-2012, section 9.2.4.
-#[tactic(auto, using(std::proofs::lemmas::List::Sums::fold_more, std::proofs::lemmas::List::take_all))]
+#[tactic(auto, using(crate::proofs::Table::two_pieces))]
 pub fn crc(bytes: View<'_>) -> u16
     ensures { result ≡ crc_of bytes.entry.bytes }
 {
-    let mut register: u16 = 0;
-    for i in 0..bytes.len() {
-        register = after(register, bytes.at(i));
-    }
-    0xffff - register
+    let (first, second) = bytes.pieces();
+    0xffff - over(over(0, first), second)
 }

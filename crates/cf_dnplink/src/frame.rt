@@ -1,12 +1,11 @@
 //! Data link frames in a stream.
-ghost use Rattle.std.specs.Prelude.{◌≡◌, ℕ, ◌<◌, ◌≤◌, MatchOption, false, List, length, take, slice_index, slice_range};
+ghost use Rattle.std.specs.Prelude.{◌≡◌, ℕ, ◌+◌, ◌<◌, ◌≤◌, MatchOption, false, List, length, min, max, take, slice_index};
 ghost use Rattle.cf_view.specs.Framing.{Begins, IsPartial, BreaksAt, Frames, HasFront, framed_value, IsPrefixFree};
 ghost use Rattle.cf_view.specs.Octets.{IsOctets};
 ghost use Rattle.cf_view.specs.Units.{HasUnits, IsUnitsThenBreak, IsUnitsThenRest};
 ghost use Rattle.cf_view.specs.Places.{EachFollows};
 ghost use Rattle.cf_dnplink.specs.LinkFrame.{FrameValue, frame_value, SpellsFrame, frame_break};
-ghost use Rattle.cf_dnplink.specs.FramePlaces.{SpellsByPlaces, follows, size_of, block_start, block_end, block_sum, checks, crc_octet};
-ghost use Rattle.cf_dnplink.specs.Crc.{crc_of};
+ghost use Rattle.cf_dnplink.specs.FramePlaces.{SpellsByPlaces, IsBlock, IsFirstWrong, follows, size_of};
 
 use crate::check::crc;
 use cf_view::{Break, Framed, View};
@@ -103,114 +102,78 @@ fn size(bytes: &View<'_>) -> usize
     HEADER + user + 2 * ((user + 15) / BLOCK)
 }
 
-/// The first of the first `end` octets that may not follow those before it.
+/// The first of the first `end` octets that may not follow those before it, where no more than the frame's are looked at: the start,
+/// the LENGTH, and then block by block the two octets of its CRC, as no other octet is tested.
 fn first_wrong(bytes: &View<'_>, end: usize) -> Option<usize>
     requires inside { end ≤ length bytes.now.bytes }
-    requires size { end ≤ 300 }
+    requires size { end ≤ size_of bytes.now.bytes }
+    requires most { end ≤ 300 }
     ensures { MatchOption result (EachFollows follows bytes.now.bytes end)
         (λ p. (p < end) × EachFollows follows bytes.now.bytes p
         × (follows (take p bytes.now.bytes) (slice_index bytes.now.bytes p) ≡ false)) }
 {
-    let mut sum = 0;
-    for place in 0..end {
-        if !may_follow(bytes, place, &mut sum) {
+    if let Some(place) = wrong_start(bytes, end) {
+        return Some(place);
+    }
+    if end <= 3 {
+        return None;
+    }
+    if let Some(place) = wrong_sum(bytes, 0, 8, end) {
+        return Some(place);
+    }
+    let user = (bytes.at(2) as usize).saturating_sub(5);
+    let mut block = 0;
+    'blocks: while HEADER + block * BLOCK_WITH_CRC < end {
+        let start = HEADER + block * BLOCK_WITH_CRC;
+        let len = user.saturating_sub(block * BLOCK).min(BLOCK);
+        if let Some(place) = wrong_sum(bytes, start, start + len, end) {
             return Some(place);
         }
+        block += 1;
     }
     None
 }
 
-/// Whether the octet at a place may follow those before it. The CRC of a block is computed at its first octet, and kept for its
-/// second one.
-fn may_follow(bytes: &View<'_>, place: usize, sum: &mut u16) -> bool
-    requires inside { place < length bytes.now.bytes }
-    requires size { place < 300 }
-    requires sum { block_end (slice_index bytes.now.bytes 2) place < place → sum.old ≡ block_sum bytes.now.bytes place }
-    ensures value { result ≡ follows (take place bytes.now.bytes) (slice_index bytes.now.bytes place) }
-    ensures sum { block_end (slice_index bytes.now.bytes 2) place ≤ place → sum.new ≡ block_sum bytes.now.bytes place }
+/// The first of the first three octets, of those before `end`, that may not stand there.
+fn wrong_start(bytes: &View<'_>, end: usize) -> Option<usize>
+    requires inside { end ≤ length bytes.now.bytes }
+    ensures { IsFirstWrong bytes.now.bytes end 3 result }
 {
-    let octet = bytes.at(place);
-    if place == 0 {
-        return octet == 0x05;
+    if end > 0 && bytes.at(0) != 0x05 {
+        return Some(0);
     }
-    if place == 1 {
-        return octet == 0x64;
+    if end > 1 && bytes.at(1) != 0x64 {
+        return Some(1);
     }
-    if place == 2 {
-        return octet >= LEAST_LENGTH;
+    if end > 2 && bytes.at(2) < LEAST_LENGTH {
+        return Some(2);
     }
-    is_checked(bytes, place, octet, sum)
+    None
 }
 
-/// Whether the octet is the one of the CRC, where one stands there.
-fn is_checked(bytes: &View<'_>, place: usize, octet: u8, sum: &mut u16) -> bool
-    requires inside { place < length bytes.now.bytes }
-    requires size { place < 300 }
-    requires past { 2 < place }
-    requires sum { block_end (slice_index bytes.now.bytes 2) place < place → sum.old ≡ block_sum bytes.now.bytes place }
-    ensures value { result ≡ checks (slice_index bytes.now.bytes 2) bytes.now.bytes place octet }
-    ensures sum { block_end (slice_index bytes.now.bytes 2) place ≤ place → sum.new ≡ block_sum bytes.now.bytes place }
+/// The first of the two octets of the CRC of the block from `start` to `stop` that is wrong, of those before `end`.
+fn wrong_sum(bytes: &View<'_>, start: usize, stop: usize, end: usize) -> Option<usize>
+    requires inside { end ≤ length bytes.now.bytes }
+    requires past { (3 ≤ stop) × (3 ≤ end) }
+    requires ordered { start ≤ stop }
+    requires block { IsBlock (slice_index bytes.now.bytes 2) start stop }
+    requires before { EachFollows follows bytes.now.bytes (min end (max 3 start)) }
+    ensures { IsFirstWrong bytes.now.bytes end (stop + 2) result }
 {
-    let start = start_of(place);
-    let end = end_of(bytes.at(2), place);
-    if place < end {
-        return true;
+    if end <= stop {
+        return None;
     }
-    *sum = sum_at(bytes, start, end, place, *sum);
-    octet == octet_of(*sum, place - end)
-}
-
-/// The CRC of the octets of a block: at its first octet, and at the second, where it is known.
-fn sum_at(bytes: &View<'_>, start: usize, end: usize, place: usize, sum: u16) -> u16
-    requires inside { place < length bytes.now.bytes }
-    requires ordered { (start ≤ end) × (end ≤ place) }
-    requires sum { end < place → sum ≡ crc_of (slice_range bytes.now.bytes start end) }
-    ensures { result ≡ crc_of (slice_range bytes.now.bytes start end) }
-{
-    if end < place {
-        sum
-    } else {
-        crc(bytes.sub(start, end))
+    let sum = crc(bytes.sub(start, stop));
+    if bytes.at(stop) != (sum % 256) as u8 {
+        return Some(stop);
     }
-}
-
-/// Where the block begins that a place lies in, or whose CRC does.
-fn start_of(place: usize) -> usize
-    ensures value { result ≡ block_start place }
-    ensures before { result ≤ place }
-{
-    if place < HEADER {
-        0
-    } else {
-        HEADER + (place - HEADER) / BLOCK_WITH_CRC * BLOCK_WITH_CRC
+    if end == stop + 1 {
+        return None;
     }
-}
-
-/// Where the CRC of that block begins.
-fn end_of(len: u8, place: usize) -> usize
-    requires { place < 300 }
-    ensures value { result ≡ block_end len place }
-    ensures after { block_start place ≤ result }
-{
-    if place < HEADER {
-        return 8;
+    if bytes.at(stop + 1) != (sum / 256) as u8 {
+        return Some(stop + 1);
     }
-    let user = (len as usize).saturating_sub(5);
-    start_of(place)
-        + user
-            .saturating_sub((place - HEADER) / BLOCK_WITH_CRC * BLOCK)
-            .min(BLOCK)
-}
-
-/// The octets of a CRC, the low one first.
-fn octet_of(crc: u16, i: usize) -> u8
-    ensures { result ≡ crc_octet crc i }
-{
-    if i == 0 {
-        (crc % 256) as u8
-    } else {
-        (crc / 256) as u8
-    }
+    None
 }
 
 /// The break of an octet at a place.

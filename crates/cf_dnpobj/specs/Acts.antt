@@ -1,8 +1,9 @@
 -- What a request does: `acts`. This project's own reduction to code, group and variation, index and value; the objects are those of
 -- IEEE 1815-2012, annex A.
-use Rattle.std.specs.Prelude.{ℕ, ◌+◌, ◌-◌, ◌*◌, ◌^◌, nat_lt, if◌then◌else◌, List, [], ◌∷◌, map, slice_index, Option, Some, None, Result, Ok}
-use Rattle.std.specs.Prelude.{Err, ℤ, pos, ◌-ℤ◌}
+use Rattle.std.specs.Prelude.{◌≡◌, ℕ, ◌+◌, ◌-◌, ◌*◌, ◌^◌, ◌<◌, ◌≤◌, nat_lt, if◌then◌else◌, List, [], ◌∷◌, map, slice_index, Option, Some, None, Result, Ok}
+use Rattle.std.specs.Prelude.{Err, ℤ, pos, ◌-ℤ◌, drop, get_or, length, slice_get}
 use Rattle.std.specs.List.{flat_map, range_with_len, sum_by}
+use Rattle.cf_dnpobj.specs.declared.marks.Mark.{Mark}
 use Rattle.cf_view.specs.Octets.{u16_le_at, u32_le_at}
 use Rattle.cf_view.specs.declared.Act.{Act}
 use Rattle.cf_dnpobj.specs.declared.fragment.FragmentRefusal.{FragmentRefusal}
@@ -85,3 +86,31 @@ acts f = acts_in f.code (headers_in f.code f.objects)
 abbrev pub summed : ℕ → Result (List (List ℕ)) FragmentRefusal → Result ℕ FragmentRefusal
 summed code (Ok hs) = Ok (sum_by (header_count code) hs)
 summed code (Err e) = Err e
+
+-- where all headers are whole, those from a place on are, and act i is act left of these
+abbrev pub LeavesActs : ℕ → List ℕ → ℕ → ℕ → ℕ → Type 0
+LeavesActs code xs i place left =
+    (headers : List (List ℕ)) → headers_in code xs ≡ Ok headers →
+    (later : List (List ℕ)) × (headers_in code (drop place xs) ≡ Ok later) × (slice_get (flat_map (header_acts code) headers) i ≡ slice_get (flat_map (header_acts code) later) left)
+
+-- so it is with each later act
+abbrev pub LeavesAll : ℕ → List ℕ → ℕ → ℕ → ℕ → Type 0
+LeavesAll code xs i place left = (n : ℕ) → LeavesActs code xs (i + n) place (left + n)
+
+-- a mark at the front of the headers
+abbrev pub first_mark : Mark
+first_mark = record { at = 0; left = 0 }
+
+-- a mark tells where act i stands: behind which headers, and after how many of the acts that follow these
+pub record IsMark (code : ℕ) (xs : List ℕ) (i : ℕ) (m : Mark) : Type 0 where
+  pub inside : m.at ≤ length xs
+  pub small : m.left ≤ i
+  pub leaves : LeavesAll code xs i m.at m.left
+
+-- the first of the marks tell where each sixteenth act stands
+abbrev pub AreMarksTo : ℕ → List ℕ → ℕ → List Mark → Type 0
+AreMarksTo code xs count marks = (j : ℕ) → j < count → IsMark code xs (16 * j) (get_or marks j first_mark)
+
+-- so do all marks of a request
+abbrev pub AreMarks : FragmentValue → List Mark → Type 0
+AreMarks f marks = AreMarksTo f.code f.objects 44 marks

@@ -2,7 +2,7 @@
 ghost use Rattle.std.specs.Prelude.{◌≡◌, ◌≢◌, ◌≤◌, ◌<◌, ◌+◌, ◌^◌, ℕ, List, length, slice_index, slice_get, IfOk, Some, Ok, true};
 ghost use Rattle.std.specs.List.{flat_map};
 ghost use Rattle.cf_dnpobj.specs.Acts.{acts, summed, each, group_of, signed, value_at, value_size, object_place, object_act, plain_act};
-ghost use Rattle.cf_dnpobj.specs.Acts.{header_acts, header_count};
+ghost use Rattle.cf_dnpobj.specs.Acts.{header_acts, header_count, LeavesActs};
 ghost use Rattle.cf_dnpobj.specs.Headers.{headers_in, IsHeader, count_of};
 ghost use Rattle.cf_dnpobj.specs.Objects.{is_command, width};
 ghost use Rattle.cf_dnpobj.specs.Fragment.{fragment_value};
@@ -61,9 +61,18 @@ fn find_act(code: u8, objects: &View<'_>, i: usize) -> Option<Act>
     ensures { (headers : List (List ℕ)) → headers_in code objects.now.bytes ≡ Ok headers
         → result ≡ slice_get (flat_map (header_acts code) headers) i }
 {
+    find_from(code, objects, 0, i)
+}
+
+/// The act that so many stand before, behind the headers that end at a place, if there is one.
+pub fn find_from(code: u8, objects: &View<'_>, from: usize, before: usize) -> Option<Act>
+    requires { from ≤ length objects.now.bytes }
+    ensures { (i : ℕ) (headers : List (List ℕ)) → LeavesActs code objects.now.bytes i from before
+        → headers_in code objects.now.bytes ≡ Ok headers → result ≡ slice_get (flat_map (header_acts code) headers) i }
+{
     let len = objects.len();
-    let mut at = 0;
-    let mut left = i;
+    let mut at = from;
+    let mut left = before;
     while at < len {
         let Ok(header) = first_header(code, &objects.sub(at, len)) else {
             return None;
@@ -79,7 +88,7 @@ fn find_act(code: u8, objects: &View<'_>, i: usize) -> Option<Act>
 }
 
 /// The number of the acts of a header.
-fn header_count(code: u8, header: &View<'_>) -> usize
+pub fn header_count(code: u8, header: &View<'_>) -> usize
     requires { IsHeader code header.now.bytes }
     ensures value { result ≡ header_count code header.now.bytes }
     ensures most { result ≤ 65536 }
@@ -194,7 +203,7 @@ fn group_of(header: &View<'_>) -> u16
 }
 
 /// An act without index and value.
-fn plain_act(code: u8, group: u16) -> Act
+pub fn plain_act(code: u8, group: u16) -> Act
     ensures { result ≡ plain_act code group }
 {
     Act {

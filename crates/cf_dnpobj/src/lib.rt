@@ -5,10 +5,12 @@ mod acts;
 mod fragment;
 mod function;
 mod header;
+mod marks;
 mod object;
 mod reply;
 
 pub use acts::{act_at, act_count};
 pub use fragment::{Fragment, FragmentRefusal, read_fragment, requests_are_spelled};
 pub use function::CONFIRM;
+pub use marks::{Mark, act_by, marks_of};
 pub use reply::{reply_for, wants_reply};

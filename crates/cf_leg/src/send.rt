@@ -102,7 +102,9 @@ pub(crate) fn send_empty<D: Desk>(
     ensures gets { GetsSegments (is_err result) moment (segment way told number no_letters ∷ []) (D.value desk.old) (D.value desk.new) }
     ensures frame { OnlyEmits (D.value desk.old) (D.value desk.new) (is_err result) }
 {
-    send(moment, &segment(way, told, number, &[], false), desk)
+    // It is its headers, and nothing stands behind them.
+    let headers = headers(&segment(way, told, number, &[], false));
+    emit(moment, headers.as_slice(), desk)
 }
 
 /// A place as a number.

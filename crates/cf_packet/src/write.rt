@@ -27,6 +27,7 @@ pub fn write_packet(packet: &Packet<'_>, out: &mut ArrayVec<u8, 1500>)
 
 /// The two headers of a packet without a maximum segment size, 40 octets: what stands before its text where `write_packet`
 /// writes it. So a text that stands in its place already is not copied.
+#[inline(always)]
 pub fn headers(packet: &Packet<'_>) -> ArrayVec<u8, 40>
     requires writable { IsWritable (packet_value packet.now) }
     requires bare { packet.now.mss ≡ None }
@@ -50,6 +51,7 @@ fn write(packet: &Packet<'_>, out: &mut ArrayVec<u8, 1500>)
     push_bytes(out, packet.text);
 }
 
+#[inline(always)]
 fn push_header<const N: usize>(packet: &Packet<'_>, out: &mut ArrayVec<u8, N>)
     requires room { array_vec_len out.old + 20 ≤ N }
     requires writable { IsWritable (packet_value packet.now) }
@@ -67,6 +69,7 @@ fn push_header<const N: usize>(packet: &Packet<'_>, out: &mut ArrayVec<u8, N>)
     push_u32_be(out, packet.dest.address);
 }
 
+#[inline(always)]
 fn push_segment_header<const N: usize>(packet: &Packet<'_>, out: &mut ArrayVec<u8, N>)
     requires room { array_vec_len out.old + (20 + 4 * option_words packet.now.mss) ≤ N }
     requires writable { IsWritable (packet_value packet.now) }

@@ -10,6 +10,7 @@ mod Headline
 mod Isolating
 mod Isolation
 mod Items
+mod Joined
 pub mod Matched
 mod OutputFiles
 mod Packets

@@ -1,10 +1,10 @@
-use Rattle.std.specs.Prelude.{◌≡◌, ◌<◌, slice_index}
+use Rattle.std.proofs.Common.{◌+◌, ◌*◌, ◌-◌, ◌≤◌, min}
 use Rattle.cf_view.specs.Places.{EachFollows}
-use Rattle.cf_dnplink.specs.FramePlaces.{block_end, block_sum, follows}
+use Rattle.cf_dnplink.specs.FramePlaces.{follows}
 use Rattle.cf_dnplink.proofs.frame.first_wrong.Given as goal
 
-abbrev pub invariant-loop-place : goal.invariant-loop-place
-invariant-loop-place l = record {
-  right : EachFollows follows l.bytes.bytes l.place;
-  sum : block_end (slice_index l.bytes.bytes 2) l.place < l.place → l.sum ≡ block_sum l.bytes.bytes l.place;
-}
+abbrev pub invariant-blocks-2 : goal.invariant-blocks-2
+invariant-blocks-2 l = EachFollows follows l.bytes.bytes (min l.end (10 + l.block * 18)) × (l.block ≤ 17)
+
+abbrev pub decreases-blocks-2 : goal.decreases-blocks-2
+decreases-blocks-2 l = l.end - l.block * 18

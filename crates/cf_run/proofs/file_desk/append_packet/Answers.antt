@@ -1,29 +1,15 @@
-use Rattle.std.proofs.Common.{◌++◌, ◌∙◌, List, arith, subst, ℕ}
-use Rattle.cf_outside.proofs.Content.{appends_both, appends_first}
+use Rattle.std.proofs.Common.{◌++◌, List, subst, ℕ}
 use Rattle.cf_outside.specs.Files.{Appends}
-use Rattle.cf_outside.specs.declared.files.WriteAnswer.TheVariants as write
 use Rattle.cf_run.proofs.file_desk.append_packet.Goals as goal
 
-pub returns-in-Done-clause-file : goal.returns-in-Done-clause-file
-returns-in-Done-clause-file g c =
+pub returns-then-packet-le-SHORT_PACKET-clause-file : goal.returns-then-packet-le-SHORT_PACKET-clause-file
+returns-then-packet-le-SHORT_PACKET-clause-file g c =
     let name = c.args.name.now in
     let content = g.F.Files.content in
-    subst (λ (head : List ℕ). Appends (head ++ c.args.packet.now) (content c.args.files.now name) (content c.append-in-Done.new.self name) c.append-in-Done.result) c.record_head-head.ensures.octets
-    (appends_both (content c.args.files.now name) (content c.append.new.self name) (content c.append-in-Done.new.self name) c.record_head-head.result c.args.packet.now c.append-in-Done.result c.in-Done.ensures.file c.append-in-Done.ensures.file)
+    subst (λ (head : List ℕ). Appends (head ++ c.args.packet.now) (content c.args.files.now name) (content c.append_joined.new.files name) c.append_joined.result) c.record_head-head.ensures.octets c.append_joined.ensures.file
 
-pub returns-in-Done-clause-writes : goal.returns-in-Done-clause-writes
-returns-in-Done-clause-writes g c = record {
-  others = λ other none. c.append-in-Done.ensures.others other none.0 ∙ c.in-Done.ensures.others other none.0;
-  cause = record {
-    later = omega (arith, c.in-Done.ensures.cause.later, c.append-in-Done.ensures.cause.later);
-    rose = λ failed. omega (arith, c.in-Done.ensures.cause.later, c.append-in-Done.ensures.cause.rose failed);
-  };
-  reads = c.append-in-Done.ensures.reads ∙ c.in-Done.ensures.reads;
-}
-
-pub returns-in-Failed-clause-file : goal.returns-in-Failed-clause-file
-returns-in-Failed-clause-file g c =
+pub returns-else-packet-le-SHORT_PACKET-clause-file : goal.returns-else-packet-le-SHORT_PACKET-clause-file
+returns-else-packet-le-SHORT_PACKET-clause-file g c =
     let name = c.args.name.now in
     let content = g.F.Files.content in
-    subst (λ (head : List ℕ). Appends (head ++ c.args.packet.now) (content c.args.files.now name) (content c.append.new.self name) write.Failed) c.record_head-head.ensures.octets
-    (appends_first (content c.args.files.now name) (content c.append.new.self name) c.record_head-head.result c.args.packet.now c.in-Failed.ensures.file)
+    subst (λ (head : List ℕ). Appends (head ++ c.args.packet.now) (content c.args.files.now name) (content c.append_parts.new.files name) c.append_parts.result) c.record_head-head.ensures.octets c.append_parts.ensures.file
