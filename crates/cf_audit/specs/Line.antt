@@ -15,11 +15,13 @@ use Rattle.cf_audit.specs.declared.line.Line.{Line}
 pub data WhatValue : Type 0 where
   Begun : WhatValue
   Refuse : (rule : List ℕ) (reason : Reason) (act : Act) (replied : Bool) (unit : List ℕ) → WhatValue
+  Admit : (rule : List ℕ) (act : Act) (unit : List ℕ) → WhatValue
   Stray : Side → Why → WhatValue
   Partial : Side → (count : ℕ) → WhatValue
   Close : (admitted refused : ℕ) → WhatValue
   Cut : CutReason → WhatValue
-  Listen Full Unreached : WhatValue
+  Listen Full Unreached Gone : WhatValue
+  Stranger : (came : ℕ) → WhatValue
   Lost Silent : (admitted refused : ℕ) → WhatValue
   NoMemory : WhatValue
 
@@ -34,6 +36,7 @@ pub record LineValue : Type 0 where
 abbrev pub what_value : What → WhatValue
 what_value what.Begun = Begun
 what_value (what.Refuse rule reason act replied unit) = Refuse rule.now reason act replied unit.bytes
+what_value (what.Admit rule act unit) = Admit rule.now act unit.bytes
 what_value (what.Stray side why) = Stray side why
 what_value (what.Partial side count) = Partial side count
 what_value (what.Close admitted refused) = Close admitted refused
@@ -41,6 +44,8 @@ what_value (what.Cut reason) = Cut reason
 what_value what.Listen = Listen
 what_value what.Full = Full
 what_value what.Unreached = Unreached
+what_value what.Gone = Gone
+what_value (what.Stranger came) = Stranger came
 what_value (what.Lost admitted refused) = Lost admitted refused
 what_value (what.Silent admitted refused) = Silent admitted refused
 what_value what.NoMemory = NoMemory
@@ -52,6 +57,7 @@ line_value line = record { moment = line.moment; client = line.client; asset = l
 abbrev pub HasShortRule : WhatValue → Type 0
 HasShortRule Begun = Unit {0}
 HasShortRule (Refuse rule reason act replied unit) = length rule ≤ NAME_LIMIT
+HasShortRule (Admit rule act unit) = length rule ≤ NAME_LIMIT
 HasShortRule (Stray side why) = Unit {0}
 HasShortRule (Partial side count) = Unit {0}
 HasShortRule (Close admitted refused) = Unit {0}
@@ -59,6 +65,8 @@ HasShortRule (Cut reason) = Unit {0}
 HasShortRule Listen = Unit {0}
 HasShortRule Full = Unit {0}
 HasShortRule Unreached = Unit {0}
+HasShortRule Gone = Unit {0}
+HasShortRule (Stranger came) = Unit {0}
 HasShortRule (Lost admitted refused) = Unit {0}
 HasShortRule (Silent admitted refused) = Unit {0}
 HasShortRule NoMemory = Unit {0}

@@ -4,8 +4,9 @@ use Rattle.std.specs.Fmt.{signed_decimal}
 use Rattle.hex.specs.Hex.{encode_lower}
 use Rattle.cf_view.specs.Text.{endpoint_text, moment_text}
 use Rattle.cf_view.specs.declared.Act.{Act}
+use Rattle.cf_audit.specs.Line.{Admit}
 use Rattle.cf_audit.specs.Line.{LineValue, WhatValue, Begun, Refuse, Stray, Partial, Close, Cut, Listen, Full, Unreached, Lost, Silent}
-use Rattle.cf_audit.specs.Line.{NoMemory}
+use Rattle.cf_audit.specs.Line.{Gone, NoMemory, Stranger}
 use Rattle.cf_audit.specs.Names.{side_name, reason_name, why_name, break_name, mark}
 use Rattle.cf_audit.specs.declared.line.CutReason.{CutReason}
 use Rattle.cf_audit.specs.declared.line.CutReason.TheVariants as cut
@@ -38,12 +39,17 @@ cut_text cut.ResetByController = codes "controller reset"
 abbrev pub counts_text : (admitted refused : ℕ) → List ℕ
 counts_text admitted refused = codes " admitted " ++ decimal admitted ++ codes " refused " ++ decimal refused
 
+-- how many clients came
+abbrev pub came_text : (came : ℕ) → List ℕ
+came_text came = codes " came " ++ decimal came
+
 -- what happened
 abbrev pub what_text : WhatValue → List ℕ
 what_text Begun = codes "open"
 what_text (Refuse rule reason act replied unit) =
     codes "refuse " ++ rule ++ codes " " ++ reason_name reason ++ act_text act ++ codes " " ++ mark replied ++ codes " "
     ++ encode_lower (take 16 unit)
+what_text (Admit rule act unit) = codes "admit " ++ rule ++ act_text act ++ codes " " ++ encode_lower (take 16 unit)
 what_text (Stray side why) = codes "stray " ++ side_name side ++ codes " " ++ why_name why
 what_text (Partial side count) = codes "partial " ++ side_name side ++ codes " " ++ decimal count
 what_text (Close admitted refused) = codes "close" ++ counts_text admitted refused
@@ -51,6 +57,8 @@ what_text (Cut reason) = codes "cut " ++ cut_text reason
 what_text Listen = codes "listen"
 what_text Full = codes "full"
 what_text Unreached = codes "unreached"
+what_text Gone = codes "gone"
+what_text (Stranger came) = codes "stranger" ++ came_text came
 what_text (Lost admitted refused) = codes "lost" ++ counts_text admitted refused
 what_text (Silent admitted refused) = codes "silent" ++ counts_text admitted refused
 what_text NoMemory = codes "nomemory"

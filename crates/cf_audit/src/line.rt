@@ -66,6 +66,15 @@ pub enum What<'a> {
         /// The ADU, fragment or APDU as it was received.
         unit: View<'a>,
     },
+    /// A command was admitted by a rule whose commands are written to the log.
+    Admit {
+        /// The name of the rule; at most `NAME_LIMIT` bytes.
+        rule: &'a str,
+        /// The first act that the rule allowed.
+        act: Act,
+        /// The ADU, fragment or APDU as it was received.
+        unit: View<'a>,
+    },
     /// A DNP3 frame, segment or fragment was dropped.
     Stray {
         side: Side,
@@ -89,6 +98,12 @@ pub enum What<'a> {
     Full,
     /// A client came and its controller took no connection.
     Unreached,
+    /// A client came and had gone before its controller was reached.
+    Gone,
+    /// A client came that no rule of the asset names, and was closed; so many such came since the last line of this kind.
+    Stranger {
+        came: u64,
+    },
     /// A connection of a session failed, with the session's numbers of commands.
     Lost {
         admitted: u64,

@@ -2,9 +2,9 @@
 ghost use Rattle.std.specs.Prelude.{◌≡◌, ◌+◌, ◌≤◌, ◌++◌, length};
 ghost use Rattle.arrayvec.specs.ArrayString.{array_string_len};
 ghost use Rattle.cf_audit.specs.declared.line.TheConstants.{NAME_LIMIT};
-ghost use Rattle.cf_audit.specs.Line.{HasShortNames, HasShortRule, Refuse, line_value, what_value};
+ghost use Rattle.cf_audit.specs.Line.{Admit, HasShortNames, HasShortRule, Refuse, line_value, what_value};
 ghost use Rattle.cf_audit.specs.Names.{break_name, mark, reason_name, side_name, why_name};
-ghost use Rattle.cf_audit.specs.Text.{act_text, counts_text, cut_text, line_text, what_text};
+ghost use Rattle.cf_audit.specs.Text.{act_text, came_text, counts_text, cut_text, line_text, what_text};
 
 use crate::line::{CutReason, Line, What, Why};
 use arrayvec::ArrayString;
@@ -169,6 +169,19 @@ fn push_refusal<const N: usize>(
     push_hex(out, unit);
 }
 
+fn push_admission<const N: usize>(out: &mut ArrayString<N>, rule: &str, act: &Act, unit: &View<'_>)
+    requires name { length rule.now ≤ NAME_LIMIT }
+    requires room { array_string_len out.old + 159 ≤ N }
+    ensures bytes { out.new.bytes ≡ out.old.bytes ++ what_text (Admit rule.now act.now unit.now.bytes) }
+    ensures short { array_string_len out.new ≤ array_string_len out.old + 159 }
+{
+    out.push_str("admit ");
+    out.push_str(rule);
+    push_act(out, act);
+    out.push_str(" ");
+    push_hex(out, unit);
+}
+
 fn push_counts<const N: usize>(out: &mut ArrayString<N>, admitted: u64, refused: u64)
     requires { array_string_len out.old + 59 ≤ N }
     ensures bytes { out.new.bytes ≡ out.old.bytes ++ counts_text admitted refused }
@@ -178,6 +191,15 @@ fn push_counts<const N: usize>(out: &mut ArrayString<N>, admitted: u64, refused:
     push_number(out, admitted);
     out.push_str(" refused ");
     push_number(out, refused);
+}
+
+fn push_came<const N: usize>(out: &mut ArrayString<N>, came: u64)
+    requires { array_string_len out.old + 59 ≤ N }
+    ensures bytes { out.new.bytes ≡ out.old.bytes ++ came_text came }
+    ensures short { array_string_len out.new ≤ array_string_len out.old + 59 }
+{
+    out.push_str(" came ");
+    push_number(out, came);
 }
 
 fn push_what<const N: usize>(out: &mut ArrayString<N>, what: &What<'_>)
@@ -195,6 +217,7 @@ fn push_what<const N: usize>(out: &mut ArrayString<N>, what: &What<'_>)
             replied,
             unit,
         } => push_refusal(out, rule, *reason, act, *replied, unit),
+        What::Admit { rule, act, unit } => push_admission(out, rule, act, unit),
         What::Stray { side, why } => {
             out.push_str("stray ");
             out.push_str(side_word(*side));
@@ -218,6 +241,11 @@ fn push_what<const N: usize>(out: &mut ArrayString<N>, what: &What<'_>)
         What::Listen => out.push_str("listen"),
         What::Full => out.push_str("full"),
         What::Unreached => out.push_str("unreached"),
+        What::Gone => out.push_str("gone"),
+        What::Stranger { came } => {
+            out.push_str("stranger");
+            push_came(out, *came);
+        }
         What::Lost { admitted, refused } => {
             out.push_str("lost");
             push_counts(out, *admitted, *refused);

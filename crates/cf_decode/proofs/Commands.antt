@@ -17,6 +17,7 @@ use Rattle.cf_lane.proofs.Commands.{admits_what_is_allowed, from_allowed, to_all
 use Rattle.cf_lane.specs.Acts.{act_of_code, by_refusal, fate_of_acts}
 use Rattle.cf_lane.specs.Dnp3.{answer_now, fate_of_frame, fate_of_fragment, fate_of_read, fate_of_segment, is_data, is_none, segments_of, stray_of, whole_now}
 use Rattle.cf_lane.specs.Fate.{HasFate, HasItemFate, HaveFates, IsOfCommand}
+use Rattle.cf_lane.specs.declared.fate.Admission.{Admission}
 use Rattle.cf_lane.specs.Iec104.{asdu_in, asdu_refused, fate_by_form, fate_of_apdu, fate_of_asdu, or_cut}
 use Rattle.cf_lane.specs.Item.{Item, Took}
 use Rattle.cf_lane.specs.Judged.{Judged, is_admitted, place_of}
@@ -57,7 +58,7 @@ module _ (asset : Asset) (says : Says) where
   of_command c (fate.Refused x) is to from = inr (refl, λ a. cc (from a))
   of_command c _ is to from = absurd is
 
-  by_acts : (used : List Bool) (x : Option Refusal) → IsOfCommand (by_refusal used x)
+  by_acts : (used : Admission) (x : Option Refusal) → IsOfCommand (by_refusal used x)
   by_acts used None = tt
   by_acts used (Some x) = tt
 
@@ -68,7 +69,7 @@ module _ (asset : Asset) (says : Says) where
   adu_fate : (a : AduValue) (f : Fate) → HasCommandFate asset says a f → IsOfCommand f
   adu_fate a f (of_other_station station is) = subst IsOfCommand (sym is) tt
   adu_fate a f (of_no_form station x reads is) = subst IsOfCommand (sym is) tt
-  adu_fate a f (of_its_acts station r reads is) = subst IsOfCommand (sym is) (by_acts (policy.used_by (rated asset.rules) says (request_acts r)) (policy.first_refusal says (request_acts r)))
+  adu_fate a f (of_its_acts station r reads is) = subst IsOfCommand (sym is) (by_acts (policy.admission asset says (request_acts r)) (policy.first_refusal says (request_acts r)))
 
   by_adu : (a : AduValue) (f : Fate) → HasCommandFate asset says a f → Decides (OfModbus a ∷ []) f
   by_adu a f has = let same = admits_what_is_allowed asset says a f has in of_command (OfModbus a) f (adu_fate a f has) same.0 same.1
@@ -85,7 +86,7 @@ module _ (asset : Asset) (says : Says) where
     by_form (Some x) is long station = refused (OfIec104 asdu) (why_refused decider.Form (refusal_reason x) 0) (λ a. (let f = a.form in cc (is, f)))
     by_form None is long station =
         let list = asdus.acts (asdu_in asdu) in
-        of_command (OfIec104 asdu) (fate_of_acts asset says list) (by_acts (policy.used_by (rated asset.rules) says list) (policy.first_refusal says list))
+        of_command (OfIec104 asdu) (fate_of_acts asset says list) (by_acts (policy.admission asset says list) (policy.first_refusal says list))
         (λ e. record { whole = long; station = station; form = sym is; each = to_allowed asset says list e })
         (λ a. from_allowed asset says list a.each)
 
@@ -123,7 +124,7 @@ module _ (asset : Asset) (says : Says) where
       Decides (if b then [] else OfDnp3 octets ∷ []) (if b then fate.Carried else fate_of_acts asset says (fragments.acts v))
   by_code octets v is true = (refl, refl)
   by_code octets v is false =
-      of_command (OfDnp3 octets) (fate_of_acts asset says (fragments.acts v)) (by_acts (policy.used_by (rated asset.rules) says (fragments.acts v)) (policy.first_refusal says (fragments.acts v)))
+      of_command (OfDnp3 octets) (fate_of_acts asset says (fragments.acts v)) (by_acts (policy.admission asset says (fragments.acts v)) (policy.first_refusal says (fragments.acts v)))
       (λ e. record { value = v; form = is; each = to_allowed asset says (fragments.acts v) e })
       (λ a. (let same : v ≡ a.value = (let f = a.form in cc (is, f)) in
       ap (λ w. is_admitted (fate_of_acts asset says (fragments.acts w))) same ∙ from_allowed asset says (fragments.acts a.value) a.each))

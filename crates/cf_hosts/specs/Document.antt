@@ -1,5 +1,5 @@
 -- The policy of a world: made_policy. It is this project's own: an asset a protocol, of which the rule `ok` allows ten points.
-use Rattle.std.specs.Prelude.{List, None, Ok, [], codes, pos, ℕ, ◌*◌, ◌+◌, ◌∷◌, ◌≡◌}
+use Rattle.std.specs.Prelude.{List, None, Ok, [], codes, pos, ℕ, ◌*◌, ◌+◌, ◌∷◌, ◌≡◌, false}
 use Rattle.cf_view.specs.declared.base.Endpoint.{Endpoint}
 use Rattle.cf_policy.specs.declared.policy.Action.TheVariants.{Allow}
 use Rattle.cf_policy.specs.declared.policy.Asset.{Asset}
@@ -25,6 +25,7 @@ ok_rule codes_of groups points = record {
   points = points;
   values = [];
   rate = None;
+  log = false;
 }
 
 -- the controller 10.2.0.N at a port

@@ -1,5 +1,5 @@
 -- The moments of the items by which a history goes on.
-use Rattle.std.proofs.Common.{◌≡◌, ℕ, zero, suc, Bool, true, false, List, [], ◌∷◌, ◌++◌, map, refl, sym, ap, ◌∙◌, subst}
+use Rattle.std.proofs.Common.{◌≡◌, ℕ, zero, suc, Bool, true, false, None, Option, Some, List, [], ◌∷◌, ◌++◌, map, refl, sym, ap, ◌∙◌, subst}
 use Rattle.std.specs.List.{AllByRecursion}
 use Rattle.cf_lane.proofs.Earlier.{in_turn-append}
 use Rattle.cf_lane.proofs.Growth.{further, items_split}
@@ -9,9 +9,10 @@ use Rattle.cf_lane.specs.Follows.{AreJudged}
 use Rattle.cf_lane.specs.History.{Element}
 use Rattle.cf_lane.specs.Item.{AreItems, Broke, Ended, Item, Placed, Took, placed}
 use Rattle.cf_lane.specs.Judged.{Judged, place_of}
-use Rattle.cf_lane.specs.Log.{command_octets, end_lines, has_unfinished, is_some_bytes, item_lines, line_about, lines, refusal_line, unit_lines}
+use Rattle.cf_lane.specs.Log.{admission_line, command_octets, end_lines, has_unfinished, is_some_bytes, item_lines, line_about, lines, refusal_line, shown_lines, unit_lines}
 use Rattle.cf_lane.specs.Output.{output}
 use Rattle.cf_lane.specs.declared.fate.Fate.{Fate}
+use Rattle.cf_lane.specs.declared.fate.Shown.{Shown}
 use Rattle.cf_lane.specs.declared.fate.Fate.TheVariants as fate
 use Rattle.cf_audit.specs.Line.{Partial, Stray, WhatValue}
 use Rattle.cf_policy.specs.declared.Asset.{Asset}
@@ -50,9 +51,14 @@ module _ (now : ℕ) where
     abbrev pub AreAbout : List (List ℕ) → Type 0
     AreAbout lines = AllByRecursion IsAbout lines
 
+    shown_about : (octets : List ℕ) (shown : Option Shown) → AreAbout (shown_lines asset client now octets shown)
+    shown_about octets None = tt
+    shown_about octets (Some shown) = ((admission_line asset shown octets, refl), tt)
+
     unit_about : (replied : Bool) (s : Side) (octets : List ℕ) (f : Fate) → AreAbout (unit_lines asset client now replied s octets f)
     unit_about replied s octets (fate.Refused refusal) = ((refusal_line asset refusal replied octets, refl), tt)
     unit_about replied s octets (fate.Stray because) = ((Stray s because, refl), tt)
+    unit_about replied s octets (fate.Admitted admitted) = shown_about octets admitted.shown
     unit_about replied s octets _ = tt
 
     end_about : (s : Side) (unfinished : Bool) (rest : ℕ) → AreAbout (end_lines asset client now s unfinished rest)

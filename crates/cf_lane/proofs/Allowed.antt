@@ -13,7 +13,8 @@ use Rattle.cf_dnptrans.specs.Transport.{last_fragment}
 use Rattle.cf_dnptrans.specs.declared.assembly.SegmentAnswer.{SegmentAnswer}
 use Rattle.cf_dnplink.specs.UserOctets.{user_of}
 use Rattle.cf_lane.proofs.Commands.{admits_what_is_allowed, from_allowed, never_carried, to_allowed}
-use Rattle.cf_lane.specs.Acts.{act_of_code, by_refusal, fate_of_acts, used_by}
+use Rattle.cf_lane.specs.Acts.{act_of_code, admission, by_refusal, fate_of_acts}
+use Rattle.cf_lane.specs.declared.fate.Admission.{Admission}
 use Rattle.cf_lane.specs.Dnp3.{answer_now, fate_of_frame, fate_of_fragment, fate_of_read, fate_of_segment, fragment_frames, fragment_in, frame_output, is_data, is_none, segments_of, stray_of, whole_now}
 use Rattle.cf_lane.specs.Fate.{HasItemFate, HaveFates}
 use Rattle.cf_lane.specs.Iec104.{ack_octets, ack_output, apdu_output, asdu_in, asdu_refused, fate_by_form, fate_of_apdu, fate_of_asdu, or_cut, stamped}
@@ -81,14 +82,14 @@ module _ (asset : Asset) (says : Says) where
     refused_asdu : (x : Refusal) → (IsAllowedAsdu asset says asdu → ⊥) → Asdu (fate.Refused x)
     refused_asdu x n = inr (n, (more, refl, r))
 
-    by_acts : (used : List Bool) (x : Option Refusal) → (is_admitted (by_refusal used x) ≡ true → IsAllowedAsdu asset says asdu) → (IsAllowedAsdu asset says asdu → is_admitted (by_refusal used x) ≡ true) → Asdu (by_refusal used x)
+    by_acts : (used : Admission) (x : Option Refusal) → (is_admitted (by_refusal used x) ≡ true → IsAllowedAsdu asset says asdu) → (IsAllowedAsdu asset says asdu → is_admitted (by_refusal used x) ≡ true) → Asdu (by_refusal used x)
     by_acts used None to from = inl (to refl, (more, refl, r))
     by_acts used (Some x) to from = refused_asdu x (λ a. cc (from a))
 
     by_form : (o : Option AsduRefusal) → o ≡ first_refusal (asdu_in asdu) → 9 ≤ length asdu → station_of asdu ≡ asset.station → Asdu (fate_by_form asset says asdu o)
     by_form (Some x) is long station = refused_asdu (why_refused decider.Form (refusal_reason x) 0) (λ a. (let f = a.form in cc (is, f)))
     by_form None is long station =
-        by_acts (used_by (rated asset.rules) says (asdus.acts (asdu_in asdu))) (policy.first_refusal says (asdus.acts (asdu_in asdu)))
+        by_acts (admission asset says (asdus.acts (asdu_in asdu))) (policy.first_refusal says (asdus.acts (asdu_in asdu)))
         (λ e. record { whole = long; station = station; form = sym is; each = to_allowed asset says (asdus.acts (asdu_in asdu)) e })
         (λ a. from_allowed asset says (asdus.acts (asdu_in asdu)) a.each)
 
@@ -125,7 +126,7 @@ module _ (asset : Asset) (says : Says) where
     abbrev out : Fate → List (List ℕ) → List ℕ
     out f whole = flat_map frames (if goes_on f then whole else [])
 
-    by_fragment_acts : (octets : List ℕ) (v : FragmentValue) → read_octets octets ≡ Ok v → (used : List Bool) (x : Option Refusal) → (is_admitted (by_refusal used x) ≡ true → AreAllowed says (fragments.acts v)) →
+    by_fragment_acts : (octets : List ℕ) (v : FragmentValue) → read_octets octets ≡ Ok v → (used : Admission) (x : Option Refusal) → (is_admitted (by_refusal used x) ≡ true → AreAllowed says (fragments.acts v)) →
         (AreAllowed says (fragments.acts v) → is_admitted (by_refusal used x) ≡ true) →
         Goes (IsAllowedFragment asset says octets) (frames octets) [] Rest (out (by_refusal used x) (octets ∷ []) ++ more)
     by_fragment_acts octets v is used None to from =
@@ -141,7 +142,7 @@ module _ (asset : Asset) (says : Says) where
         CommandGoes b asset says earlier octets Rest (out (if b then fate.Carried else fate_of_acts asset says (fragments.acts v)) (octets ∷ []) ++ more)
     by_code octets v is true = leave (frames octets) (frames octets ++ []) more Rest (append-nil (frames octets)) r
     by_code octets v is false =
-        by_fragment_acts octets v is (used_by (rated asset.rules) says (fragments.acts v)) (policy.first_refusal says (fragments.acts v)) (to_allowed asset says (fragments.acts v)) (from_allowed asset says (fragments.acts v))
+        by_fragment_acts octets v is (admission asset says (fragments.acts v)) (policy.first_refusal says (fragments.acts v)) (to_allowed asset says (fragments.acts v)) (from_allowed asset says (fragments.acts v))
 
     by_read : (octets : List ℕ) (code : ℕ) (rd : Result FragmentValue FragmentRefusal) → read_octets octets ≡ rd →
         CommandGoes (confirms rd) asset says earlier octets Rest (out (fate_of_read asset says code rd) (octets ∷ []) ++ more)

@@ -1,5 +1,4 @@
 -- One APDU among the items: `apdu_handled`.
-use Rattle.cf_lane.proofs.Fronts.{misses_front}
 use Rattle.cf_lane.proofs.Saying.{says_same}
 use Rattle.cf_lane.specs.Rates.{Says}
 use Rattle.cf_lane.specs.Rings.{IsRulesOf, RulesGoOn, says_by}
@@ -82,15 +81,21 @@ module _ (asset : Asset) (iec104 : asset.protocol ≡ protocol.Iec104) (client :
   pub apdu_misses : (log : Option (List (List ℕ))) (part : List ℕ) →
       MissesApdu asset (says_by asset client.address rules moment) client moment s a (numbered before old.to_client old.to_controller old.lines) log part →
       MissesOf asset client rules moment s bytes (wire.Iec104 before) old log part
-  apdu_misses log part m admitted refused =
-      let new = outlets m.new.to_client m.new.to_controller m.new.lines in
-      misses_front asset moment s bytes n m.fate (lane_at client rules (wire.Iec104 before) admitted refused old)
-      (lane_at client rules (wire.Iec104 m.new.numbers) admitted refused new)
-      (apdu_front m.fate m.new.numbers new m.takes admitted refused) m.unadmitted m.uncut m.more
-      (λ earlier uncut knows.
-      append-nil (unit_lines asset client moment (is_some_bytes (apdu_output side.Client earlier m.fate s a)) s (spelling a) m.fate)
-      ∙ m.are_more earlier (knows.wire uncut) knows.client_ended)
-      log part m.line
+  apdu_misses log part m admitted refused = record {
+    used = n;
+    unit = Apdu a;
+    begins = begins_by (apdus asset.protocol iec104) bytes a n b;
+    fate = m.fate;
+    uncut = m.uncut;
+    has = λ earlier uncut knows.
+        subst (λ (x : Says). m.fate ≡ fate_of_apdu asset x s earlier a) (says_same asset client.address rules earlier moment of knows.rules)
+        (m.takes earlier (knows.wire uncut) knows.client_ended).fate;
+    more = m.more;
+    are_more = λ earlier uncut knows.
+        append-nil (unit_lines asset client moment (is_some_bytes (apdu_output side.Client earlier m.fate s a)) s (spelling a) m.fate)
+        ∙ m.are_more earlier (knows.wire uncut) knows.client_ended;
+    line = m.line;
+  }
 
 -- what a step takes no more of than twice its octets
 pub letters_by : (cut : Option CutReason) (n : ℕ) → unless_cut_by cut n ≤ 2 * letters_in (step_by cut n)

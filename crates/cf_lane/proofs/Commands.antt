@@ -2,7 +2,8 @@
 use Rattle.std.proofs.lemmas.List.FromFn.{get_or-map-range_with_len, length-map-range_with_len}
 use Rattle.cf_lane.specs.Judged.{is_admitted}
 use Rattle.cf_lane.specs.Rates.{Says, rated}
-use Rattle.cf_lane.specs.Acts.{by_refusal, fate_of_acts, first_refusal, is_by, refusal_or, used_by}
+use Rattle.cf_lane.specs.declared.fate.Admission.{Admission}
+use Rattle.cf_lane.specs.Acts.{admission, by_refusal, fate_of_acts, first_refusal, is_by, refusal_or, used_by}
 use Rattle.cf_lane.specs.Passes.{IsAllowedCommand}
 use Rattle.cf_lane.specs.Modbus.{HasCommandFate, of_its_acts, of_no_form, of_other_station}
 use Rattle.cf_lane.specs.declared.fate.Fate.{Fate}
@@ -38,14 +39,14 @@ module _ (says : Says) (list : List Act) (i : ℕ) (act : Act) (here : slice_get
       ∙ sym (ap (first_refusal says) (drop_at list i act here)) ∙ before
 
   -- the first act that is not allowed decides
-  pub refused_at : (used : List Bool) (d : Decider) (why : Reason) → verdict.Refuse d why ≡ says act →
+  pub refused_at : (used : Admission) (d : Decider) (why : Reason) → verdict.Refuse d why ≡ says act →
       fate.Refused (record { decider = d; reason = why; act = act }) ≡ by_refusal used (first_refusal says list)
   refused_at used d why refuses =
       ap (λ v. by_refusal used (refusal_or act v (first_refusal says (drop (i + 1) list)))) refuses
       ∙ ap (by_refusal used) (sym (ap (first_refusal says) (drop_at list i act here)) ∙ before)
 
 -- where no act refused up to the end, all are admitted
-pub admitted_at_end : (says : Says) (list : List Act) (i : ℕ) (used : List Bool) → length list ≤ i → first_refusal says (drop i list) ≡ first_refusal says list →
+pub admitted_at_end : (says : Says) (list : List Act) (i : ℕ) (used : Admission) → length list ≤ i → first_refusal says (drop i list) ≡ first_refusal says list →
     fate.Admitted used ≡ by_refusal used (first_refusal says list)
 admitted_at_end says list i used past before = ap (by_refusal used) (ap (first_refusal says) (sym (drop_all i list past)) ∙ before)
 
@@ -71,7 +72,7 @@ all_used all says list i used past size marks =
 
 -- ---- admitted commands
 
-none_refused : (used : List Bool) (x : Option Refusal) → is_admitted (by_refusal used x) ≡ true → x ≡ None
+none_refused : (used : Admission) (x : Option Refusal) → is_admitted (by_refusal used x) ≡ true → x ≡ None
 none_refused used None e = refl
 none_refused used (Some x) e = cc
 
@@ -94,10 +95,10 @@ no_refusal says (act ∷ list) all = first_allowed act (says act) (first_refusal
 
 -- a command is admitted exactly where each act is allowed
 pub to_allowed : (asset : Asset) (says : Says) (list : List Act) → is_admitted (fate_of_acts asset says list) ≡ true → AllByRecursion (λ act. IsAllowed (says act)) list
-to_allowed asset says list e = each_allowed says list (none_refused (used_by (rated asset.rules) says list) (first_refusal says list) e)
+to_allowed asset says list e = each_allowed says list (none_refused (admission asset says list) (first_refusal says list) e)
 
 pub from_allowed : (asset : Asset) (says : Says) (list : List Act) → AllByRecursion (λ act. IsAllowed (says act)) list → is_admitted (fate_of_acts asset says list) ≡ true
-from_allowed asset says list all = ap (λ x. is_admitted (by_refusal (used_by (rated asset.rules) says list) x)) (no_refusal says list all)
+from_allowed asset says list all = ap (λ x. is_admitted (by_refusal (admission asset says list) x)) (no_refusal says list all)
 
 pub admits_what_is_allowed : (asset : Asset) (says : Says) (a : AduValue) (f : Fate) → HasCommandFate asset says a f → (is_admitted f ≡ true) ↔ IsAllowedCommand asset says a
 admits_what_is_allowed asset says a f (of_other_station station is) = (λ e. cc (e, ap is_admitted is), λ allowed. absurd (station allowed.station))
@@ -112,14 +113,14 @@ admits_what_is_allowed asset says a f (of_its_acts station r reads is) = (
 )
 
 -- a command is never carried
-pub no_carried : (used : List Bool) (x : Option Refusal) → fate.Carried ≡ by_refusal used x → ⊥
+pub no_carried : (used : Admission) (x : Option Refusal) → fate.Carried ≡ by_refusal used x → ⊥
 no_carried used None e = cc
 no_carried used (Some r) e = cc
 
 pub never_carried : (asset : Asset) (says : Says) (a : AduValue) → HasCommandFate asset says a fate.Carried → ⊥
 never_carried asset says a (of_other_station station is) = cc
 never_carried asset says a (of_no_form station refusal reads is) = cc
-never_carried asset says a (of_its_acts station r reads is) = no_carried (used_by (rated asset.rules) says (acts r)) (first_refusal says (acts r)) is
+never_carried asset says a (of_its_acts station r reads is) = no_carried (admission asset says (acts r)) (first_refusal says (acts r)) is
 
 pub has_one_fate : (asset : Asset) (says : Says) (a : AduValue) (f g : Fate) → HasCommandFate asset says a f → HasCommandFate asset says a g → f ≡ g
 has_one_fate asset says a f g (of_other_station other is) (of_other_station _ e) = is ∙ sym e

@@ -1,6 +1,7 @@
 -- Laws of the fates of DNP3 fragments.
 use Rattle.cf_lane.specs.Rates.{Says, rated, said, unless_spent}
-use Rattle.cf_lane.specs.Acts.{by_refusal, fate_of_acts, first_refusal, refusal_or, used_by}
+use Rattle.cf_lane.specs.declared.fate.Admission.{Admission}
+use Rattle.cf_lane.specs.Acts.{admission, by_refusal, fate_of_acts, first_refusal, refusal_or}
 use Rattle.cf_lane.specs.Dnp3.{IsOfFragment}
 use Rattle.cf_policy.specs.Verdict.{by_rule, decided, default_reason, first_rule, has_function, has_point, is_allow, is_empty, rule_reason, verdict_of}
 use Rattle.cf_policy.specs.declared.Action.{Action}
@@ -57,14 +58,14 @@ module _ (asset : Asset) (client : ℕ) (spent : ℕ → Bool) where
   abbrev says : Says
   says act = said spent (verdict_of asset client act)
 
-  by_verdict : (used : List Bool) (act : Act) (acts : List Act) → IsOfFragment (by_refusal used (first_refusal says acts)) → (v : Verdict) → v ≡ says act →
+  by_verdict : (used : Admission) (act : Act) (acts : List Act) → IsOfFragment (by_refusal used (first_refusal says acts)) → (v : Verdict) → v ≡ says act →
       IsOfFragment (by_refusal used (refusal_or act v (first_refusal says acts)))
   by_verdict used act acts later (verdict.Allow n) is = later
   by_verdict used act acts later (verdict.Refuse d why) is = never_said spent (verdict_of asset client act) d why (λ d why e. never_station asset client act d why e) is
 
-  by_first : (used : List Bool) (acts : List Act) → IsOfFragment (by_refusal used (first_refusal says acts))
+  by_first : (used : Admission) (acts : List Act) → IsOfFragment (by_refusal used (first_refusal says acts))
   by_first used [] = tt
   by_first used (act ∷ acts) = by_verdict used act acts (by_first used acts) (says act) refl
 
   pub never_station_of : (acts : List Act) → IsOfFragment (fate_of_acts asset (λ act. said spent (verdict_of asset client act)) acts)
-  never_station_of acts = by_first (used_by (rated asset.rules) says acts) acts
+  never_station_of acts = by_first (admission asset says acts) acts

@@ -15,7 +15,7 @@ use Rattle.cf_lane.proofs.Sides.{at_both, if_none, other_side, same_side, side_k
 use Rattle.cf_dnpobj.specs.Acts.{acts}
 use Rattle.cf_dnpobj.specs.Fragment.{FragmentValue, read_octets}
 use Rattle.cf_dnpobj.specs.declared.fragment.FragmentRefusal.{FragmentRefusal}
-use Rattle.cf_lane.specs.Acts.{by_refusal, fate_of_acts, first_refusal, used_by}
+use Rattle.cf_lane.specs.Acts.{admission, by_refusal, fate_of_acts, first_refusal}
 use Rattle.cf_lane.specs.declared.fate.Refusal.{Refusal}
 use Rattle.cf_lane.specs.Dnp3.{answer_now, data_octets, fate_of_fragment, fate_of_frame, fate_of_read, fate_of_segment, fragment_frames, fragment_in, frame_fragment, frame_octets, frame_output, frames_at, is_data, segment_in, segments_into, segments_of, stray_of, whole_now}
 use Rattle.cf_lane.specs.Fragments.{AddsSegment, DoesFrame, MissesFrame, MissesSegment, Parts, TakesFrame, TakesSegment, completed_by, counted, data_lines, frames_exist, parts}
@@ -27,6 +27,7 @@ use Rattle.cf_lane.specs.Kept.{KnowsFragments, of_side}
 use Rattle.cf_lane.specs.Log.{is_some_bytes, line_about, unit_lines, with_lines}
 use Rattle.cf_lane.specs.Output.{other}
 use Rattle.cf_lane.specs.Unit.{Frame, frame_spelling}
+use Rattle.cf_lane.specs.declared.fate.Admission.{Admission}
 use Rattle.cf_lane.specs.declared.fate.Fate.{Fate}
 use Rattle.cf_lane.specs.declared.wire.Fragments.{Fragments}
 use Rattle.cf_outq.specs.SendQueue.{after_push}
@@ -100,7 +101,6 @@ pub misses_stray : (asset : Asset) (says : Says) (client : Endpoint) (moment : �
 unfolding takes_stray
 misses_stray asset says client moment s x because stray old log part line = record {
   fate = fate.Stray because;
-  unadmitted = refl;
   new = parts old.fragments old.to_client old.to_controller (with_lines old.lines (line_about asset client moment (Stray s because) ∷ []));
   takes = takes_stray asset says client moment s x because stray old
       (parts old.fragments old.to_client old.to_controller (with_lines old.lines (line_about asset client moment (Stray s because) ∷ []))) refl refl refl refl;
@@ -123,14 +123,14 @@ all_frames_mod asset to n [] = refl
 all_frames_mod asset to n (octets ∷ fragments) = rw (frames_mod asset to n octets, all_frames_mod asset to n fragments) refl
 
 -- no fragment cuts
-no_cut_refusal : (used : List Bool) (o : Option Refusal) → fate_cut (by_refusal used o) ≡ None
+no_cut_refusal : (used : Admission) (o : Option Refusal) → fate_cut (by_refusal used o) ≡ None
 no_cut_refusal used None = refl
 no_cut_refusal used (Some r) = refl
 
 no_cut_read : (asset : Asset) (says : Says) (code : ℕ) (r : Result FragmentValue FragmentRefusal) → fate_cut (fate_of_read asset says code r) ≡ None
 no_cut_read asset says code (Ok f) =
     cond_both (nat_eq f.code 0) fate.Carried (fate_of_acts asset says (acts f)) (λ g. fate_cut g ≡ None) (λ _. refl)
-    (λ _. no_cut_refusal (used_by (rated asset.rules) says (acts f)) (first_refusal says (acts f)))
+    (λ _. no_cut_refusal (admission asset says (acts f)) (first_refusal says (acts f)))
 no_cut_read asset says code (Err e) = refl
 
 no_cut_fragment : (asset : Asset) (says : Says) (s : Side) (octets : List ℕ) → fate_cut (fate_of_fragment asset says s octets) ≡ None
@@ -269,7 +269,6 @@ pub misses_data : (asset : Asset) (says : Says) (client : Endpoint) (moment : �
 unfolding takes_data
 misses_data asset says client moment s x served data_ answer was old log part adds m = record {
   fate = m.fate;
-  unadmitted = m.unadmitted;
   new = m.new;
   takes = takes_data asset says client moment s x served data_ answer m.fate was old m.new adds m.takes;
   line = m.line;

@@ -1,5 +1,4 @@
 -- What becomes of a segment, and of the fragment that it completes.
-use Rattle.cf_lane.specs.Judged.{is_admitted}
 use Rattle.cf_lane.specs.Rates.{Says}
 use Rattle.cf_audit.specs.Line.{Stray}
 use Rattle.cf_audit.specs.declared.line.Why.{Why}
@@ -8,6 +7,7 @@ use Rattle.cf_dnptrans.specs.declared.assembly.DropReason.{DropReason}
 use Rattle.cf_lane.specs.Kept.{of_side}
 use Rattle.cf_dnpobj.specs.Fragment.{wants_reply}
 use Rattle.cf_dnpobj.specs.Reply.{reply}
+use Rattle.cf_dnptrans.specs.Segments.{count_of}
 use Rattle.cf_dnptrans.specs.declared.assembly.SegmentAnswer.{SegmentAnswer}
 use Rattle.cf_lane.proofs.Handling.{push-nothing}
 use Rattle.cf_lane.proofs.Recutting.{frames_most, frames_some}
@@ -16,8 +16,9 @@ use Rattle.cf_lane.proofs.Taking.{grows_push, room_less}
 use Rattle.cf_lane.specs.Dnp3.{drop_why, fate_of_fragment, fate_of_segment, fragment_reply, frame_fragment, frames_at}
 use Rattle.cf_lane.specs.Fragments.{MissesSegment, Parts, Sends, TakesSegment, counted, data_lines, frames_exist, completed_by, parts, recut_most}
 use Rattle.cf_lane.specs.Handled.{Grows, HasRoom, MayHaveMore}
-use Rattle.cf_lane.specs.Log.{is_some_bytes, line_about, refusal_line, with_lines}
+use Rattle.cf_lane.specs.Log.{admission_lines, is_some_bytes, line_about, refusal_line, with_lines}
 use Rattle.cf_lane.specs.declared.fate.Fate.{Fate}
+use Rattle.cf_lane.specs.declared.fate.Admission.{Admission}
 use Rattle.cf_lane.specs.declared.fate.Refusal.{Refusal}
 use Rattle.cf_lane.specs.declared.wire.Fragments.{Fragments}
 use Rattle.cf_outq.specs.SendQueue.{Queue, after_push}
@@ -67,9 +68,9 @@ module _ (asset : Asset) (says : Says) (client : Endpoint) (moment : ℕ) (s : S
     lines = text;
   }
 
-  pub misses_quietly : is_admitted f ≡ false → (log : Option (List (List ℕ))) (part : List ℕ) → MayHaveMore (data_lines asset client moment s f whole old.fragments.to_client old.to_client) old.lines log part →
+  pub misses_quietly : (log : Option (List (List ℕ))) (part : List ℕ) → MayHaveMore (data_lines asset client moment s f whole old.fragments.to_client old.to_client) old.lines log part →
       MissesSegment asset says client moment s answer whole old log part
-  misses_quietly unadmitted log part line = record { fate = f; unadmitted = unadmitted; new = _; takes = takes_quietly _ refl; line = line }
+  misses_quietly log part line = record { fate = f; new = _; takes = takes_quietly _ refl; line = line }
 
 -- the fate of a fragment by its length
 pub fate_short : (asset : Asset) (says : Says) (s : Side) (octets : List ℕ) → length octets < 2 → fate.Stray why.Short ≡ fate_of_segment asset says s answers.Whole (octets ∷ [])
@@ -108,7 +109,6 @@ module _ (asset : Asset) (says : Says) (client : Endpoint) (moment : ℕ) (octet
       MissesSegment asset says client moment side.Client answers.Whole (octets ∷ []) old log part
   misses_reply replied log part told line = record {
     fate = fate.Refused r;
-    unadmitted = refl;
     new = parts after_reply queue old.to_controller
         (with_lines old.lines (data_lines asset client moment side.Client (fate.Refused r) (octets ∷ []) old.fragments.to_client old.to_client));
     takes = record {
@@ -125,13 +125,59 @@ module _ (asset : Asset) (says : Says) (client : Endpoint) (moment : ℕ) (octet
         line;
   }
 
+-- one fragment goes into a stream
+pub sends_one : (asset : Asset) (to : Side) (octets : List ℕ) (sequence next : ℕ) (q new : Queue) → q.ended ≡ false → next ≡ (sequence + count_of (length octets)) % 64 →
+    new ≡ after_push q (frames_at asset to sequence octets) → Sends asset to (octets ∷ []) sequence q next new
+sends_one asset to octets sequence next q new goes n put = record {
+  put = put ∙ ap (after_push q) (sym (append-nil (frames_at asset to sequence octets)));
+  next_is = (let e : count_of (length octets) ≡ counted (octets ∷ []) = omega arith in n ∙ ap (λ k. (sequence + k) % 64) e);
+  quiet = λ e. cc (e, goes);
+}
+
+-- an admitted fragment goes on, and may have its line
+module _ (asset : Asset) (says : Says) (client : Endpoint) (moment : ℕ) (octets : List ℕ) (used : Admission) (old : Parts) (sequence : ℕ) (queue : Queue) where
+  abbrev after_sent : Fragments
+  after_sent = record { client = old.fragments.client; controller = old.fragments.controller; to_client = old.fragments.to_client; to_controller = sequence }
+
+  abbrev own_lines : List (List ℕ)
+  own_lines = admission_lines asset client moment octets used
+
+  nothing_back : (b : Bool) → frame_fragment side.Client b side.Client (fate.Admitted used) (octets ∷ []) ≡ []
+  nothing_back true = refl
+  nothing_back false = refl
+
+  lines_same : own_lines ≡ data_lines asset client moment side.Client (fate.Admitted used) (octets ∷ []) old.fragments.to_client old.to_client
+  lines_same = ap (λ xs. admission_lines asset client moment xs used) (sym (append-nil octets))
+
+  pub takes_admitted : (lines : Option (List (List ℕ))) → fate.Admitted used ≡ fate_of_segment asset says side.Client answers.Whole (octets ∷ []) → old.fragments.to_client < 64 →
+      Sends asset side.Controller (octets ∷ []) old.fragments.to_controller old.to_controller sequence queue → lines ≡ with_lines old.lines own_lines →
+      TakesSegment asset says client moment side.Client answers.Whole (octets ∷ []) (fate.Admitted used) old (parts after_sent old.to_client queue lines)
+  takes_admitted lines is room sends text = record {
+    fate = is;
+    client_part = refl;
+    controller_part = refl;
+    to_client = sends_nothing asset side.Client _ old.fragments.to_client old.to_client room (nothing_back old.to_client.ended);
+    to_controller = sends;
+    lines = text ∙ ap (with_lines old.lines) lines_same;
+  }
+
+  pub misses_admitted : (log : Option (List (List ℕ))) (part : List ℕ) → fate.Admitted used ≡ fate_of_segment asset says side.Client answers.Whole (octets ∷ []) → old.fragments.to_client < 64 →
+      Sends asset side.Controller (octets ∷ []) old.fragments.to_controller old.to_controller sequence queue → MayHaveMore own_lines old.lines log part →
+      MissesSegment asset says client moment side.Client answers.Whole (octets ∷ []) old log part
+  misses_admitted log part is room sends line = record {
+    fate = fate.Admitted used;
+    new = parts after_sent old.to_client queue (with_lines old.lines own_lines);
+    takes = takes_admitted (with_lines old.lines own_lines) is room sends refl;
+    line = subst (λ m. MayHaveMore m old.lines log part) lines_same line;
+  }
+
 -- a segment that is dropped, but for its line
 pub misses_dropped : (asset : Asset) (says : Says) (client : Endpoint) (moment : ℕ) (s : Side) (answer : SegmentAnswer) (because : DropReason) (v : AssemblyValue) (old : Parts) →
     old.fragments.to_client < 64 → old.fragments.to_controller < 64 → answer ≡ answers.Dropped because → (log : Option (List (List ℕ))) (part : List ℕ) (told : Why) → told ≡ drop_why because →
     MayHaveMore (line_about asset client moment (Stray s told) ∷ []) old.lines log part → MissesSegment asset says client moment s answer (completed_by answer v) old log part
 misses_dropped asset says client moment s answer because v old m n is log part told why_is line =
     subst (λ a. MissesSegment asset says client moment s a (completed_by a v) old log part) (sym is)
-    (misses_quietly asset says client moment s (answers.Dropped because) [] (fate.Stray (drop_why because)) old refl (λ to. stray_fragment to s old.to_client.ended (drop_why because) []) m n refl log part
+    (misses_quietly asset says client moment s (answers.Dropped because) [] (fate.Stray (drop_why because)) old refl (λ to. stray_fragment to s old.to_client.ended (drop_why because) []) m n log part
     (subst (λ w. MayHaveMore (line_about asset client moment (Stray s w) ∷ []) old.lines log part) why_is line))
 
 -- what was said of the controller's fragment, of the side that it is

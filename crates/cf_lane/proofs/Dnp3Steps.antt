@@ -1,6 +1,5 @@
 -- What a step of a lane of DNP3 leads to.
 use Rattle.cf_lane.specs.declared.rules.Rules.{Rules}
-use Rattle.cf_lane.proofs.Fronts.{misses_front}
 use Rattle.cf_lane.proofs.Saying.{says_same}
 use Rattle.cf_lane.specs.Rates.{Says}
 use Rattle.cf_lane.specs.Rings.{IsRulesOf, RulesGoOn, says_by}
@@ -87,12 +86,18 @@ module _ (asset : Asset) (dnp3 : asset.protocol ≡ protocol.Dnp3) (client : End
   pub frame_misses : (log : Option (List (List ℕ))) (part : List ℕ) →
       MissesFrame asset (says_by asset client.address rules moment) client moment s x (parts before old.to_client old.to_controller old.lines) log part →
       MissesOf asset client rules moment s bytes (wire.Dnp3 before) old log part
-  frame_misses log part m admitted refused =
-      let new = outlets m.new.to_client m.new.to_controller m.new.lines in
-      misses_front asset moment s bytes n m.fate (lane_at client rules (wire.Dnp3 before) admitted refused old)
-      (lane_at client rules (wire.Dnp3 m.new.fragments) admitted refused new)
-      (frame_front m.fate m.new.fragments new m.takes admitted refused) m.unadmitted m.takes.uncut m.takes.more
-      (λ earlier uncut knows.
-      append-nil (unit_lines asset client moment (is_some_bytes (frame_output asset side.Client earlier (judged moment (Took s (Frame x)) m.fate) s x)) s (frame_octets asset earlier s x) m.fate)
-      ∙ m.takes.are_more earlier (knows.wire uncut) knows.client_ended)
-      log part m.line
+  frame_misses log part m admitted refused = record {
+    used = n;
+    unit = Frame x;
+    begins = begins_by (frames asset.protocol dnp3) bytes x n b;
+    fate = m.fate;
+    uncut = m.takes.uncut;
+    has = λ earlier uncut knows.
+        subst (λ (y : Says). m.fate ≡ fate_of_frame asset y s earlier x (stray_of asset s x)) (says_same asset client.address rules earlier moment of knows.rules)
+        (m.takes.does earlier (knows.wire uncut) knows.client_ended).fate;
+    more = m.takes.more;
+    are_more = λ earlier uncut knows.
+        append-nil (unit_lines asset client moment (is_some_bytes (frame_output asset side.Client earlier (judged moment (Took s (Frame x)) m.fate) s x)) s (frame_octets asset earlier s x) m.fate)
+        ∙ m.takes.are_more earlier (knows.wire uncut) knows.client_ended;
+    line = m.line;
+  }

@@ -1,8 +1,7 @@
 -- What stands at the front of a side's bytes, once the lane has counted it: `steps_counted` and `misses_front`.
 use Rattle.cf_audit.specs.declared.line.CutReason.{CutReason}
-use Rattle.cf_lane.proofs.Saying.{lane_on, rules_stay}
-use Rattle.cf_lane.specs.Handled.{Counts, CountsBy, CountsFront, Fronts, FrontsOf, Grows, HasLines, IsLaneOf, LaneValue, MayHaveMore, Misses, Outlets, State, Steps, TakesUncounted, TakesUnit, debt, judged, lane_at, letters_in, most_counted, state, step_at, step_by, taken_in}
-use Rattle.cf_lane.specs.Item.{Took}
+use Rattle.cf_lane.proofs.Saying.{lane_on}
+use Rattle.cf_lane.specs.Handled.{Counts, CountsBy, CountsFront, Fronts, FrontsOf, Grows, IsLaneOf, LaneValue, Outlets, State, Steps, TakesUncounted, TakesUnit, debt, lane_at, letters_in, most_counted, state, step_at, step_by, taken_in}
 use Rattle.cf_lane.specs.Judged.{fate_cut, is_admitted, is_refused, one_if}
 use Rattle.cf_lane.specs.Kept.{AreFragments, IsWireOf, wire_debt}
 use Rattle.cf_lane.specs.Rings.{IsRulesOf}
@@ -23,20 +22,6 @@ use Rattle.cf_lane.specs.declared.fate.Fate.TheVariants as fates
 use Rattle.cf_view.specs.declared.base.Framed.TheVariants as framed
 use Rattle.cf_lane.specs.declared.wire.Wire.TheVariants as wire
 use Rattle.cf_policy.specs.declared.Protocol.TheVariants as protocol
-
--- a lane that counted an item of this fate, which used no rule
-counted : Fate → LaneValue → LaneValue
-counted f lane = record lane { admitted = lane.admitted + one_if (is_admitted f); refused = lane.refused + one_if (is_refused f) }
-
-counts_unadmitted : (f : Fate) (moment : ℕ) (lane : LaneValue) → is_admitted f ≡ false → Counts f moment lane (counted f lane)
-unfolding counted
-counts_unadmitted f moment lane unadmitted = record {
-  client = refl;
-  admitted = refl;
-  refused = refl;
-  rules = rules_stay f moment lane.rules lane.rules unadmitted refl;
-  wire = refl;
-}
 
 module _ (asset : Asset) (moment : ℕ) (s : Side) (bytes : List ℕ) (n : ℕ) (f : Fate) (old mid : State) (t : TakesUncounted asset moment s bytes n f old mid) where
   abbrev takes_by : (lane : LaneValue) → Counts f moment mid.lane lane → (cut : Option CutReason) → fate_cut f ≡ cut →
@@ -60,18 +45,6 @@ module _ (asset : Asset) (moment : ℕ) (s : Side) (bytes : List ℕ) (n : ℕ) 
       Steps asset moment s bytes old (state lane mid.to_client mid.to_controller mid.lines) st
   steps_front lane counts st is =
       subst (Steps asset moment s bytes old (state lane mid.to_client mid.to_controller mid.lines)) (sym is) (steps_by lane counts (fate_cut f) refl)
-
-  -- one that was taken but for its line
-  pub misses_front : is_admitted f ≡ false → fate_cut f ≡ None → (more : List (List ℕ)) → HasLines asset old (judged moment (Took s t.unit) f) more →
-      (log : Option (List (List ℕ))) (part : List ℕ) → MayHaveMore more old.lines log part → Misses asset moment s bytes old log part
-  misses_front unadmitted uncut more are_more log part line = record {
-    used = n;
-    new = state (counted f mid.lane) mid.to_client mid.to_controller mid.lines;
-    takes = takes_by (counted f mid.lane) (counts_unadmitted f moment mid.lane unadmitted) None uncut;
-    more = more;
-    are_more = are_more;
-    line = line;
-  }
 
 -- how much of a unit goes on
 letters_most : (cut : Option CutReason) (n : ℕ) → letters_in (step_by cut n) ≤ n

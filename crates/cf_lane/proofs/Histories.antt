@@ -6,8 +6,9 @@ use Rattle.cf_lane.proofs.Earlier.{cut_of-append, first_none, in_turn-append}
 use Rattle.cf_lane.proofs.Handling.{count-more, ended-more, fates-append, handled_more, push-nothing, with_lines-both, with_lines-nothing}
 use Rattle.cf_lane.proofs.Pieces.{covers_rest, starts_join, starts_within, units_pieces}
 use Rattle.cf_lane.proofs.Sides.{own_bytes}
-use Rattle.cf_lane.specs.Fate.{HaveFates}
 use Rattle.cf_lane.specs.Follows.{AddsTo, AreJudged, AreRests, Began, BeganWithin, FailsApart, FailsWithin, Follows, DropsBehindCut, GoesOnAfter, IsRest, Rests, no_rests, over, rest_of, with_rest}
+use Rattle.cf_lane.specs.Fate.{HasFate, HaveFates}
+use Rattle.cf_lane.specs.declared.fate.Fate.{Fate}
 use Rattle.cf_lane.specs.Handled.{Breaks, Does, Handled, Knows, LaneValue, Misses, State, TakesUnit, judged, state}
 use Rattle.cf_lane.specs.History.{Element, bytes_at, bytes_in, bytes_of, end_at, is_side, letters_at}
 use Rattle.cf_lane.specs.Item.{AreItems, Broke, Completes, Placed, Took, last_items, placed}
@@ -217,11 +218,21 @@ module _ (asset : Asset) (h : List Element) (rests : Rests) (first : Option (Lis
         ∙ ap (λ c. with_lines first (lines asset c [] (before ++ js))) (sym client);
   }
 
-  pub fed_began : (fore later : List Judged) (log : Option (List (List ℕ))) (part : List ℕ) (k : ℕ) → js ≡ fore ++ later →
-      log ≡ with_lines old.lines (lines asset old.lane.client before fore) → part ≡ take k (concat (lines asset old.lane.client (before ++ fore) later)) →
-      Began asset old.lane.client (h ++ e ∷ []) first log part
-  fed_began fore later log part k parts is begins =
-      began_by asset old.lane.client (h ++ e ∷ []) first old.lines log part before js fore later k are_judged_now parts f.of_lines is begins
+-- the judged items with those of a piece, by their fates alone
+pub judged_by : (asset : Asset) (h : List Element) (rests : Rests) (first : Option (List (List ℕ))) (moment : ℕ) (s : Side) (piece bytes : List ℕ) (ended : Bool) (old : State) →
+    bytes ≡ rest_of s rests ++ piece → (f : Follows asset h rests None first old) → (units : List UnitValue) (tail : Tail) → AreUnits asset.protocol bytes units tail →
+    (js : List Judged) (dropped : List Placed) → map (placed moment) (map (Took s) units ++ last_items s ended tail) ≡ map place_of js ++ dropped →
+    DropsBehindCut js dropped → HaveFates asset old.lane.client.address f.judged js →
+    AreJudged asset old.lane.client.address (h ++ letters_at moment s piece ended ∷ []) (f.judged ++ js)
+judged_by asset h rests first moment s piece bytes ended old is f units tail are js dropped are_js goes fates =
+    let e : Element = letters_at moment s piece ended in
+    let before = rest_by asset.protocol h rests s f.are_rests in
+    let now : AreUnits asset.protocol (bytes_of s (h ++ e ∷ [])) (before.units ++ units) tail =
+    subst (λ xs. AreUnits asset.protocol xs (before.units ++ units) tail) (sym (bytes_own h e))
+    (units_pieces asset.protocol before.units units (bytes_of s h) (rest_of s rests) piece tail before.cut (subst (λ xs. AreUnits asset.protocol xs units tail) is are)) in
+    let completes : Completes asset.protocol h e (map (placed moment) (map (Took s) units ++ last_items s ended tail)) =
+    record { before = before.units; was = Left (rest_of s rests); more = units; tail = tail; were = before.cut; are = now; is_items = refl } in
+    judged_more asset old.lane.client.address h e f.judged js (map (placed moment) (map (Took s) units ++ last_items s ended tail)) dropped f.are_judged f.is_cut completes are_js goes fates
 
 -- what is known of earlier items does not read the log
 pub knows_over : (asset : Asset) (own : Option (List (List ℕ))) (s : State) (earlier : List Judged) → Knows asset (over own s) earlier → Knows asset s earlier
@@ -249,6 +260,19 @@ pub record Along (asset : Asset) (moment : ℕ) (s : Side) (bytes : List ℕ) (u
   pub uncut : cut_of js ≡ None
   pub handled : Handled asset js old now
 
+-- one unit more at the front of bytes
+pub starts_more : (p : Protocol) (units : List UnitValue) (unit : UnitValue) (bytes : List ℕ) (at used : ℕ) → BeginsWithUnits (SpellsUnit p) units bytes (drop at bytes) →
+    Begins (SpellsUnit p) (drop at bytes) unit used → BeginsWithUnits (SpellsUnit p) (units ++ unit ∷ []) bytes (drop (at + used) bytes)
+starts_more p units unit bytes at used starts begins =
+    subst (λ rest. BeginsWithUnits (SpellsUnit p) (units ++ unit ∷ []) bytes rest) (drop-drop used at bytes) (begins_with_more (SpellsUnit p) units unit bytes (drop at bytes) used starts begins)
+
+pub are_more : (moment : ℕ) (s : Side) (units : List UnitValue) (unit : UnitValue) (js : List Judged) (f : Fate) → map place_of js ≡ map (placed moment) (map (Took s) units) →
+    map place_of (js ++ judged moment (Took s unit) f ∷ []) ≡ map (placed moment) (map (Took s) (units ++ unit ∷ []))
+are_more moment s units unit js f are =
+    map-append place_of js (judged moment (Took s unit) f ∷ []) ∙ ap (λ xs. xs ++ placed moment (Took s unit) ∷ []) are
+    ∙ sym (map-append (placed moment) (map (Took s) units) (Took s unit ∷ []))
+    ∙ ap (map (placed moment)) (sym (map-append (Took s) units (unit ∷ [])))
+
 abbrev pub along_more : (asset : Asset) (moment : ℕ) (s : Side) (bytes : List ℕ) (at used : ℕ) (old now new : State) → Along asset moment s bytes at old now →
     TakesUnit asset moment s (drop at bytes) used None now new → Along asset moment s bytes (at + used) old new
 along_more asset moment s bytes at used old now new a t =
@@ -256,11 +280,8 @@ along_more asset moment s bytes at used old now new a t =
     record {
       units = a.units ++ t.unit ∷ [];
       js = a.js ++ j ∷ [];
-      starts = subst (λ rest. BeginsWithUnits (SpellsUnit asset.protocol) (a.units ++ t.unit ∷ []) bytes rest) (drop-drop used at bytes)
-          (begins_with_more (SpellsUnit asset.protocol) a.units t.unit bytes (drop at bytes) used a.starts t.begins);
-      are_js = map-append place_of a.js (j ∷ []) ∙ ap (λ xs. xs ++ placed moment (Took s t.unit) ∷ []) a.are_js
-          ∙ sym (map-append (placed moment) (map (Took s) a.units) (Took s t.unit ∷ []))
-          ∙ ap (map (placed moment)) (sym (map-append (Took s) a.units (t.unit ∷ [])));
+      starts = starts_more asset.protocol a.units t.unit bytes at used a.starts t.begins;
+      are_js = are_more moment s a.units t.unit a.js t.fate a.are_js;
       uncut = cut_of-append a.js (j ∷ []) a.uncut ∙ ap (λ c. option_or c None) t.is_cut;
       handled = handled_more asset a.js (j ∷ []) old now new a.uncut a.handled t.handled;
     }
@@ -352,20 +373,19 @@ module _ (asset : Asset) (h : List Element) (rests : Rests) (first own : Option 
 -- the line of a unit failed
 module _ (asset : Asset) (free : IsPrefixFree (SpellsUnit asset.protocol)) (nothing : IsPartial (SpellsUnit asset.protocol) []) (moment : ℕ) (s : Side) (bytes : List ℕ) (used : ℕ)
     (old mid : State) (log : Option (List (List ℕ))) (part : List ℕ) (a : Along asset moment s bytes used old mid) (m : Misses asset moment s (drop used bytes) mid log part) where
-  abbrev reached : Along asset moment s bytes (used + m.used) old m.new
-  reached = along_more asset moment s bytes used m.used old mid m.new a m.takes
-
   abbrev one : Judged
-  one = judged moment (Took s m.takes.unit) m.takes.fate
+  one = judged moment (Took s m.unit) m.fate
 
   pub fails_apart : FailsApart asset moment s bytes old log part
   fails_apart h rests first own piece is f =
       let rest = rest_of s rests in
       let n = used + m.used in
-      let units = a.units ++ m.takes.unit ∷ [] in
+      let units = a.units ++ m.unit ∷ [] in
+      let js = a.js ++ one ∷ [] in
+      let starts = starts_more asset.protocol a.units m.unit bytes used m.used a.starts m.begins in
       let P : List ℕ → Type 0 = λ xs. BeginsWithUnits (SpellsUnit asset.protocol) units xs (drop n xs) in
       let before = rest_by asset.protocol h rests s f.are_rests in
-      let covers = covers_rest (SpellsUnit asset.protocol) free a.units m.takes.unit rest piece n before.cut.partial (subst P is reached.starts) in
+      let covers = covers_rest (SpellsUnit asset.protocol) free a.units m.unit rest piece n before.cut.partial (subst P is starts) in
       let k = n - length rest in
       let front = take k piece in
       let whole : take n bytes ≡ rest ++ front =
@@ -374,24 +394,24 @@ module _ (asset : Asset) (free : IsPrefixFree (SpellsUnit asset.protocol)) (noth
       ∙ ap (λ xs. rest ++ take k xs) (drop-append_seam rest piece) in
       let Q : List ℕ → Type 0 = λ xs. BeginsWithUnits (SpellsUnit asset.protocol) units xs (drop n bytes) in
       let are : AreUnits asset.protocol (take n bytes) units (Left []) = record {
-        starts = starts_within (SpellsUnit asset.protocol) units (take n bytes) (drop n bytes) (subst Q (sym (take-append-drop n bytes)) reached.starts);
+        starts = starts_within (SpellsUnit asset.protocol) units (take n bytes) (drop n bytes) (subst Q (sym (take-append-drop n bytes)) starts);
         partial = nothing;
       } in
-      let are_js : map (placed moment) (map (Took s) units ++ []) ≡ map place_of (a.js ++ one ∷ []) ++ [] =
-      ap (map (placed moment)) (append-nil (map (Took s) units)) ∙ sym reached.are_js ∙ sym (append-nil (map place_of (a.js ++ one ∷ []))) in
-      let goes = goes_none (a.js ++ one ∷ []) reached.uncut in
+      let are_js : map (placed moment) (map (Took s) units ++ []) ≡ map place_of js ++ [] =
+      ap (map (placed moment)) (append-nil (map (Took s) units)) ∙ sym (are_more moment s a.units m.unit a.js m.fate a.are_js) ∙ sym (append-nil (map place_of js)) in
+      let goes = goes_none js (cut_of-append a.js (one ∷ []) a.uncut ∙ ap (λ c. option_or c None) m.uncut) in
       let knows = knows_over asset own old f.judged f.knows in
       let does = a.handled.does f.judged f.is_cut knows in
-      let both = reached.handled.does f.judged f.is_cut knows in
       let uncut = cut_of-append f.judged a.js f.is_cut ∙ a.uncut in
+      let fated = subst (λ (c : Endpoint). HasFate asset c.address (f.judged ++ a.js) (place_of one) m.fate) a.handled.client (m.has (f.judged ++ a.js) uncut does.knows) in
+      let fates = fates-append asset old.lane.client.address f.judged a.js (one ∷ []) does.fates (fated, tt) in
       let some = lines asset old.lane.client f.judged a.js in
-      let every = lines asset old.lane.client f.judged (a.js ++ one ∷ []) in
+      let every = lines asset old.lane.client f.judged js in
       let more : lines asset old.lane.client (f.judged ++ a.js) (one ∷ []) ≡ m.more =
       ap (λ c. lines asset c (f.judged ++ a.js) (one ∷ [])) (sym a.handled.client) ∙ m.are_more (f.judged ++ a.js) uncut does.knows in
       let last : some ++ m.more ≡ every =
       ap (λ xs. some ++ xs) (sym more) ∙ sym (in_turn-append (λ b j. item_lines asset old.lane.client b j j.item) f.judged a.js (one ∷ [])) in
-      let new = over (with_lines own every) m.new in
-      let does' = does_over asset own f.judged (a.js ++ one ∷ []) old m.new both in
+      let judged_now = judged_by asset h rests first moment s front (take n bytes) false (over own old) whole f units (Left []) are js [] are_js goes fates in
       elim m.line [
         | inl none ↦ record {
           more = some;
@@ -400,8 +420,8 @@ module _ (asset : Asset) (free : IsPrefixFree (SpellsUnit asset.protocol)) (noth
             handled = front;
             rest = drop k piece;
             piece_is = sym (take-append-drop k piece);
-            began = fed_began asset h rests first moment s front (take n bytes) false (over own old) new whole f units (Left []) are (a.js ++ one ∷ []) [] are_js goes reached.handled.client does'
-                a.js (one ∷ []) (with_lines own some) part none.1.0 refl refl (none.1.1 ∙ ap (λ xs. take none.1.0 (concat xs)) (sym more));
+            began = began_by asset old.lane.client (h ++ bytes_at moment s front ∷ []) first own (with_lines own some) part f.judged js a.js (one ∷ []) none.1.0
+                judged_now refl f.of_lines refl (none.1.1 ∙ ap (λ xs. take none.1.0 (concat xs)) (sym more));
           };
         }
         | inr all ↦ record {
@@ -411,8 +431,8 @@ module _ (asset : Asset) (free : IsPrefixFree (SpellsUnit asset.protocol)) (noth
             handled = front;
             rest = drop k piece;
             piece_is = sym (take-append-drop k piece);
-            began = fed_began asset h rests first moment s front (take n bytes) false (over own old) new whole f units (Left []) are (a.js ++ one ∷ []) [] are_js goes reached.handled.client does'
-                (a.js ++ one ∷ []) [] (with_lines own every) part 0 (sym (append-nil (a.js ++ one ∷ []))) refl all.1;
+            began = began_by asset old.lane.client (h ++ bytes_at moment s front ∷ []) first own (with_lines own every) part f.judged js js [] 0
+                judged_now (sym (append-nil js)) f.of_lines refl all.1;
           };
         }
       ]

@@ -1,3 +1,4 @@
+mod ActsShown
 mod Allowed
 mod Apdus
 mod Asdus

@@ -2,7 +2,7 @@
 -- a byte that is no line feed
 use Rattle.cf_audit.specs.Line.{LineValue, WhatValue}
 use Rattle.cf_audit.specs.Names.{break_name, mark, reason_name, side_name, why_name}
-use Rattle.cf_audit.specs.Text.{act_text, counts_text, cut_text, line_text, value_text, what_text}
+use Rattle.cf_audit.specs.Text.{act_text, came_text, counts_text, cut_text, line_text, value_text, what_text}
 use Rattle.cf_audit.specs.declared.line.CutReason.{CutReason}
 use Rattle.cf_audit.specs.declared.line.Why.{Why}
 use Rattle.cf_lane.specs.Log.{HasPlainNames, HasPlainRule}
@@ -162,15 +162,21 @@ cut_plain c = refl
 counts_plain : (admitted refused : ℕ) → are_plain (counts_text admitted refused) ≡ true
 counts_plain admitted refused = and_plain ((codes " admitted " ++ decimal admitted) ++ codes " refused ") (decimal refused) (and_plain (codes " admitted " ++ decimal admitted) (codes " refused ") (and_plain (codes " admitted ") (decimal admitted) (refl) (decimal_plain admitted)) (refl)) (decimal_plain refused)
 
+came_plain : (came : ℕ) → are_plain (came_text came) ≡ true
+came_plain came = and_plain (codes " came ") (decimal came) refl (decimal_plain came)
+
 what_plain : (w : WhatValue) → HasPlainRule w → are_plain (what_text w) ≡ true
 what_plain (line.Refuse rule because act replied unit) h =
     and_plain (((((((codes "refuse " ++ rule) ++ codes " ") ++ reason_name because) ++ act_text act) ++ codes " ") ++ mark replied) ++ codes " ") (encode_lower (take 16 unit)) (and_plain ((((((codes "refuse " ++ rule) ++ codes " ") ++ reason_name because) ++ act_text act) ++ codes " ") ++ mark replied) (codes " ") (and_plain (((((codes "refuse " ++ rule) ++ codes " ") ++ reason_name because) ++ act_text act) ++ codes " ") (mark replied) (and_plain ((((codes "refuse " ++ rule) ++ codes " ") ++ reason_name because) ++ act_text act) (codes " ") (and_plain (((codes "refuse " ++ rule) ++ codes " ") ++ reason_name because) (act_text act) (and_plain ((codes "refuse " ++ rule) ++ codes " ") (reason_name because) (and_plain (codes "refuse " ++ rule) (codes " ") (and_plain (codes "refuse ") (rule) (refl) (name_plain rule h)) (refl)) (reason_plain because)) (act_plain act)) (refl)) (mark_plain replied)) (refl)) (hex_plain lower_digits (take 16 unit) refl)
+what_plain (line.Admit rule act unit) h =
+    and_plain (((codes "admit " ++ rule) ++ act_text act) ++ codes " ") (encode_lower (take 16 unit)) (and_plain ((codes "admit " ++ rule) ++ act_text act) (codes " ") (and_plain (codes "admit " ++ rule) (act_text act) (and_plain (codes "admit ") rule refl (name_plain rule h)) (act_plain act)) refl) (hex_plain lower_digits (take 16 unit) refl)
 what_plain (line.Stray s because) h = and_plain ((codes "stray " ++ side_name s) ++ codes " ") (why_name because) (and_plain (codes "stray " ++ side_name s) (codes " ") (and_plain (codes "stray ") (side_name s) (refl) (side_plain s)) (refl)) (why_plain because)
 what_plain (line.Partial s count) h = and_plain ((codes "partial " ++ side_name s) ++ codes " ") (decimal count) (and_plain (codes "partial " ++ side_name s) (codes " ") (and_plain (codes "partial ") (side_name s) (refl) (side_plain s)) (refl)) (decimal_plain count)
 what_plain (line.Close admitted refused) h = and_plain (codes "close") (counts_text admitted refused) refl (counts_plain admitted refused)
 what_plain (line.Cut c) h = and_plain (codes "cut ") (cut_text c) (refl) (cut_plain c)
 what_plain (line.Lost admitted refused) h = and_plain (codes "lost") (counts_text admitted refused) refl (counts_plain admitted refused)
 what_plain (line.Silent admitted refused) h = and_plain (codes "silent") (counts_text admitted refused) refl (counts_plain admitted refused)
+what_plain (line.Stranger came) h = and_plain (codes "stranger") (came_text came) refl (came_plain came)
 what_plain w h = refl
 
 pub one_line : (l : LineValue) → HasPlainNames l → is_line (line_text l) ≡ true
@@ -185,7 +191,7 @@ last_of a b c h = (and_parts b c (and_parts a (b && c) h).1).1
 pub asset_plain : (a : Asset) → IsAssetWithin a → list_all is_name_byte a.name ≡ true
 asset_plain a w = last_of (not (is_empty a.name)) (nat_le (length a.name) 32) (list_all is_name_byte a.name) w.name
 
-rule_plain : (rules : List Rule) → All IsRuleWithin rules → (n : ℕ) (found : Option Rule) → slice_get rules n ≡ found →
+pub rule_plain : (rules : List Rule) → All IsRuleWithin rules → (n : ℕ) (found : Option Rule) → slice_get rules n ≡ found →
     list_all is_name_byte (option_map_or (λ r. r.name) found []) ≡ true
 rule_plain rules each n None is = refl
 rule_plain rules each n (Some r) is =

@@ -1,13 +1,14 @@
 -- What becomes of a client's I frame whose numbers are right.
 use Rattle.cf_lane.specs.Rates.{Says}
 use Rattle.cf_apci.specs.Apdu.{Info}
-use Rattle.cf_lane.proofs.Handling.{push-nothing, with_lines-nothing}
+use Rattle.cf_lane.proofs.Handling.{push-nothing}
 use Rattle.cf_lane.specs.Iec104.{ack_octets, apdu_octets, apdu_output, fate_of_apdu, fate_of_asdu, stamped}
 use Rattle.cf_lane.specs.Judged.{Judged, has_ended}
-use Rattle.cf_lane.specs.Log.{is_some_bytes, line_about, refusal_line, unit_lines, with_lines}
+use Rattle.cf_lane.specs.Log.{admission_lines, is_some_bytes, line_about, refusal_line, unit_lines, with_lines}
 use Rattle.cf_lane.specs.Numbers.{events_of, has_mirror}
 use Rattle.cf_lane.specs.Renumbered.{DoesApdu, Numbered, mirror_octets, numbered}
 use Rattle.cf_lane.specs.Unit.{apdu_spelling}
+use Rattle.cf_lane.specs.declared.fate.Admission.{Admission}
 use Rattle.cf_lane.specs.declared.fate.Fate.{Fate}
 use Rattle.cf_lane.specs.declared.fate.Refusal.{Refusal}
 use Rattle.cf_asdu.specs.Mirror.{mirror_octet, mirrored}
@@ -34,16 +35,17 @@ module _ (asset : Asset) (says : Says) (client : Endpoint) (moment send receive 
   is_fate f e = rw (right.may, right.none) e
 
   -- an admitted one goes on with its numbers towards the controller
-  pub does_admitted : (used : List Bool) (stamp : Stamp) (numbers : NumbersValue) (controller : Queue) → fate.Admitted used ≡ fate_of_asdu asset says asdu →
+  pub does_admitted : (used : Admission) (stamp : Stamp) (numbers : NumbersValue) (controller : Queue) (lines : Option (List (List ℕ))) → fate.Admitted used ≡ fate_of_asdu asset says asdu →
       stamp ≡ admitted_stamp (events_of earlier) receive → IsNumbersOf numbers (Admitted receive ∷ events_of earlier) →
       controller ≡ after_push old.to_controller (apdu_spelling (stamped stamp asdu)) → old.to_controller.ended ≡ false →
-      DoesApdu asset says client moment side.Client (Info send receive asdu) (fate.Admitted used) old (numbered numbers old.to_client controller old.lines) earlier
-  does_admitted used stamp numbers controller has is stands pushed goes = record {
+      lines ≡ with_lines old.lines (admission_lines asset client moment (apdu_octets (Info send receive asdu)) used) →
+      DoesApdu asset says client moment side.Client (Info send receive asdu) (fate.Admitted used) old (numbered numbers old.to_client controller lines) earlier
+  does_admitted used stamp numbers controller lines has is stands pushed goes l = record {
     fate = is_fate (fate.Admitted used) has;
     numbers = λ e. stands;
     of_client = sym (push-nothing old.to_client);
     of_controller = pushed ∙ ap (λ (t : Stamp). after_push old.to_controller (apdu_spelling (stamped t asdu))) is;
-    of_lines = sym (with_lines-nothing old.lines);
+    of_lines = l;
     client_quiet = λ e. refl;
     controller_quiet = λ e. cc (e, goes);
   }

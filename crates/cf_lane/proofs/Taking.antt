@@ -3,11 +3,12 @@ use Rattle.cf_lane.proofs.Earlier.{no_debt}
 use Rattle.cf_lane.proofs.Handling.{adu_handled, push-nothing, with_lines-nothing}
 use Rattle.cf_lane.proofs.Units.{adus, begins_by}
 use Rattle.cf_lane.specs.Handled.{Grows, HasRoom, IsLaneOf, IsOpen, LaneValue, State, TakesCommand, TakesUnit, debt}
-use Rattle.cf_lane.specs.Log.{is_some_bytes, line_about, refusal_line, with_lines}
+use Rattle.cf_lane.specs.Log.{admission_lines, is_some_bytes, line_about, refusal_line, with_lines}
 use Rattle.cf_lane.specs.Judged.{Judged}
 use Rattle.cf_lane.specs.Modbus.{HasAduFate, HasCommandFate, adu_reply}
 use Rattle.cf_lane.specs.Rates.{Says, says_at}
 use Rattle.cf_lane.specs.Rings.{IsRulesOf, KnowsRules, RulesGoOn, says_by}
+use Rattle.cf_lane.specs.declared.fate.Admission.{Admission}
 use Rattle.cf_lane.specs.declared.fate.Fate.{Fate}
 use Rattle.cf_lane.proofs.Saying.{rules_stay, says_same}
 use Rattle.cf_lane.specs.Unit.{Adu}
@@ -25,7 +26,7 @@ use Rattle.cf_policy.specs.declared.Protocol.TheVariants as protocol
 use Rattle.cf_view.specs.declared.Side.TheVariants as side
 
 -- an admitted command has no reply
-admitted_reply : (b : Bool) (used : List Bool) (a : AduValue) → adu_reply b (fate.Admitted used) a ≡ []
+admitted_reply : (b : Bool) (used : Admission) (a : AduValue) → adu_reply b (fate.Admitted used) a ≡ []
 admitted_reply true used a = refl
 admitted_reply false used a = refl
 
@@ -41,17 +42,18 @@ module _ (asset : Asset) (moment : ℕ) (a : AduValue) (old new : State) (client
       subst (λ (x : Says). HasCommandFate asset x a f) (says_same asset old.lane.client.address old.lane.rules earlier moment of know) has
 
   -- an admitted command goes on, and nothing else does
-  pub takes_admitted : (used : List Bool) → old.to_controller.ended ≡ false → HasCommandFate asset says a (fate.Admitted used) →
+  pub takes_admitted : (used : Admission) → old.to_controller.ended ≡ false → HasCommandFate asset says a (fate.Admitted used) →
       RulesGoOn (fate.Admitted used) moment old.lane.rules new.lane.rules →
       new.lane.admitted ≡ old.lane.admitted + 1 → new.lane.refused ≡ old.lane.refused →
-      new.to_client ≡ old.to_client → new.to_controller ≡ after_push old.to_controller (spelling a) → new.lines ≡ old.lines →
+      new.to_client ≡ old.to_client → new.to_controller ≡ after_push old.to_controller (spelling a) →
+      new.lines ≡ with_lines old.lines (admission_lines asset old.lane.client moment (spelling a) used) →
       TakesCommand asset moment a old new
   takes_admitted used goes has rules admitted refused c s t = record {
     fate = fate.Admitted used;
     uncut = refl;
     handled = adu_handled asset moment side.Client a (fate.Admitted used) old new (has_fate (fate.Admitted used) has) rules client wire admitted (refused ∙ omega arith)
         (c ∙ sym (push-nothing old.to_client) ∙ ap (after_push old.to_client) (sym (admitted_reply old.to_client.ended used a)))
-        s (t ∙ sym (with_lines-nothing old.lines)) (λ e. admitted_reply old.to_client.ended used a) (λ e. cc (e, goes));
+        s t (λ e. admitted_reply old.to_client.ended used a) (λ e. cc (e, goes));
   }
 
   -- a refused command has its reply, where one may still go out, and its line

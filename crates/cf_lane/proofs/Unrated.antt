@@ -1,6 +1,6 @@
 -- Where no rule has a rate, the fate of a command is that of what its policy says: `fate_without_rates`.
 use Rattle.cf_lane.proofs.Commands.{all_used, none_used}
-use Rattle.cf_lane.specs.Acts.{by_refusal, fate_of_acts, first_refusal, is_by, used_by}
+use Rattle.cf_lane.specs.Acts.{by_refusal, fate_of_acts, first_refusal, first_shown, is_by, unrated, used_by}
 use Rattle.cf_lane.specs.Rates.{Says, rated, said}
 use Rattle.cf_lane.specs.Ring.{RingValue, ring_rate}
 use Rattle.cf_lane.specs.Rings.{IsRulesOf, is_spent_by, says_by}
@@ -40,13 +40,13 @@ used_by_none says acts =
     (λ place. none_used [] says acts (replicate 16 false) refl place ∙ sym (none_by says place (take (length acts) acts)))
 
 pub fate_without_rates : (asset : Asset) (client : ℕ) (rules : Rules) (moment : ℕ) (acts : List Act) → IsRulesOf asset client rules → length rules.rings.items ≡ 0 →
-    by_refusal (replicate 16 false) (first_refusal (verdict_of asset client) acts) ≡ fate_of_acts asset (says_by asset client rules moment) acts
+    by_refusal (unrated asset.rules (verdict_of asset client) acts) (first_refusal (verdict_of asset client) acts) ≡ fate_of_acts asset (says_by asset client rules moment) acts
 fate_without_rates asset client rules moment acts of no_ring =
     let none : rules.rings.items ≡ [] = empty rules.rings.items no_ring in
     let says : Says = says_by asset client rules moment in
     let same : verdict_of asset client ≡ says =
     fun_ext (λ act. sym (ap (λ rings. said (is_spent_by rings moment) (verdict_of asset client act)) none ∙ said_by_none moment (verdict_of asset client act))) in
     let no_rates : [] ≡ rated asset.rules = sym (ap (map ring_rate) none) ∙ of.rings in
-    ap (λ s. by_refusal (replicate 16 false) (first_refusal s acts)) same
-    ∙ ap (λ used. by_refusal used (first_refusal says acts)) (used_by_none says acts)
-    ∙ ap (λ all. by_refusal (used_by all says acts) (first_refusal says acts)) no_rates
+    ap (λ s. by_refusal (unrated asset.rules s acts) (first_refusal s acts)) same
+    ∙ ap (λ used. by_refusal (record { used = used; shown = first_shown asset.rules says acts }) (first_refusal says acts)) (used_by_none says acts)
+    ∙ ap (λ all. by_refusal (record { used = used_by all says acts; shown = first_shown asset.rules says acts }) (first_refusal says acts)) no_rates

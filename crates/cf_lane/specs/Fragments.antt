@@ -9,7 +9,7 @@ use Rattle.cf_dnptrans.specs.declared.assembly.SegmentAnswer.{SegmentAnswer}
 use Rattle.cf_lane.specs.Dnp3.{fate_of_frame, fate_of_segment, frame_fragment, frame_octets, frame_output, frames_at, stray_of}
 use Rattle.cf_lane.specs.Handled.{MayHaveMore, judged}
 use Rattle.cf_lane.specs.Item.{Took}
-use Rattle.cf_lane.specs.Judged.{Judged, fate_cut, has_ended, is_admitted}
+use Rattle.cf_lane.specs.Judged.{Judged, fate_cut, has_ended}
 use Rattle.cf_lane.specs.Kept.{KnowsFragments, of_side, owed_octets}
 use Rattle.cf_lane.specs.Log.{is_some_bytes, unit_lines, with_lines}
 use Rattle.cf_lane.specs.Output.{other}
@@ -105,7 +105,6 @@ pub record TakesSegment (asset : Asset) (says : Says) (client : Endpoint) (momen
 pub record MissesSegment (asset : Asset) (says : Says) (client : Endpoint) (moment : ℕ) (s : Side) (answer : SegmentAnswer)
     (whole : List (List ℕ)) (old : Parts) (log : Option (List (List ℕ))) (part : List ℕ) : Type 0 where
   pub fate : Fate
-  pub unadmitted : is_admitted fate ≡ false
   pub new : Parts
   pub takes : TakesSegment asset says client moment s answer whole fate old new
   pub line : MayHaveMore (data_lines asset client moment s fate whole old.fragments.to_client old.to_client) old.lines log part
@@ -138,7 +137,6 @@ pub record TakesFrame (asset : Asset) (says : Says) (client : Endpoint) (moment 
 pub record MissesFrame (asset : Asset) (says : Says) (client : Endpoint) (moment : ℕ) (s : Side) (x : FrameValue) (old : Parts)
     (log : Option (List (List ℕ))) (part : List ℕ) : Type 0 where
   pub fate : Fate
-  pub unadmitted : is_admitted fate ≡ false
   pub new : Parts
   pub takes : TakesFrame asset says client moment s x fate old new
   pub line : MayHaveMore takes.more old.lines log part

@@ -1,8 +1,8 @@
 -- Steps of the proof: what a lane does with the units at the front of a side's bytes: `Handled` and `Steps`. Nothing here speaks of a
 -- history: the items before are any items that lane and queues stand for.
 use Rattle.cf_audit.specs.declared.line.CutReason.{CutReason}
-use Rattle.cf_lane.specs.Fate.{HaveFates}
-use Rattle.cf_lane.specs.Item.{Item, Took}
+use Rattle.cf_lane.specs.Fate.{HasFate, HaveFates}
+use Rattle.cf_lane.specs.Item.{Item, Took, placed}
 use Rattle.cf_lane.specs.Judged.{Judged, fate_cut, cut_of, has_ended, is_admitted, is_refused, one_if}
 use Rattle.cf_lane.specs.Kept.{IsWireOf, KnowsWire, wire_debt}
 use Rattle.cf_lane.specs.Log.{lines, with_lines}
@@ -263,23 +263,32 @@ abbrev pub HasLines : Asset → State → Judged → List (List ℕ) → Type 0
 HasLines asset old j more = (earlier : List Judged) → cut_of earlier ≡ None → Knows asset old earlier
     → lines asset old.lane.client earlier (j ∷ []) ≡ more
 
--- a command was handled but for its line, of which the log may have a part or all
+-- a unit has this fate, whatever came before it that does not cut
+abbrev pub IsFated : Asset → ℕ → State → Side → UnitValue → Fate → Type 0
+IsFated asset moment old s unit f = (earlier : List Judged) → cut_of earlier ≡ None → Knows asset old earlier
+    → HasFate asset old.lane.client.address earlier (placed moment (Took s unit)) f
+
+-- a command was judged, and the log may have a part of its line or all of it
 pub record MissesCommand (asset : Asset) (moment : ℕ) (a : AduValue) (old : State) (log : Option (List (List ℕ))) (part : List ℕ) : Type 0
   where
-    pub new : State
-    pub takes : TakesCommand asset moment a old new
+    pub fate : Fate
+    pub uncut : fate_cut fate ≡ None
+    pub has : IsFated asset moment old side.Client (Adu a) fate
     pub more : List (List ℕ)
-    pub are_more : HasLines asset old (judged moment (Took side.Client (Adu a)) takes.fate) more
+    pub are_more : HasLines asset old (judged moment (Took side.Client (Adu a)) fate) more
     pub line : MayHaveMore more old.lines log part
 
--- a unit was handled but for its line, of which the log may have a part or all
+-- a unit was judged, and the log may have a part of its line or all of it
 pub record Misses (asset : Asset) (moment : ℕ) (s : Side) (bytes : List ℕ) (old : State) (log : Option (List (List ℕ))) (part : List ℕ) :
     Type 0 where
   pub used : ℕ
-  pub new : State
-  pub takes : TakesUnit asset moment s bytes used None old new
+  pub unit : UnitValue
+  pub begins : Begins (SpellsUnit asset.protocol) bytes unit used
+  pub fate : Fate
+  pub uncut : fate_cut fate ≡ None
+  pub has : IsFated asset moment old s unit fate
   pub more : List (List ℕ)
-  pub are_more : HasLines asset old (judged moment (Took s takes.unit) takes.fate) more
+  pub are_more : HasLines asset old (judged moment (Took s unit) fate) more
   pub line : MayHaveMore more old.lines log part
 
 -- the same for a lane that counted any number of commands

@@ -1,6 +1,8 @@
--- The lines of the log, `lines`: one for each refused command, each stray frame, and bytes that are left at an end.
+-- The lines of the log, `lines`: one for each refused command, each admitted one that a rule with a log allowed, each stray frame, and
+-- bytes that are left at an end.
+use Rattle.cf_audit.specs.Line.{Admit}
 use Rattle.cf_audit.specs.Line.{Begun, Close, Cut, Full, LineValue, Listen, Lost, NoMemory, Partial, Refuse, Silent, Stray, Unreached}
-use Rattle.cf_audit.specs.Line.{WhatValue}
+use Rattle.cf_audit.specs.Line.{Gone, Stranger, WhatValue}
 use Rattle.cf_audit.specs.Text.{line_text}
 use Rattle.cf_lane.specs.Dnp3.{frame_octets, is_fragment_unfinished}
 use Rattle.cf_lane.specs.Iec104.{apdu_octets}
@@ -10,15 +12,18 @@ use Rattle.cf_lane.specs.Modbus.{adu_octets}
 use Rattle.cf_lane.specs.Output.{output}
 use Rattle.cf_lane.specs.Unit.{Adu, Apdu, Frame, UnitValue}
 use Rattle.cf_lane.specs.declared.fate.Fate.{Fate}
+use Rattle.cf_lane.specs.declared.fate.Admission.{Admission}
 use Rattle.cf_lane.specs.declared.fate.Refusal.{Refusal}
+use Rattle.cf_lane.specs.declared.fate.Shown.{Shown}
 use Rattle.cf_policy.specs.Names.{is_name_byte, name_of}
 use Rattle.cf_policy.specs.declared.Asset.{Asset}
 use Rattle.cf_policy.specs.declared.Protocol.{Protocol}
 use Rattle.cf_view.specs.declared.Endpoint.{Endpoint}
 use Rattle.cf_view.specs.declared.Side.{Side}
 use Rattle.std.specs.List.{list_all}
-use Rattle.std.specs.Prelude.{Bool, List, Option, [], false, option_map, suc, true, zero, ℕ, ◌++◌, ◌∷◌, ◌≡◌}
+use Rattle.std.specs.Prelude.{Bool, List, None, Option, Some, [], false, option_map, suc, true, zero, ℕ, ◌++◌, ◌∷◌, ◌≡◌}
 use Rattle.cf_lane.specs.declared.fate.Fate.TheVariants as fate
+use Rattle.cf_policy.specs.declared.Decider.TheVariants as decider
 use Rattle.cf_policy.specs.declared.Protocol.TheVariants as protocol
 use Rattle.cf_view.specs.declared.Side.TheVariants as side
 
@@ -31,6 +36,18 @@ line_about asset client moment what =
 abbrev pub refusal_line : Asset → Refusal → (replied : Bool) → List ℕ → WhatValue
 refusal_line asset refusal replied octets = Refuse (name_of asset.rules refusal.decider) refusal.reason refusal.act replied octets
 
+-- an admitted command, named by the rule whose log it is in, with the act that is shown; and its octets as they were received
+abbrev pub admission_line : Asset → Shown → List ℕ → WhatValue
+admission_line asset shown octets = Admit (name_of asset.rules (decider.Rule shown.rule)) shown.act octets
+
+-- the line of an admitted command: none where no rule with a log allowed one of its acts
+abbrev pub shown_lines : Asset → Endpoint → ℕ → (octets : List ℕ) → Option Shown → List (List ℕ)
+shown_lines asset client moment octets None = []
+shown_lines asset client moment octets (Some shown) = line_about asset client moment (admission_line asset shown octets) ∷ []
+
+abbrev pub admission_lines : Asset → Endpoint → ℕ → (octets : List ℕ) → Admission → List (List ℕ)
+admission_lines asset client moment octets admitted = shown_lines asset client moment octets admitted.shown
+
 -- whether bytes were put out
 abbrev pub is_some_bytes : List ℕ → Bool
 is_some_bytes [] = false
@@ -42,13 +59,13 @@ command_octets asset earlier s (Adu a) = adu_octets a
 command_octets asset earlier s (Frame x) = frame_octets asset earlier s x
 command_octets asset earlier s (Apdu a) = apdu_octets a
 
--- the lines of a unit: that of a refused command says if anything went to the client for it
+-- the lines of a unit: that of a refused command says if anything went to the client for it, and an admitted one may have one
 abbrev pub unit_lines : Asset → Endpoint → ℕ → (replied : Bool) → Side → (octets : List ℕ) → Fate → List (List ℕ)
 unit_lines asset client moment replied s octets (fate.Refused refusal) = line_about asset client moment
     (refusal_line asset refusal replied octets) ∷ []
 unit_lines asset client moment replied s octets (fate.Stray because) = line_about asset client moment (Stray s because) ∷ []
 unit_lines asset client moment replied s octets fate.Carried = []
-unit_lines asset client moment replied s octets (fate.Admitted used) = []
+unit_lines asset client moment replied s octets (fate.Admitted admitted) = admission_lines asset client moment octets admitted
 unit_lines asset client moment replied s octets fate.Lengthens = []
 unit_lines asset client moment replied s octets (fate.Cuts because) = []
 
@@ -83,6 +100,7 @@ with_lines log more = option_map (λ all. all ++ more) log
 abbrev pub HasPlainRule : WhatValue → Type 0
 HasPlainRule Begun = Unit {0}
 HasPlainRule (Refuse rule reason act replied unit) = list_all is_name_byte rule ≡ true
+HasPlainRule (Admit rule act unit) = list_all is_name_byte rule ≡ true
 HasPlainRule (Stray side why) = Unit {0}
 HasPlainRule (Partial side count) = Unit {0}
 HasPlainRule (Close admitted refused) = Unit {0}
@@ -90,6 +108,8 @@ HasPlainRule (Cut reason) = Unit {0}
 HasPlainRule Listen = Unit {0}
 HasPlainRule Full = Unit {0}
 HasPlainRule Unreached = Unit {0}
+HasPlainRule Gone = Unit {0}
+HasPlainRule (Stranger came) = Unit {0}
 HasPlainRule (Lost admitted refused) = Unit {0}
 HasPlainRule (Silent admitted refused) = Unit {0}
 HasPlainRule NoMemory = Unit {0}

@@ -6,7 +6,7 @@ use Rattle.cf_audit.specs.declared.line.CutReason.{CutReason}
 use Rattle.cf_lane.specs.Handled.{MayHaveMore}
 use Rattle.cf_lane.specs.Iec104.{apdu_octets, apdu_output, fate_of_apdu, stamped}
 use Rattle.cf_lane.specs.Item.{Took}
-use Rattle.cf_lane.specs.Judged.{Judged, fate_cut, has_ended, is_admitted}
+use Rattle.cf_lane.specs.Judged.{Judged, fate_cut, has_ended}
 use Rattle.cf_lane.specs.Log.{is_some_bytes, unit_lines, with_lines}
 use Rattle.cf_lane.specs.Numbers.{events_of, item_event}
 use Rattle.cf_lane.specs.Unit.{Apdu, apdu_spelling}
@@ -55,7 +55,6 @@ pub record MissesApdu (asset : Asset) (says : Says) (client : Endpoint) (moment 
     (log : Option (List (List ℕ))) (part : List ℕ) : Type 0 where
   pub fate : Fate
   pub uncut : fate_cut fate ≡ None
-  pub unadmitted : is_admitted fate ≡ false
   pub new : Numbered
   pub takes : TakesApdu asset says client moment s a fate old new
   pub more : List (List ℕ)

@@ -18,7 +18,7 @@ use Rattle.cf_policy.specs.declared.Span.{Span}
 use Rattle.cf_view.specs.Octets.{u16_le_octets}
 use Rattle.cf_view.specs.declared.Endpoint.{Endpoint}
 use Rattle.cf_view.specs.declared.Side.{Side}
-use Rattle.std.specs.Prelude.{List, None, Some, [], codes, drop, pos, replicate, slice_index, take, true, ℕ, ◌++◌, ◌+◌, ◌∷◌, ◌≡◌}
+use Rattle.std.specs.Prelude.{List, None, Some, [], codes, drop, false, pos, replicate, slice_index, take, true, ℕ, ◌++◌, ◌+◌, ◌∷◌, ◌≡◌}
 use Rattle.cf_policy.specs.declared.Action.TheVariants as action
 use Rattle.cf_view.specs.declared.Break.TheVariants as break
 use Rattle.cf_audit.specs.declared.line.CutReason.TheVariants as cut
@@ -48,6 +48,7 @@ iec104_asset = record {
         ∷ [];
     values = [];
     rate = None;
+    log = false;
   } ∷ [];
 }
 
@@ -157,7 +158,7 @@ by_default = fate.Refused (record {
 })
 
 abbrev pub a_write_refused_then_one_admitted : List Judged
-a_write_refused_then_one_admitted = from_client (write_of 50 100) by_default ∷ from_client (write_of 40 100) (fate.Admitted [])
+a_write_refused_then_one_admitted = from_client (write_of 50 100) by_default ∷ from_client (write_of 40 100) (fate.Admitted (record { used = []; shown = None }))
     ∷ record { moment = 0; item = Ended side.Client 0; fate = fate.Carried } ∷ []
 
 abbrev pub refused_behind_the_end : List Judged
@@ -165,7 +166,7 @@ refused_behind_the_end = record { moment = 0; item = Ended side.Controller 0; fa
     ∷ from_client (write_of 50 100) by_default ∷ []
 
 abbrev pub broken_behind_a_write : List Judged
-broken_behind_a_write = from_client (write_of 40 100) (fate.Admitted [])
+broken_behind_a_write = from_client (write_of 40 100) (fate.Admitted (record { used = []; shown = None }))
     ∷ record { moment = 0; item = Broke side.Client break.Protocol; fate = fate.Cuts (cut.Framing side.Client break.Protocol) } ∷ []
 
 abbrev pub stored : Endpoint

@@ -1,5 +1,6 @@
 //! What becomes of a command, and of an item of a stream.
-ghost use Rattle.std.specs.Prelude.{◌≡◌, ◌<◌, ◌≤◌, Bool, List, ℕ, length, replicate};
+ghost use Rattle.std.specs.Prelude.{◌≡◌, ◌<◌, ◌≤◌, List, ℕ, length};
+ghost use Rattle.std.specs.Option.{option_or};
 ghost use Rattle.cf_modbus.specs.Acts.{acts};
 ghost use Rattle.cf_modbus.specs.Adu.{adu_value};
 ghost use Rattle.cf_modbus.specs.Request.{IsRead, request_value};
@@ -7,7 +8,7 @@ ghost use Rattle.cf_policy.specs.Index.{IsIndexOf};
 ghost use Rattle.cf_policy.specs.Verdict.{verdict_of};
 ghost use Rattle.cf_policy.specs.Within.{most_rated};
 ghost use Rattle.cf_lane.specs.Rings.{IsRulesOf, says_by};
-ghost use Rattle.cf_lane.specs.Acts.{GivesActs, by_refusal, fate_of_acts, first_refusal};
+ghost use Rattle.cf_lane.specs.Acts.{GivesActs, by_refusal, fate_of_acts, first_refusal, shown_by, unrated};
 ghost use Rattle.cf_lane.specs.Fate.{HasOwnDecider};
 ghost use Rattle.cf_lane.specs.Judgement.{fate_of_judgement};
 ghost use Rattle.cf_lane.specs.Modbus.{HasCommandFate, station_refusal};
@@ -16,7 +17,7 @@ use crate::rules::Rules;
 use crate::run::{judge_runs, takes_any_value};
 use cf_audit::{CutReason, Why};
 use cf_modbus::{Adu, Request, act_at, act_count, read_request, single_write};
-use cf_policy::{Asset, CodeIndex, Decider, MOST_RATED, Verdict};
+use cf_policy::{Asset, CodeIndex, Decider, MOST_RATED, Verdict, is_logged};
 use cf_view::{Act, Reason};
 
 /// Why a command is refused.
@@ -29,13 +30,30 @@ pub struct Refusal {
     pub act: Act,
 }
 
+/// The act that the log shows of an admitted command.
+#[derive(Clone, Copy, PartialEq, Eq, Debug)]
+pub struct Shown {
+    /// The rule that allowed it, counted from 0, which has a log.
+    pub rule: usize,
+    pub act: Act,
+}
+
+/// What is known of an admitted command.
+#[derive(Clone, Copy, PartialEq, Eq, Debug)]
+pub struct Admission {
+    /// For each rule with a rate, in their order: whether it decided one of the command's acts.
+    pub used: [bool; MOST_RATED],
+    /// The first act that a rule with a log allowed, if one did.
+    pub shown: Option<Shown>,
+}
+
 /// What becomes of an item of a stream.
 #[derive(Clone, Copy, PartialEq, Eq, Debug)]
 pub enum Fate {
     /// It goes on unjudged.
     Carried,
-    /// A command that goes on. For each rule with a rate, in their order: whether it decided one of the command's acts.
-    Admitted([bool; MOST_RATED]),
+    /// A command that goes on.
+    Admitted(Admission),
     /// A command that is answered in the controller's place, and goes no further.
     Refused(Refusal),
     /// A DNP3 frame, segment or fragment that goes nowhere.
@@ -48,8 +66,8 @@ pub enum Fate {
 
 /// What becomes of a command.
 pub(crate) enum Judgement {
-    /// It goes on. For each rule with a rate, in their order: whether it decided one of the command's acts.
-    Admitted([bool; MOST_RATED]),
+    /// It goes on.
+    Admitted(Admission),
     /// It is answered in the controller's place, and goes no further.
     Refused(Refusal),
 }
@@ -74,7 +92,10 @@ pub(crate) fn judge(asset: &Asset, rules: &Rules, moment: u64, adu: &Adu<'_>) ->
             return judge_acts(asset, rules, moment, 1, |_| act);
         }
         return match rules.index.verdict(asset, &act) {
-            Verdict::Allow(_) => Judgement::Admitted([false; MOST_RATED]),
+            Verdict::Allow(number) => Judgement::Admitted(Admission {
+                used: [false; MOST_RATED],
+                shown: shown_by(asset, &act, number),
+            }),
             Verdict::Refuse(decider, reason) => Judgement::Refused(Refusal {
                 decider,
                 reason,
@@ -185,13 +206,15 @@ fn judge_unrated<F: Fn(u32) -> Act>(
     requires acts { (i : ℕ) → i < count → F.pre act_at i }
     ensures fate { (client : ℕ) (acts : List Act) → IsIndexOf asset.now client index.now → length acts ≡ count
         → GivesActs (F.post act_at) acts
-        → fate_of_judgement result ≡ by_refusal (replicate most_rated Bool.false) (first_refusal (verdict_of asset.now client) acts) }
+        → fate_of_judgement result ≡ by_refusal (unrated asset.now.rules (verdict_of asset.now client) acts)
+        (first_refusal (verdict_of asset.now client) acts) }
     ensures decider { HasOwnDecider asset.now.rules (fate_of_judgement result) }
 {
+    let mut shown = None;
     for i in 0..count {
         let act = act_at(i);
         match index.verdict(asset, &act) {
-            Verdict::Allow(_) => {}
+            Verdict::Allow(number) => show(asset, &act, number, &mut shown),
             Verdict::Refuse(decider, reason) => {
                 return Judgement::Refused(Refusal {
                     decider,
@@ -201,7 +224,10 @@ fn judge_unrated<F: Fn(u32) -> Act>(
             }
         }
     }
-    Judgement::Admitted([false; MOST_RATED])
+    Judgement::Admitted(Admission {
+        used: [false; MOST_RATED],
+        shown,
+    })
 }
 
 /// The same where a rule that allows an act may be spent, or is marked.
@@ -220,10 +246,14 @@ fn judge_rated<F: Fn(u32) -> Act>(
     ensures decider { HasOwnDecider asset.now.rules (fate_of_judgement result) }
 {
     let mut used = [false; MOST_RATED];
+    let mut shown = None;
     for i in 0..count {
         let act = act_at(i);
         match rules.verdict(asset, moment, &act) {
-            Verdict::Allow(number) => rules.mark(number, &mut used),
+            Verdict::Allow(number) => {
+                rules.mark(number, &mut used);
+                show(asset, &act, number, &mut shown);
+            }
             Verdict::Refuse(decider, reason) => {
                 return Judgement::Refused(Refusal {
                     decider,
@@ -233,5 +263,28 @@ fn judge_rated<F: Fn(u32) -> Act>(
             }
         }
     }
-    Judgement::Admitted(used)
+    Judgement::Admitted(Admission { used, shown })
+}
+
+/// The act that the log shows for a rule that allows it: none where the rule has no log.
+pub(crate) fn shown_by(asset: &Asset, act: &Act, number: usize) -> Option<Shown>
+    ensures { result ≡ shown_by asset.now.rules act.now (Verdict.Allow number) }
+{
+    if is_logged(asset.rules.as_slice(), number) {
+        Some(Shown {
+            rule: number,
+            act: *act,
+        })
+    } else {
+        None
+    }
+}
+
+/// Keeps an act that the log shows for a rule that allows it, if it is the first.
+pub(crate) fn show(asset: &Asset, act: &Act, number: usize, shown: &mut Option<Shown>)
+    ensures { shown.new ≡ option_or shown.old (shown_by asset.now.rules act.now (Verdict.Allow number)) }
+{
+    if shown.is_none() {
+        *shown = shown_by(asset, act, number);
+    }
 }

@@ -18,7 +18,7 @@ ghost use Rattle.cf_lane.specs.Rings.{RulesGoOn};
 ghost use Rattle.cf_lane.specs.Kept.{KnowsWire};
 ghost use Rattle.cf_lane.specs.Log.{has_unfinished};
 
-use crate::fate::Fate;
+use crate::fate::{Admission, Fate};
 use crate::iec104::take_apdu_at_front;
 use crate::log::log_end;
 use crate::rules::Rules;
@@ -26,7 +26,7 @@ use crate::wire::Wire;
 use cf_audit::CutReason;
 use cf_outq::Outq;
 use cf_outside::Desk;
-use cf_policy::{Asset, MOST_RATED};
+use cf_policy::Asset;
 use cf_view::{Endpoint, Framed, NoMemory, Side, View, WriteFault};
 use std::alloc::Global;
 use std::marker::Model;
@@ -341,24 +341,24 @@ impl Lane {
         ensures wire { self.new.wire ≡ self.old.wire }
     {
         match fate {
-            Fate::Admitted(used) => self.admit(used, moment),
+            Fate::Admitted(admission) => self.admit(admission, moment),
             Fate::Refused(_) => self.refuse(),
             Fate::Carried | Fate::Stray(_) | Fate::Lengthens | Fate::Cuts(_) => {}
         }
     }
 
     /// Counts an admitted command, and notes the moment at the rules that it used.
-    pub(crate) fn admit(&mut self, used: &[bool; MOST_RATED], moment: u64)
+    pub(crate) fn admit(&mut self, admission: &Admission, moment: u64)
         requires counts { self.old.admitted + 1 < 2 ^ 64 }
         requires few { length self.old.rules.rings.items ≤ most_rated }
         ensures client { self.new.client ≡ self.old.client }
         ensures admitted { self.new.admitted ≡ self.old.admitted + 1 }
         ensures refused { self.new.refused ≡ self.old.refused }
-        ensures rules { RulesGoOn (Fate.Admitted used.now) moment self.old.rules self.new.rules }
+        ensures rules { RulesGoOn (Fate.Admitted admission.now) moment self.old.rules self.new.rules }
         ensures wire { self.new.wire ≡ self.old.wire }
     {
         self.admitted += 1;
-        self.rules.note(used, moment);
+        self.rules.note(admission, moment);
     }
 
     /// Counts a refused command.

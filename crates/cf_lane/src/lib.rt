@@ -16,7 +16,7 @@ mod run;
 mod wire;
 
 pub use dnp3::{drop_why, form_reason, is_data, stray_of, take_segment};
-pub use fate::{Fate, Refusal};
+pub use fate::{Admission, Fate, Refusal, Shown};
 pub use iec104::kind_of;
 pub use lane::{Fed, Lane};
 pub use laws::{

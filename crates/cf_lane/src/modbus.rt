@@ -12,7 +12,7 @@ ghost use Rattle.cf_lane.specs.Modbus.{adu_reply};
 
 use crate::fate::{Fate, Judgement, Refusal, judge};
 use crate::lane::{Lane, Step, push_octets};
-use crate::log::log_refusal;
+use crate::log::{log_admission, log_refusal};
 use cf_audit::CutReason;
 use cf_modbus::{Adu, exception_octets, next_adu};
 use cf_outq::Outq;
@@ -82,7 +82,7 @@ impl Lane {
         }
     }
 
-    /// Takes a client's command, which has these octets: it goes on, or it is answered and its line is written.
+    /// Takes a client's command, which has these octets: it goes on, or it is answered. Its line is written, if it has one.
     #[inline(always)]
     fn take_command<D: Desk>(
         &mut self,
@@ -119,9 +119,10 @@ impl Lane {
         ensures cause { HasCause (DeskValue.faults (D.value desk.old)) (DeskValue.faults (D.value desk.new)) (IsErr result) }
     {
         match judge(asset, &self.rules, moment, adu) {
-            Judgement::Admitted(used) => {
+            Judgement::Admitted(admission) => {
                 push_octets(&octets, to_controller);
-                self.admit(&used, moment);
+                self.admit(&admission, moment);
+                log_admission(asset, &self.client, moment, &admission, octets, desk)?;
                 Ok(())
             }
             Judgement::Refused(refusal) => {

@@ -1,18 +1,18 @@
 //! What becomes of a Modbus request: acts on points that follow each other are judged together.
-ghost use Rattle.std.specs.Prelude.{◌≡◌, ◌+◌, ◌-◌, ◌<◌, ◌≤◌, ℕ, Bool, Some, length, replicate, slice_get, true};
+ghost use Rattle.std.specs.Prelude.{◌≡◌, ◌+◌, ◌-◌, ◌<◌, ◌≤◌, ℕ, Some, length, slice_get, true};
 ghost use Rattle.cf_modbus.specs.Acts.{acts};
 ghost use Rattle.cf_modbus.specs.Request.{IsRead, request_value};
 ghost use Rattle.cf_policy.specs.Index.{IsIndexOf};
 ghost use Rattle.cf_policy.specs.Run.{TakesAnyValue};
 ghost use Rattle.cf_policy.specs.Verdict.{IsInside, verdict_of};
 ghost use Rattle.cf_policy.specs.Within.{most_rated};
-ghost use Rattle.cf_lane.specs.Acts.{by_refusal, fate_of_acts, first_refusal};
+ghost use Rattle.cf_lane.specs.Acts.{by_refusal, fate_of_acts, first_refusal, unrated};
 ghost use Rattle.cf_lane.specs.Fate.{HasOwnDecider};
 ghost use Rattle.cf_lane.specs.Judgement.{fate_of_judgement};
 ghost use Rattle.cf_lane.specs.Rings.{IsRulesOf, says_by};
 ghost use Rattle.cf_lane.specs.Run.{AreRun, HaveVerdict};
 
-use crate::fate::{Judgement, Refusal};
+use crate::fate::{Admission, Judgement, Refusal, show};
 use crate::rules::Rules;
 use cf_modbus::{Request, act_at, act_count};
 use cf_policy::{Asset, CodeIndex, MOST_RATED, Verdict};
@@ -53,17 +53,21 @@ fn judge_unrated_runs(
     requires any_value { (client : ℕ) → IsIndexOf asset.now client index.now → any_value ≡ true
         → TakesAnyValue asset.now client request.now.code }
     ensures fate { (client : ℕ) → IsIndexOf asset.now client index.now
-        → fate_of_judgement result ≡ by_refusal (replicate most_rated Bool.false)
+        → fate_of_judgement result ≡ by_refusal (unrated asset.now.rules (verdict_of asset.now client) (acts (request_value request.now)))
         (first_refusal (verdict_of asset.now client) (acts (request_value request.now))) }
     ensures decider { HasOwnDecider asset.now.rules (fate_of_judgement result) }
 {
     let count = act_count(request);
+    let mut shown = None;
     let mut i = 0;
     while i < count {
         let act = act_at(request, i);
         let (verdict, next) = judge_run(asset, index, request, &act, i, any_value);
         match verdict {
-            Verdict::Allow(_) => i = next,
+            Verdict::Allow(number) => {
+                show(asset, &act, number, &mut shown);
+                i = next;
+            }
             Verdict::Refuse(decider, reason) => {
                 return Judgement::Refused(Refusal {
                     decider,
@@ -73,7 +77,10 @@ fn judge_unrated_runs(
             }
         }
     }
-    Judgement::Admitted([false; MOST_RATED])
+    Judgement::Admitted(Admission {
+        used: [false; MOST_RATED],
+        shown,
+    })
 }
 
 /// The same where a rule that allows an act may be spent, or is marked.
@@ -94,6 +101,7 @@ fn judge_rated_runs(
 {
     let count = act_count(request);
     let mut used = [false; MOST_RATED];
+    let mut shown = None;
     let mut i = 0;
     while i < count {
         let act = act_at(request, i);
@@ -101,6 +109,7 @@ fn judge_rated_runs(
         match rules.said(moment, verdict) {
             Verdict::Allow(number) => {
                 rules.mark(number, &mut used);
+                show(asset, &act, number, &mut shown);
                 i = next;
             }
             Verdict::Refuse(decider, reason) => {
@@ -112,7 +121,7 @@ fn judge_rated_runs(
             }
         }
     }
-    Judgement::Admitted(used)
+    Judgement::Admitted(Admission { used, shown })
 }
 
 /// Whether the values that a request writes at several points are known to play no part.

@@ -112,6 +112,7 @@ rule_within n part small h =
       points = record { count = h.count; each = h.points };
       values = values_within k.value h.kind.value;
       rate = tt;
+      log = tt;
     }
 
 numbered_within : (n : ℕ) (parts : List Part) → n + length parts < 10000 → AllByRecursion IsPartWithin parts → AllByRecursion IsRuleWithin (numbered_rules n parts)

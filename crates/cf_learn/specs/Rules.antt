@@ -1,5 +1,5 @@
 -- The rules that are learned from what was seen: AreLearnedFrom. Read from the end.
-use Rattle.std.specs.Prelude.{◌≡◌, ◌<◌, ℕ, ◌+◌, ◌==◌, nat_lt, ℤ, pos, Bool, ◌&&◌, ◌||◌, if◌then◌else◌, List, [], ◌∷◌, ◌++◌, length, codes}
+use Rattle.std.specs.Prelude.{◌≡◌, ◌<◌, ℕ, ◌+◌, ◌==◌, nat_lt, ℤ, pos, Bool, ◌&&◌, ◌||◌, if◌then◌else◌, List, [], ◌∷◌, ◌++◌, length, codes, false}
 use Rattle.std.specs.Prelude.{decimal, Option, Some, None, IsPermutation, IsSorted}
 use Rattle.std.specs.Ordering.{nat_cmp, int_cmp, ordering_then}
 use Rattle.std.specs.declared.cmp.Ordering.{Ordering}
@@ -105,6 +105,7 @@ rule_of number part = record {
   points = part.points;
   values = value_spans part.kind.value;
   rate = None;
+  log = false;
 }
 
 -- the rules of parts, numbered on from this number

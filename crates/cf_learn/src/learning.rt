@@ -112,6 +112,7 @@ fn rule_of(alloc: Global, number: u64, kind: &Kind, points: Vec<Span>) -> Result
         points: Items::new(points),
         values: value_spans(alloc, kind.value)?,
         rate: None,
+        log: false,
     })
 }
 

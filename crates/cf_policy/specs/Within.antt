@@ -1,6 +1,6 @@
 -- What a policy keeps that was read from a text: IsWithin.
 use Rattle.std.specs.Prelude.{◌≡◌, ◌≢◌, ℕ, ◌^◌, ◌<◌, ◌≤◌, ℤ, pos, ◌≤ℤ◌, true, false, List, length, All, AllPairs, Option, Some, None}
-use Rattle.std.specs.Prelude.{is_some, count_by}
+use Rattle.std.specs.Prelude.{is_some, count_by, Bool}
 use Rattle.cf_policy.specs.declared.policy.Action.{Action}
 use Rattle.cf_policy.specs.declared.policy.Action.TheVariants.{Allow, Refuse}
 use Rattle.cf_policy.specs.declared.policy.Rate.{Rate}
@@ -109,11 +109,17 @@ HasRateWithin action None = Unit {0}
 HasRateWithin Allow (Some rate) = IsRateWithin rate
 HasRateWithin Refuse (Some rate) = ⊥
 
+-- lines about what is admitted are those of an allow rule
+abbrev pub HasLogWithin : Action → Bool → Type 0
+HasLogWithin action false = Unit {0}
+HasLogWithin Allow true = Unit {0}
+HasLogWithin Refuse true = ⊥
+
 -- how many rules have a rate
 abbrev pub rated_count : List Rule → ℕ
 rated_count rules = count_by (λ r. is_some r.rate) rules
 
--- a rule has a name of its own, some codes, each list within its range, and a rate only where it allows
+-- a rule has a name of its own, some codes, each list within its range, and a rate and a log only where it allows
 pub record IsRuleWithin (r : Rule) : Type 0 where
   pub name : is_name r.name ≡ true
   pub own : is_reserved r.name ≡ false
@@ -125,6 +131,7 @@ pub record IsRuleWithin (r : Rule) : Type 0 where
   pub points : AreSpansWithin (pos 0) highest_point r.points
   pub values : AreSpansWithin lowest_value highest_value r.values
   pub rate : HasRateWithin r.action r.rate
+  pub log : HasLogWithin r.action r.log
 
 -- the rules of an asset: not too many, each in form, with names that differ, and not too many with a rate
 pub record AreRulesWithin (rules : List Rule) : Type 0 where

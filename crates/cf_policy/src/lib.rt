@@ -19,5 +19,5 @@ pub use limits::{
     LOWEST_VALUE, MOST_ASSETS, MOST_RATED, MOST_RULES, MOST_SPANS,
 };
 pub use lists::{Items, Name};
-pub use names::decider_name;
+pub use names::{decider_name, is_logged};
 pub use policy::{Action, Asset, Decider, Policy, Protocol, Rate, Rule, Span, Verdict};

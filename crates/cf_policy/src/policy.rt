@@ -54,6 +54,8 @@ pub struct Rule {
     pub values: Items<Span>,
     /// How often it lets a command through; `None`: as often as one comes. A rule that refuses has none.
     pub rate: Option<Rate>,
+    /// Whether each command that it lets through has a line in the log. A rule that refuses has none of these lines.
+    pub log: bool,
 }
 
 /// A controller, and the rules about commands to it.

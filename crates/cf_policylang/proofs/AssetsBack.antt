@@ -26,8 +26,9 @@ use Rattle.cf_policylang.specs.Tested.{at_asset, at_document, or_refused}
 use Rattle.cf_policylang.proofs.AddressesBack.{address_read}
 use Rattle.cf_policylang.proofs.ListsBack.{and_then_ok, list_step, some_list, tables_read}
 use Rattle.cf_policylang.proofs.Middles.{middle, none_before, pairs_before}
-use Rattle.cf_policylang.proofs.PointsBack.{naming}
-use Rattle.cf_policylang.proofs.RulesBack.{rules_read}
+use Rattle.cf_policylang.proofs.PointsBack.{NamesSets, naming}
+use Rattle.cf_policylang.specs.declared.sets.Edition.{Edition}
+use Rattle.cf_policylang.proofs.RulesBack.{HasKnownKeys, rules_read}
 use Rattle.cf_policylang.proofs.SetsBack.{name_read}
 use Rattle.cf_policylang.proofs.Stated.{Given, built, has_no_other, put, stated_at}
 
@@ -89,15 +90,19 @@ asset_built ls a =
     (with_key key.Address (string (dotted a.endpoint.address)) (with_key key.Name (string a.name) no_members)))) in
     list_step key.Rule (rule_tables ls a.rules) (master_put a.protocol a.master front)
 
-module _ (ls : List (List Span)) (few : length ls ≤ 64) where
-  asset_read : (n : ℕ) (seen : List Asset) (a : Asset) → IsAssetWithin a → list_any (λ b. bytes_eq b.name a.name) seen ≡ false
-      → is_endpoint_taken seen a.endpoint ≡ false → asset (naming ls) n seen (asset_table ls a) ≡ Ok a
-  asset_read n seen a h free apart =
+-- so it is of each rule of an asset
+abbrev pub HasKnownRules : Edition → List (List Span) → Asset → Type 0
+HasKnownRules e ls a = All (HasKnownKeys e ls) a.rules
+
+module _ (e : Edition) (marks : NamesSets e) (ls : List (List Span)) (few : length ls ≤ 64) where
+  asset_read : (n : ℕ) (seen : List Asset) (a : Asset) → HasKnownRules e ls a → IsAssetWithin a → list_any (λ b. bytes_eq b.name a.name) seen ≡ false
+      → is_endpoint_taken seen a.endpoint ≡ false → asset (naming e ls) n seen (asset_table ls a) ≡ Ok a
+  asset_read n seen a rules_known h free apart =
       let p : Place = at_asset n in
       let gs : List Given = asset_given ls a in
       let ms : Members = built gs in
       let known : has_other asset_keys (built (asset_given ls a)) ≡ false = has_no_other asset_keys (asset_given ls a) refl in
-      ap (asset (naming ls) n seen) (asset_built ls a)
+      ap (asset (naming e ls) n seen) (asset_built ls a)
       ∙ rw known
       (and_then_ok (asset_name p seen ms) _ a.name (Ok a) (asset_name_read p seen ms a.name (stated_at key.Name gs refl) h.name free)
       (and_then_ok (endpoint p seen ms) _ a.endpoint (Ok a)
@@ -106,29 +111,29 @@ module _ (ls : List (List Span)) (few : length ls ≤ 64) where
       (and_then_ok (number_at key.Station (lowest_station a.protocol) (highest_station a.protocol) p ms) _ a.station (Ok a)
       (number_at_read key.Station (lowest_station a.protocol) (highest_station a.protocol) p ms a.station (stated_at key.Station gs refl) h.station_above h.station_below)
       (and_then_ok (master a.protocol p ms) _ a.master (Ok a) (master_read a.protocol p ms a.master (stated_at key.Master gs refl) h.master)
-      (and_then_ok (rules (naming ls) n ms) _ a.rules (Ok a) (rules_read ls few n ms a.rules h.rules (stated_at key.Rule gs refl)) refl))))))
+      (and_then_ok (rules (naming e ls) a.protocol n ms) _ a.rules (Ok a) (rules_read e marks ls few a.protocol n ms a.rules rules_known h.rules (stated_at key.Rule gs refl)) refl))))))
 
   -- ---- the assets of a document
 
-  endpoint_is : (d e : Endpoint) → same_endpoint d e ≡ true → d ≡ e
-  endpoint_is d e same =
-      let parts = and_parts (d.address == e.address) (d.port == e.port) same in
-      let address : d.address ≡ e.address = eqb-true d.address e.address parts.0 in
-      let port : d.port ≡ e.port = eqb-true d.port e.port parts.1 in
-      ap (λ n. record { address = n; port = d.port }) address ∙ ap (λ n. record { address = e.address; port = n }) port
+  endpoint_is : (d f : Endpoint) → same_endpoint d f ≡ true → d ≡ f
+  endpoint_is d f same =
+      let parts = and_parts (d.address == f.address) (d.port == f.port) same in
+      let address : d.address ≡ f.address = eqb-true d.address f.address parts.0 in
+      let port : d.port ≡ f.port = eqb-true d.port f.port parts.1 in
+      ap (λ n. record { address = n; port = d.port }) address ∙ ap (λ n. record { address = f.address; port = n }) port
 
   endpoint_free : (before : List Asset) (a : Asset) (after : List Asset) → AllPairs (λ b c. b.endpoint ≢ c.endpoint) (before ++ (a ∷ after))
       → is_endpoint_taken before a.endpoint ≡ false
   endpoint_free before a after h =
       list_any_none (λ (b : Asset). same_endpoint b.endpoint a.endpoint) before
       (λ i d inside. false_from_ne_true (same_endpoint (get_or before i d).endpoint a.endpoint)
-      (λ e. pairs_before (λ (b c : Asset). b.endpoint ≢ c.endpoint) before a after h i d inside (endpoint_is (get_or before i d).endpoint a.endpoint e)))
+      (λ same. pairs_before (λ (b c : Asset). b.endpoint ≢ c.endpoint) before a after h i d inside (endpoint_is (get_or before i d).endpoint a.endpoint same)))
 
-  pub assets_read : (own : List Asset) → AreAssetsWithin own → assets_from (naming ls) 0 (asset_tables ls own) [] ≡ Ok own
-  assets_read own h =
-      tables_read key.Asset at_document (asset (naming ls)) (asset_table ls) own
+  pub assets_read : (own : List Asset) → All (HasKnownRules e ls) own → AreAssetsWithin own → assets_from (naming e ls) 0 (asset_tables ls own) [] ≡ Ok own
+  assets_read own known h =
+      tables_read key.Asset at_document (asset (naming e ls)) (asset_table ls) own
       (λ n before a after is.
-      asset_read n before a (middle IsAssetWithin before a after (subst (All IsAssetWithin) is h.each))
+      asset_read n before a (middle (HasKnownRules e ls) before a after (subst (All (HasKnownRules e ls)) is known)) (middle IsAssetWithin before a after (subst (All IsAssetWithin) is h.each))
       (none_before (λ (b : Asset). b.name) before a after (subst (AllPairs (λ b c. b.name ≢ c.name)) is h.names))
       (endpoint_free before a after (subst (AllPairs (λ b c. b.endpoint ≢ c.endpoint)) is h.endpoints)))
       0 [] own refl

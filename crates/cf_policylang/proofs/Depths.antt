@@ -1,5 +1,5 @@
 -- A policy's table nests no deeper than TOML is read.
-use Rattle.std.proofs.Common.{ℕ, ◌≤◌, ◌<◌, List, [], ◌∷◌, map, Option, Some, None, IfSome, subst, sym, arith}
+use Rattle.std.proofs.Common.{ℕ, ◌≤◌, ◌<◌, Bool, true, false, List, [], ◌∷◌, map, Option, Some, None, IfSome, subst, sym, arith}
 use Rattle.std.specs.List.{enumerate_from}
 use Rattle.toml.specs.Data.{Data, depth, items_depth, members_depth, string, integer, table, Items, no_items, item}
 use Rattle.toml.specs.View.{items_of}
@@ -10,12 +10,12 @@ use Rattle.cf_policy.specs.declared.policy.Protocol.TheVariants.{Modbus, Dnp3, I
 use Rattle.cf_policy.specs.declared.policy.Rate.{Rate}
 use Rattle.cf_policy.specs.declared.policy.Rule.{Rule}
 use Rattle.cf_policy.specs.declared.policy.Span.{Span}
-use Rattle.cf_policylang.specs.Migrating.{migrated, set_lists}
+use Rattle.cf_policylang.specs.Migrating.{migrated, needs_third, set_lists}
 use Rattle.cf_policylang.specs.Spelling.{address_text, asset_table, asset_tables, number_text, numbers, point_items, points_at, rule_table, rule_tables, set_place, set_table, set_tables, set_text, texts}
 use Rattle.cf_policylang.proofs.AssetsBack.{asset_built, asset_given, master_given}
 use Rattle.cf_policylang.proofs.DocumentsBack.{document_built, document_given}
 use Rattle.cf_policylang.proofs.ListsBack.{some_list}
-use Rattle.cf_policylang.proofs.RulesBack.{most_given, rule_built, rule_given, seconds_given}
+use Rattle.cf_policylang.proofs.RulesBack.{log_given, most_given, rule_built, rule_given, seconds_given}
 use Rattle.cf_policylang.proofs.SetsBack.{set_given, set_built}
 use Rattle.cf_policylang.proofs.Stated.{built, built_shallow}
 
@@ -50,24 +50,31 @@ master_shallow Modbus n = tt
 master_shallow Dnp3 n = omega arith
 master_shallow Iec104 n = tt
 
+log_shallow : (b : Bool) → IfSome (log_given b) (λ d. depth d ≤ 1)
+log_shallow false = tt
+log_shallow true = omega arith
+
 rule_shallow : (ls : List (List Span)) (r : Rule) → members_depth (rule_table ls r) ≤ 1
 rule_shallow ls r =
     subst (λ ms. members_depth ms ≤ 1) (sym (rule_built ls r))
     (built_shallow 1 (rule_given ls r) (
-      seconds_shallow r.rate,
+      log_shallow r.log,
       (
-        most_shallow r.rate,
+        seconds_shallow r.rate,
         (
-          list_shallow 1 (texts number_text r.values) (texts_shallow number_text r.values),
+          most_shallow r.rate,
           (
-            list_shallow 1 (point_items ls r.points) (points_shallow r.points (set_place ls r.points)),
+            list_shallow 1 (texts number_text r.values) (texts_shallow number_text r.values),
             (
-              list_shallow 1 (texts number_text r.groups) (texts_shallow number_text r.groups),
+              list_shallow 1 (point_items ls r.points) (points_shallow r.points (set_place ls r.points)),
               (
-                list_shallow 1 (numbers r.codes) (codes_shallow r.codes),
+                list_shallow 1 (texts number_text r.groups) (texts_shallow number_text r.groups),
                 (
-                  list_shallow 1 (texts address_text r.clients) (texts_shallow address_text r.clients),
-                  (omega arith, (omega arith, tt)),
+                  list_shallow 1 (numbers r.codes) (codes_shallow r.codes),
+                  (
+                    list_shallow 1 (texts address_text r.clients) (texts_shallow address_text r.clients),
+                    (omega arith, (omega arith, tt)),
+                  ),
                 ),
               ),
             ),
@@ -110,8 +117,8 @@ sets_shallow ls =
 pub migrated_shallow : (p : Policy) → members_depth (migrated p) ≤ 80
 migrated_shallow p =
     let assets = assets_shallow (set_lists p) p.assets in
-    let five : members_depth (built (document_given (set_lists p) p.assets)) ≤ 5 =
-    built_shallow 5 (document_given (set_lists p) p.assets)
+    let five : members_depth (built (document_given (needs_third p.assets) (set_lists p) p.assets)) ≤ 5 =
+    built_shallow 5 (document_given (needs_third p.assets) (set_lists p) p.assets)
     (omega arith, (list_shallow 5 (set_tables (set_lists p)) (let sets = sets_shallow (set_lists p) in omega arith), (omega arith, tt))) in
     let whole : members_depth (migrated p) ≤ 5 = subst (λ ms. members_depth ms ≤ 5) (sym (document_built p)) five in
     omega arith

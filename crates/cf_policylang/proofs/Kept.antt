@@ -8,7 +8,7 @@ use Rattle.std.proofs.lemmas.List.Quantifiers.{all_pairs_push}
 use Rattle.std.proofs.lemmas.List.Sums.{sum_by-append}
 use Rattle.std.proofs.lemmas.Result.{IfOk-at_ok, IfOk-weaker}
 use Rattle.std.proofs.lemmas.Slice.Eq.{bytes_eq-Decides}
-use Rattle.toml.specs.Data.{Data, Items, no_items, item, Members}
+use Rattle.toml.specs.Data.{boolean, Data, Items, no_items, item, Members}
 use Rattle.cf_view.specs.declared.base.Endpoint.{Endpoint}
 use Rattle.cf_policy.specs.declared.policy.Asset.{Asset}
 use Rattle.cf_policy.specs.declared.policy.Policy.{Policy}
@@ -20,7 +20,7 @@ use Rattle.cf_policy.specs.declared.policy.Rate.{Rate}
 use Rattle.cf_policy.specs.declared.policy.Rule.{Rule}
 use Rattle.cf_policy.specs.declared.policy.Span.{Span}
 use Rattle.cf_policy.specs.Names.{is_name, is_reserved}
-use Rattle.cf_policy.specs.Within.{HasRateWithin, IsRateWithin, IsSpanWithin, AreSpansWithin, IsRuleWithin, AreRulesWithin, IsAssetWithin, IsWithin, lowest_station, highest_station, highest_master, highest_address, highest_code, highest_group, highest_point, lowest_value, highest_value, highest_most, longest_rate, most_rated, rated_count}
+use Rattle.cf_policy.specs.Within.{HasLogWithin, HasRateWithin, IsRateWithin, IsSpanWithin, AreSpansWithin, IsRuleWithin, AreRulesWithin, IsAssetWithin, IsWithin, lowest_station, highest_station, highest_master, highest_address, highest_code, highest_group, highest_point, lowest_value, highest_value, highest_most, longest_rate, most_rated, rated_count}
 use Rattle.cf_policylang.specs.declared.fields.Kind.TheVariants as kind
 use Rattle.cf_policylang.specs.declared.lists.Entries.TheVariants as entries
 use Rattle.cf_policylang.specs.declared.refusal.Key.{Key}
@@ -33,14 +33,18 @@ use Rattle.cf_policylang.specs.Tested.{Answers, Tested, or_refused, at_asset, at
 use Rattle.cf_policylang.specs.Assets.{asset, asset_keys, asset_name, assets_from, asset_address, endpoint, is_asset_taken, is_endpoint_taken, master, no_master, number_at, protocol}
 use Rattle.cf_view.specs.Endpoints.{same_endpoint}
 use Rattle.cf_policylang.specs.Documents.{document, document_keys, asset_items, text_meaning, toml_of, version}
-use Rattle.cf_policylang.specs.Fields.{name, as_text, as_number, as_table, as_array_of, count, has_other, required, stated, number_in, tables_from}
+use Rattle.cf_policylang.specs.Fields.{as_flag, name, as_text, as_number, as_table, as_array_of, count, has_other, required, stated, number_in, tables_from}
 use Rattle.cf_policylang.specs.Numbers.{address}
+use Rattle.cf_policylang.specs.Logs.{log, log_if_any}
 use Rattle.cf_policylang.specs.Rates.{rate, rate_number, rate_value, states_rate}
-use Rattle.cf_policylang.specs.Rules.{rule, rule_keys, rule_name, action, is_rule_taken, client_spans, code_spans, group_spans, value_spans, rule_items, rules, rules_from}
+use Rattle.cf_policylang.specs.declared.sets.Edition.{Edition}
+use Rattle.cf_policylang.specs.declared.sets.Edition.TheVariants as edition
+use Rattle.cf_policylang.specs.Lists.{optional_spans, spans}
+use Rattle.cf_policylang.specs.Rules.{rule, rule_keys, rule_name, action, is_rule_taken, client_spans, code_entries, code_spans, group_spans, value_spans, rule_items, rules, rules_from}
 use Rattle.cf_policylang.specs.declared.sets.Named.{Named}
 use Rattle.cf_policylang.specs.Sets.{rule_points, sets}
 use Rattle.cf_policylang.proofs.SetsKept.{IsSetWithin, rule_points_if, sets_if}
-use Rattle.cf_policylang.proofs.Ranges.{and_then_if, and_then_any, unless_if, or_refused_if, IsNaturalIn, number_in_if, address_if, IsCode, AreRead as AreSpansRead, address_entry_if, code_entry_if, number_entry_if, spans_if, optional_spans_if}
+use Rattle.cf_policylang.proofs.Ranges.{and_then_if, and_then_any, unless_if, or_refused_if, IsNaturalIn, number_in_if, address_if, IsCode, AreRead as AreSpansRead, address_entry_if, code_entry_if, group_entry_if, named_code_entry_if, number_entry_if, spans_if, optional_spans_if}
 
 -- ---- names
 
@@ -173,23 +177,58 @@ rate_if p seen a ms =
       few = λ h. (let under = leb-false most_rated (rated_count seen) room in omega (arith, under));
     }))))
 
-rule_if : (named : Named) → All IsSetWithin named.sets → (p : Place) (seen : List Rule) (ms : Members) → IfOk (rule named p seen ms) (IsNextRule seen)
-rule_if named kept p seen ms =
-    unless_if (IsNextRule seen) (has_other rule_keys ms) _ _
+-- a log that was read is one of an allow rule
+log_of_allow : (own : Bool) → HasLogWithin Allow own
+log_of_allow false = tt
+log_of_allow true = tt
+
+flag_if : (k : Key) (p : Place) (d : Data) → IfOk (as_flag k p d) (HasLogWithin Allow)
+flag_if k p (boolean b) = log_of_allow b
+flag_if k p d = tt
+
+log_if : (a : Action) (p : Place) (o : Option Data) → IfOk (log_if_any a p o) (HasLogWithin a)
+log_if a p None = tt
+log_if Allow p (Some d) = flag_if key.Log p d
+log_if Refuse p (Some d) = tt
+
+code_spans_if : (e : Edition) (protocol : Protocol) (p : Place) (ms : Members) → IfOk (code_spans e protocol p ms) (AreSpansRead IsCode 1)
+code_spans_if e protocol p ms = and_then_any (AreSpansRead IsCode 1) (required key.Codes p ms) _ (λ d. each e d)
+  where
+    each : (e : Edition) (d : Data) → IfOk (spans (code_entries e protocol) key.Codes p d) (AreSpansRead IsCode 1)
+    each edition.First d = spans_if IsCode entries.Codes key.Codes p (code_entry_if key.Codes p) d
+    each edition.Second d = spans_if IsCode entries.Codes key.Codes p (code_entry_if key.Codes p) d
+    each edition.Third d = spans_if IsCode (entries.NamedCodes protocol) key.Codes p (named_code_entry_if protocol key.Codes p) d
+
+abbrev AreGroups : List Span → Type 0
+AreGroups = AreSpansRead (IsSpanWithin (pos 0) highest_group) 0
+
+plain_groups_if : (p : Place) (ms : Members) → IfOk (optional_spans (entries.Numbers (pos 0) highest_group) key.Groups p ms) AreGroups
+plain_groups_if p ms =
+    optional_spans_if (IsSpanWithin (pos 0) highest_group) (entries.Numbers (pos 0) highest_group) key.Groups p (number_entry_if (pos 0) highest_group key.Groups p) ms
+
+group_spans_if : (e : Edition) (protocol : Protocol) (p : Place) (ms : Members) → IfOk (group_spans e protocol p ms) AreGroups
+group_spans_if edition.First protocol p ms = plain_groups_if p ms
+group_spans_if edition.Second protocol p ms = plain_groups_if p ms
+group_spans_if edition.Third protocol p ms =
+    optional_spans_if (IsSpanWithin (pos 0) highest_group) (entries.NamedGroups protocol) key.Groups p (group_entry_if protocol key.Groups p) ms
+
+rule_if : (named : Named) → All IsSetWithin named.sets → (protocol : Protocol) (p : Place) (seen : List Rule) (ms : Members)
+    → IfOk (rule named protocol p seen ms) (IsNextRule seen)
+rule_if named kept protocol p seen ms =
+    unless_if (IsNextRule seen) (has_other (rule_keys named.edition) ms) _ _
     (λ _. and_then_if (IsRuleName seen) (IsNextRule seen) (rule_name p seen ms) _ (rule_name_if p seen ms)
     (λ own_name n. and_then_any (IsNextRule seen) (action p ms) _
     (λ own_action. and_then_if (AreSpansRead (IsSpanWithin (pos 0) highest_address) 0) (IsNextRule seen) (client_spans p ms) _
     (optional_spans_if (IsSpanWithin (pos 0) highest_address) entries.Addresses key.Clients p (address_entry_if key.Clients p) ms)
-    (λ own_clients cl. and_then_if (AreSpansRead IsCode 1) (IsNextRule seen) (code_spans p ms) _
-    (and_then_any (AreSpansRead IsCode 1) (required key.Codes p ms) _ (λ d. spans_if IsCode entries.Codes key.Codes p (code_entry_if key.Codes p) d))
-    (λ own_codes co. and_then_if (AreSpansRead (IsSpanWithin (pos 0) highest_group) 0) (IsNextRule seen) (group_spans p ms) _
-    (optional_spans_if (IsSpanWithin (pos 0) highest_group) (entries.Numbers (pos 0) highest_group) key.Groups p (number_entry_if (pos 0) highest_group key.Groups p) ms)
+    (λ own_clients cl. and_then_if (AreSpansRead IsCode 1) (IsNextRule seen) (code_spans named.edition protocol p ms) _ (code_spans_if named.edition protocol p ms)
+    (λ own_codes co. and_then_if AreGroups (IsNextRule seen) (group_spans named.edition protocol p ms) _ (group_spans_if named.edition protocol p ms)
     (λ own_groups gr. and_then_if (AreSpansRead (IsSpanWithin (pos 0) highest_point) 0) (IsNextRule seen) (rule_points named p ms) _
     (rule_points_if named kept p ms)
     (λ own_points po. and_then_if (AreSpansRead (IsSpanWithin lowest_value highest_value) 0) (IsNextRule seen) (value_spans p ms) _
     (optional_spans_if (IsSpanWithin lowest_value highest_value) (entries.Numbers lowest_value highest_value) key.Values p (number_entry_if lowest_value highest_value key.Values p) ms)
     (λ own_values va. and_then_if (IsRateRead seen own_action) (IsNextRule seen) (rate p seen own_action ms) _ (rate_if p seen own_action ms)
-    (λ own_rate ra. record {
+    (λ own_rate ra. and_then_if (HasLogWithin own_action) (IsNextRule seen) (log own_action p ms) _ (log_if own_action p (stated key.Log ms))
+    (λ own_log lo. record {
       within = record {
         name = n.form;
         own = n.own;
@@ -201,10 +240,11 @@ rule_if named kept p seen ms =
         points = are_within (pos 0) highest_point 0 own_points po;
         values = are_within lowest_value highest_value 0 own_values va;
         rate = ra.within;
+        log = lo;
       };
       apart = n.apart;
       also = λ few. subst (λ n. n ≤ most_rated) (sym (rated-more seen _)) (ra.few few);
-    })))))))))
+    }))))))))))
 
 rule_items_if : (p : Place) (o : Option Data) → IfOk (rule_items p o) (λ ds. count ds ≤ 1024)
 rule_items_if p None = omega arith
@@ -212,13 +252,13 @@ rule_items_if p (Some d) =
     and_then_any (λ ds. count ds ≤ 1024) (as_array_of kind.Table key.Rule p d) _
     (λ ds. unless_if (λ es. count es ≤ 1024) (nat_lt 1024 (count ds)) _ _ (λ e. grind (arith, nat_tests)))
 
-rules_if : (named : Named) → All IsSetWithin named.sets → (a : ℕ) (ms : Members) → IfOk (rules named a ms) AreRulesWithin
-rules_if named kept a ms =
+rules_if : (named : Named) → All IsSetWithin named.sets → (protocol : Protocol) (a : ℕ) (ms : Members) → IfOk (rules named protocol a ms) AreRulesWithin
+rules_if named kept protocol a ms =
     and_then_if (λ ds. count ds ≤ 1024) AreRulesWithin (rule_items (at_asset a) (stated key.Rule ms)) _ (rule_items_if (at_asset a) (stated key.Rule ms))
-    (λ ds short. IfOk-weaker (rules_from named a 0 ds []) (AreRead (0 + count ds) IsRuleWithin (λ r s. r.name ≢ s.name) AreFewRated) AreRulesWithin
+    (λ ds short. IfOk-weaker (rules_from named protocol a 0 ds []) (AreRead (0 + count ds) IsRuleWithin (λ r s. r.name ≢ s.name) AreFewRated) AreRulesWithin
     (λ rs h. record { count = let long = h.count in omega arith; each = h.each; names = h.apart; rated = h.also })
-    (tables_from_if IsRuleWithin (λ r s. r.name ≢ s.name) AreFewRated key.Rule (at_asset a) (λ m. rule named (at_rule a m))
-    (λ m. rule_if named kept (at_rule a m)) 0 ds [] (none_read IsRuleWithin (λ r s. r.name ≢ s.name) AreFewRated (omega arith))))
+    (tables_from_if IsRuleWithin (λ r s. r.name ≢ s.name) AreFewRated key.Rule (at_asset a) (λ m. rule named protocol (at_rule a m))
+    (λ m. rule_if named kept protocol (at_rule a m)) 0 ds [] (none_read IsRuleWithin (λ r s. r.name ≢ s.name) AreFewRated (omega arith))))
 
 -- ---- assets
 
@@ -300,7 +340,7 @@ asset_if named kept n seen ms =
     (number_at key.Station (lowest_station own_protocol) (highest_station own_protocol) p ms) _
     (number_at_if key.Station (lowest_station own_protocol) (highest_station own_protocol) p ms)
     (λ own_station st. and_then_if (λ n. n ≤ highest_master own_protocol) (IsNextAsset seen) (master own_protocol p ms) _ (master_if own_protocol p ms)
-    (λ own_master ma. and_then_if AreRulesWithin (IsNextAsset seen) (rules named n ms) _ (rules_if named kept n ms)
+    (λ own_master ma. and_then_if AreRulesWithin (IsNextAsset seen) (rules named own_protocol n ms) _ (rules_if named kept own_protocol n ms)
     (λ own_rules ru. record {
       within = record {
         name = na.form;

@@ -1,5 +1,6 @@
 pub mod AddressesBack
 pub mod AssetsBack
+pub mod Called
 pub mod Depths
 pub mod DocumentsBack
 pub mod Kept

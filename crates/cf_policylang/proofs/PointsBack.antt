@@ -18,11 +18,11 @@ use Rattle.cf_policy.specs.Within.{highest_point}
 use Rattle.cf_policylang.specs.declared.fields.Kind.TheVariants as kind
 use Rattle.cf_policylang.specs.declared.refusal.Key.TheVariants as key
 use Rattle.cf_policylang.specs.declared.refusal.Place.{Place}
-use Rattle.cf_policylang.specs.declared.sets.Edition.TheVariants as edition
+use Rattle.cf_policylang.specs.declared.sets.Edition.{Edition}
 use Rattle.cf_policylang.specs.declared.sets.Named.{Named}
 use Rattle.cf_policylang.specs.Lists.{listed}
 use Rattle.cf_policylang.specs.Migrating.{gets_set, sets_behind, with_set}
-use Rattle.cf_policylang.specs.Sets.{point_entry, points_from, points_if_any, points_named, stated_points}
+use Rattle.cf_policylang.specs.Sets.{marked_name, named_in, point_entry, points_from, points_if_any, points_named, stated_points}
 use Rattle.cf_policylang.specs.Spelling.{are_same, is_same_span, number_text, point_items, points_at, set_place, set_text, texts}
 use Rattle.cf_policylang.proofs.ListsBack.{and_then_ok, listed_read, some_list}
 use Rattle.cf_policylang.proofs.Printed.{fits}
@@ -52,29 +52,33 @@ number_unmarked s w =
     ]
 
 -- what a rule's points may name
-abbrev pub naming : List (List Span) → Named
-naming ls = record { edition = edition.Second; sets = sets_of 0 ls }
+abbrev pub naming : Edition → List (List Span) → Named
+naming e ls = record { edition = e; sets = sets_of 0 ls }
 
-module _ (ls : List (List Span)) (few : length ls ≤ 64) (p : Place) where
-  entry_read : (s : Span) → IsPoint s → point_entry (naming ls) p (string (number_text s)) ≡ Ok (s ∷ [])
-  entry_read s w = rw (number_unmarked s w, point_read s w) refl
+-- sets are named in a version as in version 2
+abbrev pub NamesSets : Edition → Type 0
+NamesSets e = (text : List ℕ) → named_in e text ≡ marked_name text
 
-  entries_read : (ss seen : List Span) → All IsPoint ss → points_from (naming ls) p (texts number_text ss) seen ≡ Ok (seen ++ ss)
+module _ (e : Edition) (marks : NamesSets e) (ls : List (List Span)) (few : length ls ≤ 64) (p : Place) where
+  entry_read : (s : Span) → IsPoint s → point_entry (naming e ls) p (string (number_text s)) ≡ Ok (s ∷ [])
+  entry_read s w = rw (marks (number_text s), number_unmarked s w, point_read s w) refl
+
+  entries_read : (ss seen : List Span) → All IsPoint ss → points_from (naming e ls) p (texts number_text ss) seen ≡ Ok (seen ++ ss)
   entries_read [] seen h = ap Ok (sym (append-nil seen))
   entries_read (s ∷ ss) seen h =
-      and_then_ok (point_entry (naming ls) p (string (number_text s))) (λ own. points_from (naming ls) p (texts number_text ss) (seen ++ own)) (s ∷ []) (Ok (seen ++ (s ∷ ss)))
+      and_then_ok (point_entry (naming e ls) p (string (number_text s))) (λ own. points_from (naming e ls) p (texts number_text ss) (seen ++ own)) (s ∷ []) (Ok (seen ++ (s ∷ ss)))
       (entry_read s (All-head IsPoint s ss h))
       (entries_read ss (seen ++ s ∷ []) (All-tail IsPoint s ss h) ∙ ap Ok (append_assoc seen (s ∷ []) ss))
 
   -- what is read of the entries, if there are not too many points
-  stated_read : (ds : Items) (points : List Span) → listed kind.Text key.Points p (array ds) ≡ Ok ds → points_from (naming ls) p ds [] ≡ Ok points
-      → length points ≤ 64 → stated_points (naming ls) p (array ds) ≡ Ok points
+  stated_read : (ds : Items) (points : List Span) → listed kind.Text key.Points p (array ds) ≡ Ok ds → points_from (naming e ls) p ds [] ≡ Ok points
+      → length points ≤ 64 → stated_points (naming e ls) p (array ds) ≡ Ok points
   stated_read ds points form read short =
       let not_many : nat_lt 64 (length points) ≡ false = grind (arith, nat_tests) in
       and_then_ok (listed kind.Text key.Points p (array ds)) _ ds (Ok points) form
-      (and_then_ok (points_from (naming ls) p ds []) _ points (Ok points) read (rw not_many refl))
+      (and_then_ok (points_from (naming e ls) p ds []) _ points (Ok points) read (rw not_many refl))
 
-  plain_read : (points : List Span) → length points ≤ 64 → All IsPoint points → points_if_any (naming ls) p (some_list (texts number_text points)) ≡ Ok points
+  plain_read : (points : List Span) → length points ≤ 64 → All IsPoint points → points_if_any (naming e ls) p (some_list (texts number_text points)) ≡ Ok points
   plain_read [] short h = refl
   plain_read (s ∷ ss) short h =
       stated_read (texts number_text (s ∷ ss)) (s ∷ ss)
@@ -104,12 +108,12 @@ module _ (ls : List (List Span)) (few : length ls ≤ 64) (p : Place) where
       subst (λ n. points_named (sets_of 0 ls) (set_text n) ≡ Some (get_or ls i [])) counted (found_from 0 ls i inside (omega arith))
 
   named_read : (i : ℕ) (points : List Span) → i < length ls → get_or ls i [] ≡ points → length points ≤ 64
-      → points_if_any (naming ls) p (some_list (points_at points (Some i))) ≡ Ok points
+      → points_if_any (naming e ls) p (some_list (points_at points (Some i))) ≡ Ok points
   named_read i points inside is short =
-      let own : point_entry (naming ls) p (string (codes "@" ++ set_text i)) ≡ Ok points =
-      rw (set_text_is_name i (omega arith), found i inside, is) refl in
+      let own : point_entry (naming e ls) p (string (codes "@" ++ set_text i)) ≡ Ok points =
+      rw (marks (codes "@" ++ set_text i), set_text_is_name i (omega arith), found i inside, is) refl in
       stated_read (points_at points (Some i)) points refl
-      (and_then_ok (point_entry (naming ls) p (string (codes "@" ++ set_text i))) (λ own. points_from (naming ls) p no_items ([] ++ own)) points (Ok points) own refl) short
+      (and_then_ok (point_entry (naming e ls) p (string (codes "@" ++ set_text i))) (λ own. points_from (naming e ls) p no_items ([] ++ own)) points (Ok points) own refl) short
 
   -- ---- the points of a rule
 
@@ -131,9 +135,9 @@ module _ (ls : List (List Span)) (few : length ls ≤ 64) (p : Place) where
       let parts = and_parts (is_same_span s t) (are_same a b) e in
       ap (λ x. x ∷ a) (same_span s t parts.0) ∙ ap (λ xs. t ∷ xs) (same_list a b parts.1)
 
-  pub points_read : (points : List Span) → length points ≤ 64 → All IsPoint points → points_if_any (naming ls) p (some_list (point_items ls points)) ≡ Ok points
+  pub points_read : (points : List Span) → length points ≤ 64 → All IsPoint points → points_if_any (naming e ls) p (some_list (point_items ls points)) ≡ Ok points
   points_read points short h =
-      elim (set_place ls points) as (λ o. set_place ls points ≡ o → points_if_any (naming ls) p (some_list (points_at points o)) ≡ Ok points) [
+      elim (set_place ls points) as (λ o. set_place ls points ≡ o → points_if_any (naming e ls) p (some_list (points_at points o)) ≡ Ok points) [
         | None ↦ λ e. plain_read points short h
         | Some i ↦ λ e.
             let at = position-Some (λ l. are_same l points) ls i [] e in

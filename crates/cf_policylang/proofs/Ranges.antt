@@ -1,14 +1,17 @@
 -- The ranges that numbers, spans and lists keep that were read.
-use Rattle.std.proofs.Common.{◌≡◌, ℕ, ◌+◌, ◌≤◌, ◌&&◌, nat_le, nat_lt, nat_eq, ℤ, pos, negsuc, nat_abs, ◌≤ℤ◌, int_le, Bool, true, false, if◌then◌else◌, List, [], ◌∷◌, ◌++◌, length, Option, Some, None, IfSome, option_map, option_and_then, codes, Ok, Err, IfOk, refl, arith, length-append}
+use Rattle.std.proofs.Common.{◌≡◌, ℕ, ◌+◌, ◌*◌, ◌≤◌, ◌&&◌, nat_le, nat_lt, nat_eq, ℤ, pos, negsuc, nat_abs, ◌≤ℤ◌, int_le, Bool, true, false, if◌then◌else◌, List, [], ◌∷◌, ◌++◌, length, Option, Some, None, IfSome, option_map, option_and_then, drop, codes, bytes_eq, Ok, Err, IfOk, refl, arith, length-append}
 use mathlib.Core.Logic.{⊎_elim}
-use Rattle.std.specs.List.{All}
+use Rattle.std.specs.List.{All, starts_with}
 use Rattle.std.proofs.lemmas.Bool.Decides.{nat_tests}
 use Rattle.std.proofs.lemmas.Int.{ints}
 use Rattle.std.proofs.lemmas.List.Elements.{All-nil, All-push}
 use Rattle.std.proofs.lemmas.Result.{IfOk-weaker}
-use Rattle.toml.specs.Data.{Data, Items, no_items, item, Members}
+use Rattle.std.specs.Option.{option_or}
+use Rattle.toml.specs.Data.{Data, string, integer, Items, no_items, item, Members}
+use Rattle.cf_policy.specs.declared.policy.Protocol.{Protocol}
+use Rattle.cf_policy.specs.declared.policy.Protocol.TheVariants.{Modbus, Dnp3, Iec104}
 use Rattle.cf_policy.specs.declared.policy.Span.{Span}
-use Rattle.cf_policy.specs.Within.{IsSpanWithin, highest_address, highest_code}
+use Rattle.cf_policy.specs.Within.{IsSpanWithin, highest_address, highest_code, highest_group}
 use Rattle.cf_policylang.specs.declared.fields.Kind.{Kind}
 use Rattle.cf_policylang.specs.declared.lists.Entries.{Entries}
 use Rattle.cf_policylang.specs.declared.lists.Entries.TheVariants as entries
@@ -18,8 +21,9 @@ use Rattle.cf_policylang.specs.declared.refusal.Cause.TheVariants as cause
 use Rattle.cf_policylang.specs.declared.refusal.Place.{Place}
 use Rattle.cf_policylang.specs.declared.refusal.PolicyRefusal.{PolicyRefusal}
 use Rattle.cf_policylang.specs.Fields.{as_text, as_number, as_array_of, count, stated, number_in}
-use Rattle.cf_policylang.specs.Lists.{kind_of, address_span, code_span, entry, entries_from, listed, spans, spans_if_any, optional_spans}
-use Rattle.cf_policylang.specs.Numbers.{printed_number, printed_number_in, within, span, ends, number_span, octet, octets, joined, address, split_at_mark}
+use Rattle.cf_policylang.specs.Lists.{kind_of, address_span, code_entry, code_span, entry, entries_from, group_end, group_span, listed, named_code_span, spans, spans_if_any, optional_spans}
+use Rattle.cf_policylang.specs.Names.{cause_named, code_named, group_named, variation_named, variation_of}
+use Rattle.cf_policylang.specs.Numbers.{printed_number, printed_number_in, within, span, span_by, ends, number_span, octet, octets, joined, address, split_at_mark}
 use Rattle.cf_policylang.specs.Tested.{Tested, and_then, or_refused}
 use Rattle.cf_policylang.proofs.Printed.{within_cases}
 
@@ -67,6 +71,19 @@ if_some : {A : Type 0} (P : A → Type 0) (b : Bool) (x : A) → (b ≡ true →
 if_some P true x h = h refl
 if_some P false x h = tt
 
+-- one of two values, each of which keeps P
+either_some : {A : Type 0} (P : A → Type 0) (b : Bool) (x : A) (o : Option A) → P x → IfSome o P → IfSome (if b then Some x else o) P
+either_some P true x o h g = h
+either_some P false x o h g = g
+
+some_when : {A : Type 0} (P : A → Type 0) (b : Bool) (o : Option A) → IfSome o P → IfSome (if b then o else None) P
+some_when P true o h = h
+some_when P false o h = tt
+
+or_some : {A : Type 0} (P : A → Type 0) (o other : Option A) → IfSome o P → IfSome other P → IfSome (option_or o other) P
+or_some P None other h g = g
+or_some P (Some x) other h g = h
+
 pub record IsNaturalIn (low high n : ℕ) : Type 0 where
   pub above : low ≤ n
   pub below : n ≤ high
@@ -95,11 +112,15 @@ span_if low high a b i j =
     if_some (IsSpanWithin low high) (int_le a b) (record { low = a; high = b })
     (λ e. record { above = i.above; ordered = grind (arith, ints); below = j.below })
 
-pub number_span_if : (low high : ℤ) (text : List ℕ) → IfSome (number_span low high text) (IsSpanWithin low high)
-number_span_if low high text =
-    and_then_some (IsIn low high) (IsSpanWithin low high) (printed_number_in low high (ends text).0) _ (printed_number_in_if low high (ends text).0)
-    (λ a i. and_then_some (IsIn low high) (IsSpanWithin low high) (printed_number_in low high (ends text).1) (span a) (printed_number_in_if low high (ends text).1)
+span_by_if : (low high : ℤ) (read : List ℕ → Option ℤ) → ((text : List ℕ) → IfSome (read text) (IsIn low high)) → (text : List ℕ)
+    → IfSome (span_by read text) (IsSpanWithin low high)
+span_by_if low high read reads text =
+    and_then_some (IsIn low high) (IsSpanWithin low high) (read (ends text).0) _ (reads (ends text).0)
+    (λ a i. and_then_some (IsIn low high) (IsSpanWithin low high) (read (ends text).1) (span a) (reads (ends text).1)
     (λ b j. span_if low high a b i j))
+
+pub number_span_if : (low high : ℤ) (text : List ℕ) → IfSome (number_span low high text) (IsSpanWithin low high)
+number_span_if low high text = span_by_if low high (printed_number_in low high) (printed_number_in_if low high) text
 
 octet_of : (z : ℤ) → IsIn (pos 0) (pos 255) z → nat_abs z ≤ 255
 octet_of (pos n) i = let below = i.below in omega (arith, ints)
@@ -147,6 +168,44 @@ code_span_if z =
     (λ n i. if_some IsCode (int_le n n) (record { low = n; high = n })
     (λ e. record { range = record { above = i.above; ordered = grind (arith, ints); below = i.below }; single = refl }))
 
+-- ---- names
+
+named_code_span_if : (protocol : Protocol) (text : List ℕ) → IfSome (named_code_span protocol text) IsCode
+named_code_span_if protocol text = and_then_any_some IsCode (code_named protocol text) _ (λ n. code_span_if (pos n))
+
+abbrev IsGroup : ℕ → Type 0
+IsGroup n = n ≤ 65535
+
+variation_of_if : (group variation : List ℕ) → IfSome (variation_of group variation) IsGroup
+variation_of_if group variation =
+    and_then_some (λ n. n ≤ 255) IsGroup (octet group) _ (octet_if group)
+    (λ n i. map_some (λ n. n ≤ 255) IsGroup (octet variation) (λ m. n * 256 + m) (octet_if variation) (λ m j. omega arith))
+
+variation_named_if : (text : List ℕ) → IfSome (variation_named text) IsGroup
+variation_named_if text =
+    some_when IsGroup (starts_with nat_eq text (codes "g")) (option_and_then (λ p. variation_of p.0 p.1) (split_at_mark (codes "v") (drop 1 text)))
+    (and_then_any_some IsGroup (split_at_mark (codes "v") (drop 1 text)) _ (λ p. variation_of_if p.0 p.1))
+
+cause_named_if : (text : List ℕ) → IfSome (cause_named text) IsGroup
+cause_named_if text =
+    either_some IsGroup (bytes_eq text (codes "request")) 5 _ (omega arith)
+    (either_some IsGroup (bytes_eq text (codes "activation")) 6 _ (omega arith)
+    (either_some IsGroup (bytes_eq text (codes "deactivation")) 8 None (omega arith) tt))
+
+group_named_if : (protocol : Protocol) (text : List ℕ) → IfSome (group_named protocol text) IsGroup
+group_named_if Modbus text = tt
+group_named_if Dnp3 text = variation_named_if text
+group_named_if Iec104 text = cause_named_if text
+
+is_group : (n : ℕ) → n ≤ 65535 → IsIn (pos 0) highest_group (pos n)
+is_group n h = record { above = grind (arith, ints); below = grind (arith, ints) }
+
+group_end_if : (protocol : Protocol) (text : List ℕ) → IfSome (group_end protocol text) (IsIn (pos 0) highest_group)
+group_end_if protocol text =
+    or_some (IsIn (pos 0) highest_group) (printed_number_in (pos 0) highest_group text) (option_map pos (group_named protocol text))
+    (printed_number_in_if (pos 0) highest_group text)
+    (map_some IsGroup (IsIn (pos 0) highest_group) (group_named protocol text) pos (group_named_if protocol text) is_group)
+
 -- what each entry of a list keeps
 pub address_entry_if : (k : Key) (p : Place) (d : Data) → IfOk (entry entries.Addresses k p d) (IsSpanWithin (pos 0) highest_address)
 address_entry_if k p d = and_then_any (IsSpanWithin (pos 0) highest_address) (as_text k p d) _ (λ text. address_span_if k p text)
@@ -159,6 +218,19 @@ pub number_entry_if : (low high : ℤ) (k : Key) (p : Place) (d : Data) → IfOk
 number_entry_if low high k p d =
     and_then_any (IsSpanWithin low high) (as_text k p d) _
     (λ text. or_refused_if (IsSpanWithin low high) cause.BadRange k p (number_span low high text) (number_span_if low high text))
+
+pub named_code_entry_if : (protocol : Protocol) (k : Key) (p : Place) (d : Data) → IfOk (entry (entries.NamedCodes protocol) k p d) IsCode
+named_code_entry_if protocol k p (integer z) = or_refused_if IsCode cause.BadRange k p (code_span z) (code_span_if z)
+named_code_entry_if protocol k p (string text) =
+    or_refused_if IsCode cause.BadRange k p (named_code_span protocol text) (named_code_span_if protocol text)
+named_code_entry_if protocol k p d = tt
+
+pub group_entry_if : (protocol : Protocol) (k : Key) (p : Place) (d : Data)
+    → IfOk (entry (entries.NamedGroups protocol) k p d) (IsSpanWithin (pos 0) highest_group)
+group_entry_if protocol k p d =
+    and_then_any (IsSpanWithin (pos 0) highest_group) (as_text k p d) _
+    (λ text. or_refused_if (IsSpanWithin (pos 0) highest_group) cause.BadRange k p (group_span protocol text)
+    (span_by_if (pos 0) highest_group (group_end protocol) (group_end_if protocol) text))
 
 -- a list of spans that keep P, of at most 64, and of one at least where it is stated
 pub record AreRead (P : Span → Type 0) (least : ℕ) (ss : List Span) : Type 0 where

@@ -1,5 +1,5 @@
 -- What was written of a number or of a range of numbers is read as that.
-use Rattle.std.proofs.Common.{◌≡◌, ◌≢◌, ◌∙◌, ℕ, suc, ◌<◌, ◌==◌, ◌&&◌, ℤ, pos, negsuc, neg_ℤ, ◌≤ℤ◌, int_le, true, false, if◌then◌else◌, List, [], ◌∷◌, ◌++◌, length, All, Some, None, unwrap_or, ap, refl, arith, w64, FitsSigned, nat_eq, codes, int_eq}
+use Rattle.std.proofs.Common.{◌≡◌, ◌≢◌, ◌∙◌, ℕ, suc, ◌<◌, ◌==◌, ◌&&◌, ℤ, pos, negsuc, neg_ℤ, ◌≤ℤ◌, int_le, true, false, if◌then◌else◌, List, [], ◌∷◌, ◌++◌, length, All, Option, Some, None, unwrap_or, ap, refl, arith, w64, FitsSigned, nat_eq, codes, int_eq}
 use Rattle.std.proofs.lemmas.Str.Parse.{digit_from_value}
 use Rattle.std.specs.Fmt.{decimal, signed_decimal}
 use Rattle.std.specs.List.{starts_with}
@@ -11,7 +11,7 @@ use Rattle.std.proofs.lemmas.List.Elements.{All-nil, All-cons}
 use Rattle.std.proofs.lemmas.Slice.Eq.{bytes_eq-Decides}
 use Rattle.cf_policy.specs.declared.policy.Span.{Span}
 use Rattle.cf_policy.specs.Within.{IsSpanWithin}
-use Rattle.cf_policylang.specs.Numbers.{ends, number_span, printed_number, printed_number_in, split_at_mark, within}
+use Rattle.cf_policylang.specs.Numbers.{ends, number_span, printed_number, printed_number_in, span_by, split_at_mark, within}
 use Rattle.cf_policylang.specs.Spelling.{number_text}
 use Rattle.cf_policylang.proofs.Printed.{fits}
 
@@ -75,17 +75,17 @@ ends_of_two : (front back : List ℕ) → IsPlain front → ends (front ++ (code
 ends_of_two front back h =
     ap (λ o. unwrap_or o (front ++ (codes ".." ++ back), front ++ (codes ".." ++ back))) (finds_mark (46 ∷ []) front back refl h)
 
--- a range of numbers is read as it was written
-pub span_read : (low high : ℤ) (s : Span) → FitsSigned w64 low → FitsSigned w64 high → IsSpanWithin low high s
-    → number_span low high (number_text s) ≡ Some s
-span_read low high s l h w =
+-- a range whose ends are read as they were printed is read as it was written
+pub span_by_read : (low high : ℤ) (read : List ℕ → Option ℤ) → ((z : ℤ) → FitsSigned w64 z → low ≤ℤ z → z ≤ℤ high → read (signed_decimal z) ≡ Some z)
+    → (s : Span) → FitsSigned w64 low → FitsSigned w64 high → IsSpanWithin low high s → span_by read (number_text s) ≡ Some s
+span_by_read low high read reads s l h w =
     let first : FitsSigned w64 s.low = fits low high s.low l h w.above (omega (arith, ints, w.ordered, w.below)) in
     let last : FitsSigned w64 s.high = fits low high s.high l h (omega (arith, ints, w.above, w.ordered)) w.below in
-    let front : printed_number_in low high (signed_decimal s.low) ≡ Some s.low = in_range_read low high s.low first w.above (omega (arith, ints, w.ordered, w.below)) in
-    let back : printed_number_in low high (signed_decimal s.high) ≡ Some s.high = in_range_read low high s.high last (omega (arith, ints, w.above, w.ordered)) w.below in
+    let front : read (signed_decimal s.low) ≡ Some s.low = reads s.low first w.above (omega (arith, ints, w.ordered, w.below)) in
+    let back : read (signed_decimal s.high) ≡ Some s.high = reads s.high last (omega (arith, ints, w.above, w.ordered)) w.below in
     let ordered : int_le s.low s.high ≡ true = (let o = w.ordered in grind (arith, ints)) in
     elim (int_eq s.low s.high) as (λ b. int_eq s.low s.high ≡ b
-    → number_span low high (if b then signed_decimal s.low else signed_decimal s.low ++ (codes ".." ++ signed_decimal s.high)) ≡ Some s) [
+    → span_by read (if b then signed_decimal s.low else signed_decimal s.low ++ (codes ".." ++ signed_decimal s.high)) ≡ Some s) [
       | true ↦ λ e.
           let same : s.low ≡ s.high = grind (arith, ints) in
           rw (ends_of_one (signed_decimal s.low) (plain_number s.low first), front) (rw (← same) (let to_self : int_le s.low s.low ≡ true = grind (arith, ints) in rw to_self refl))
@@ -93,3 +93,8 @@ span_read low high s l h w =
           rw (ends_of_two (signed_decimal s.low) (signed_decimal s.high) (plain_number s.low first), front, back, ordered) refl
     ]
     refl
+
+-- a range of numbers is read as it was written
+pub span_read : (low high : ℤ) (s : Span) → FitsSigned w64 low → FitsSigned w64 high → IsSpanWithin low high s
+    → number_span low high (number_text s) ≡ Some s
+span_read low high s l h w = span_by_read low high (printed_number_in low high) (in_range_read low high) s l h w

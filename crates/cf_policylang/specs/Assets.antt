@@ -89,7 +89,7 @@ asset named n seen members =
     and_then (protocol place members) (λ own_protocol.
     and_then (number_at key.Station (lowest_station own_protocol) (highest_station own_protocol) place members) (λ own_station.
     and_then (master own_protocol place members) (λ own_master.
-    and_then (rules named n members) (λ own_rules.
+    and_then (rules named own_protocol n members) (λ own_rules.
     Ok (record {
       name = own_name;
       endpoint = own_endpoint;

@@ -22,10 +22,15 @@ use Rattle.cf_policylang.specs.declared.documents.TheConstants.{LONGEST_TEXT}
 abbrev pub document_keys : Edition → List Key
 document_keys edition.First = key.Version ∷ key.Asset ∷ []
 document_keys edition.Second = key.Version ∷ key.Asset ∷ key.Set ∷ []
+document_keys edition.Third = key.Version ∷ key.Asset ∷ key.Set ∷ []
 
--- the edition of a version, which is 1 or 2
+-- the edition of a version, which is 1, 2 or 3
 abbrev pub edition_of : ℤ → Option Edition
-edition_of z = if int_eq z (pos 1) then Some edition.First else if int_eq z (pos 2) then Some edition.Second else None
+edition_of z =
+    if int_eq z (pos 1) then Some edition.First
+    else if int_eq z (pos 2) then Some edition.Second
+    else if int_eq z (pos 3) then Some edition.Third
+    else None
 
 -- the version of a document
 abbrev pub version : Members → Tested Edition

@@ -3,7 +3,7 @@
 use Rattle.std.specs.Prelude.{ℕ, ◌+◌, ℤ, pos, negsuc, Bool, true, false, not, ◌&&◌, ◌||◌, nat_le, if◌then◌else◌, List, [], ◌∷◌, ◌++◌}
 use Rattle.std.specs.Prelude.{Option, Some, None, Ok, bytes_eq}
 use Rattle.std.specs.List.{list_any}
-use Rattle.toml.specs.Data.{Data, string, integer, array, table, Items, no_items, item, Members, no_members, member, get_member}
+use Rattle.toml.specs.Data.{Data, string, integer, boolean, array, table, Items, no_items, item, Members, no_members, member, get_member}
 use Rattle.cf_policy.specs.Names.{is_name}
 use Rattle.cf_policylang.specs.declared.fields.Kind.{Kind}
 use Rattle.cf_policylang.specs.declared.fields.Kind.TheVariants as kind
@@ -41,6 +41,11 @@ abbrev pub as_number : Key → Place → Data → Tested ℤ
 as_number key place (integer z) = Ok z
 as_number key place _ = refused cause.WrongKind key place
 
+-- a value that must be a boolean
+abbrev pub as_flag : Key → Place → Data → Tested Bool
+as_flag key place (boolean b) = Ok b
+as_flag key place _ = refused cause.WrongKind key place
+
 -- a value that must be a table
 abbrev pub as_table : Key → Place → Data → Tested Members
 as_table key place (table members) = Ok members
@@ -57,6 +62,8 @@ name place members =
 abbrev pub is_kind : Kind → Data → Bool
 is_kind kind.Text (string s) = true
 is_kind kind.Number (integer z) = true
+is_kind kind.Code (string s) = true
+is_kind kind.Code (integer z) = true
 is_kind kind.Table (table entries) = true
 is_kind _ _ = false
 

@@ -27,6 +27,7 @@ key_text key.Values = codes "values"
 key_text key.Most = codes "most"
 key_text key.Seconds = codes "seconds"
 key_text key.Set = codes "set"
+key_text key.Log = codes "log"
 
 -- the number of a cause of refusal, as it is printed
 abbrev pub cause_number : Cause → ℕ

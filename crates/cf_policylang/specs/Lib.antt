@@ -3,8 +3,10 @@ pub mod Documents
 pub mod Fields
 pub mod Keys
 pub mod Lists
+pub mod Logs
 pub mod Migrating
 pub mod NameNumbers
+pub mod Names
 pub mod Numbers
 pub mod Rates
 pub mod Rules

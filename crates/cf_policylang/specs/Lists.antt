@@ -1,8 +1,11 @@
 -- What the lists of a rule mean: spans.
 use Rattle.std.specs.Prelude.{ℕ, ℤ, pos, nat_eq, nat_lt, if◌then◌else◌, List, [], ◌∷◌, ◌++◌, Option, Some, None, Ok, option_and_then}
-use Rattle.toml.specs.Data.{Data, Items, no_items, item, Members}
+use Rattle.std.specs.Prelude.{option_map}
+use Rattle.std.specs.Option.{option_or}
+use Rattle.toml.specs.Data.{Data, string, integer, Items, no_items, item, Members}
+use Rattle.cf_policy.specs.declared.policy.Protocol.{Protocol}
 use Rattle.cf_policy.specs.declared.policy.Span.{Span}
-use Rattle.cf_policy.specs.Within.{highest_code}
+use Rattle.cf_policy.specs.Within.{highest_code, highest_group}
 use Rattle.cf_policylang.specs.declared.fields.Kind.{Kind}
 use Rattle.cf_policylang.specs.declared.fields.Kind.TheVariants as kind
 use Rattle.cf_policylang.specs.declared.lists.Entries.{Entries}
@@ -11,7 +14,8 @@ use Rattle.cf_policylang.specs.declared.refusal.Key.{Key}
 use Rattle.cf_policylang.specs.declared.refusal.Cause.TheVariants as cause
 use Rattle.cf_policylang.specs.declared.refusal.Place.{Place}
 use Rattle.cf_policylang.specs.Fields.{as_text, as_number, as_array_of, count, stated}
-use Rattle.cf_policylang.specs.Numbers.{address, ends, number_span, span, within}
+use Rattle.cf_policylang.specs.Names.{code_named, group_named}
+use Rattle.cf_policylang.specs.Numbers.{address, ends, number_span, printed_number_in, span, span_by, within}
 use Rattle.cf_policylang.specs.Tested.{Tested, and_then, refused, or_refused}
 use Rattle.cf_policy.specs.Within.{most_spans}
 
@@ -19,7 +23,9 @@ use Rattle.cf_policy.specs.Within.{most_spans}
 abbrev pub kind_of : Entries → Kind
 kind_of entries.Addresses = kind.Text
 kind_of entries.Codes = kind.Number
+kind_of (entries.NamedCodes protocol) = kind.Code
 kind_of (entries.Numbers low high) = kind.Text
+kind_of (entries.NamedGroups protocol) = kind.Text
 
 -- an address, or a range of addresses: a part that is none is a bad address, and else the order is tested
 abbrev pub address_span : Key → Place → List ℕ → Tested Span
@@ -33,12 +39,33 @@ address_span key place text =
 abbrev pub code_span : ℤ → Option Span
 code_span z = option_and_then (λ n. span n n) (within (pos 0) highest_code z)
 
+-- the code of a name of the protocol's
+abbrev pub named_code_span : Protocol → List ℕ → Option Span
+named_code_span protocol text = option_and_then (λ n. code_span (pos n)) (code_named protocol text)
+
+-- a code as a number or by its name
+abbrev pub code_entry : Protocol → Key → Place → Data → Tested Span
+code_entry protocol key place (integer z) = or_refused cause.BadRange key place (code_span z)
+code_entry protocol key place (string text) = or_refused cause.BadRange key place (named_code_span protocol text)
+code_entry protocol key place _ = refused cause.WrongKind key place
+
+-- a group as a number or by its name
+abbrev pub group_end : Protocol → List ℕ → Option ℤ
+group_end protocol text = option_or (printed_number_in (pos 0) highest_group text) (option_map pos (group_named protocol text))
+
+-- a group, or a range of groups
+abbrev pub group_span : Protocol → List ℕ → Option Span
+group_span protocol text = span_by (group_end protocol) text
+
 -- the span of one entry of a list
 abbrev pub entry : Entries → Key → Place → Data → Tested Span
 entry entries.Addresses key place value = and_then (as_text key place value) (λ text. address_span key place text)
 entry entries.Codes key place value = and_then (as_number key place value) (λ z. or_refused cause.BadRange key place (code_span z))
 entry (entries.Numbers low high) key place value =
     and_then (as_text key place value) (λ text. or_refused cause.BadRange key place (number_span low high text))
+entry (entries.NamedCodes protocol) key place value = code_entry protocol key place value
+entry (entries.NamedGroups protocol) key place value =
+    and_then (as_text key place value) (λ text. or_refused cause.BadRange key place (group_span protocol text))
 
 -- the entries in their order, after those before them
 abbrev pub entries_from : Entries → Key → Place → Items → List Span → Tested (List Span)

@@ -1,5 +1,5 @@
--- Steps of the proof: a policy as a document of version 2: `migrated`.
-use Rattle.std.specs.Prelude.{pos, Bool, not, ◌&&◌, nat_lt, if◌then◌else◌, List, [], ◌∷◌, ◌++◌, length, map, flat_map}
+-- Steps of the proof: a policy as a document of version 2, or 3: `migrated`.
+use Rattle.std.specs.Prelude.{ℕ, pos, Bool, true, false, not, ◌&&◌, nat_lt, if◌then◌else◌, List, [], ◌∷◌, ◌++◌, length, map, flat_map}
 use Rattle.std.specs.List.{list_any}
 use Rattle.toml.specs.Data.{integer, array, Items, Members, no_members}
 use Rattle.cf_policy.specs.declared.policy.Asset.{Asset}
@@ -34,13 +34,22 @@ sets_behind seen (points ∷ later) = sets_behind (with_set seen points later) l
 abbrev pub set_lists : Policy → List (List Span)
 set_lists policy = sets_behind [] (all_points policy.assets)
 
--- a document of version 2 that has these sets and assets
-abbrev pub second_document : Items → Items → Members
-second_document sets assets =
-    with_key key.Asset (array assets) (with_list key.Set sets (with_key key.Version (integer (pos 2)) no_members))
+-- a policy that version 3 alone can state: what some rule admits is written to the log
+abbrev pub needs_third : List Asset → Bool
+needs_third assets = list_any (λ a. list_any (λ r. r.log) a.rules) assets
 
--- the policy, with the sets first found and a rule's points by the name of their set
+-- the version of the document
+abbrev pub version_for : (third : Bool) → ℕ
+version_for false = 2
+version_for true = 3
+
+-- a document of version 2, or 3, that has these sets and assets
+abbrev pub later_document : (third : Bool) → Items → Items → Members
+later_document third sets assets =
+    with_key key.Asset (array assets) (with_list key.Set sets (with_key key.Version (integer (pos (version_for third))) no_members))
+
+-- the policy in the least version that can state it, with the sets first found and a rule's points by the name of their set
 abbrev pub migrated : Policy → Members
 migrated policy =
     let lists = set_lists policy in
-    second_document (set_tables lists) (asset_tables lists policy.assets)
+    later_document (needs_third policy.assets) (set_tables lists) (asset_tables lists policy.assets)

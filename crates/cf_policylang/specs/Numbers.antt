@@ -40,11 +40,13 @@ ends text = unwrap_or (split_at_mark (codes "..") text) (text, text)
 abbrev pub span : ℤ → ℤ → Option Span
 span a b = if int_le a b then Some (record { low = a; high = b }) else None
 
+-- a range by what its ends mean, or one such end
+abbrev pub span_by : (List ℕ → Option ℤ) → List ℕ → Option Span
+span_by read text = let both = ends text in option_and_then (λ a. option_and_then (span a) (read both.1)) (read both.0)
+
 -- a number from low to high, or a range of such numbers
 abbrev pub number_span : ℤ → ℤ → List ℕ → Option Span
-number_span low high text =
-    let both = ends text in
-    option_and_then (λ a. option_and_then (span a) (printed_number_in low high both.1)) (printed_number_in low high both.0)
+number_span low high text = span_by (printed_number_in low high) text
 
 -- an octet of a dotted address
 abbrev pub octet : List ℕ → Option ℕ

@@ -67,10 +67,15 @@ sets members = and_then (set_items (stated key.Set members)) (λ items. sets_fro
 
 -- ---- the points of a rule
 
--- the name after the mark of an entry that names a set, which version 2 alone has
+-- the name after the mark of an entry that names a set
+abbrev pub marked_name : List ℕ → Option (List ℕ)
+marked_name text = if starts_with nat_eq text (codes "@") then Some (drop 1 text) else None
+
+-- the name after the mark of an entry that names a set, which version 1 does not have
 abbrev pub named_in : Edition → List ℕ → Option (List ℕ)
 named_in edition.First text = None
-named_in edition.Second text = if starts_with nat_eq text (codes "@") then Some (drop 1 text) else None
+named_in edition.Second text = marked_name text
+named_in edition.Third text = marked_name text
 
 -- the points of the set of a name
 abbrev pub points_named : List PointSet → List ℕ → Option (List Span)

@@ -5,7 +5,7 @@ use Rattle.std.specs.Fmt.{signed_decimal}
 use Rattle.std.specs.List.{enumerate_from, position}
 use Rattle.std.specs.Ordering.{match_ordering, nat_cmp, int_eq}
 use Rattle.std.specs.Cmp.Lexicographic.{slice_cmp}
-use Rattle.toml.specs.Data.{Data, string, integer, array, table, Items, no_items, item, Members, no_members, member}
+use Rattle.toml.specs.Data.{Data, string, integer, boolean, array, table, Items, no_items, item, Members, no_members, member}
 use Rattle.toml.specs.View.{items_of}
 use Rattle.cf_view.specs.Text.{dotted}
 use Rattle.cf_policy.specs.declared.policy.Action.{Action}
@@ -99,12 +99,17 @@ abbrev pub with_rate : Option Rate → Members → Members
 with_rate None members = members
 with_rate (Some rate) members = with_key key.Seconds (integer (pos rate.seconds)) (with_key key.Most (integer (pos rate.most)) members)
 
+-- a log, which is absent where there is none
+abbrev pub with_log : Bool → Members → Members
+with_log false members = members
+with_log true members = with_key key.Log (boolean true) members
+
 abbrev pub rule_table : List (List Span) → Rule → Members
 rule_table lists r =
-    with_rate r.rate (with_list key.Values (texts number_text r.values) (with_list key.Points (point_items lists r.points)
+    with_log r.log (with_rate r.rate (with_list key.Values (texts number_text r.values) (with_list key.Points (point_items lists r.points)
     (with_list key.Groups (texts number_text r.groups) (with_list key.Codes (numbers r.codes)
     (with_list key.Clients (texts address_text r.clients) (with_key key.Action (string (action_text r.action))
-    (with_key key.Name (string r.name) no_members)))))))
+    (with_key key.Name (string r.name) no_members))))))))
 
 abbrev pub rule_tables : List (List Span) → List Rule → Items
 rule_tables lists own = items_of (map (λ r. table (rule_table lists r)) own)

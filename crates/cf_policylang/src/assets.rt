@@ -66,7 +66,7 @@ fn asset(
     let protocol = protocol(place, table)?;
     let station = station(protocol, place, table)?;
     let master = master(protocol, place, table)?;
-    let rules = rules(alloc, named, number, table)?;
+    let rules = rules(alloc, named, protocol, number, table)?;
     Ok(Asset {
         name,
         endpoint,

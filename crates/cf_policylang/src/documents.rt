@@ -21,7 +21,7 @@ pub const LONGEST_TEXT: usize = 4_194_304;
 
 const FIRST_KEYS: [Key; 2] = [Key::Version, Key::Asset];
 
-const SECOND_KEYS: [Key; 3] = [Key::Version, Key::Asset, Key::Set];
+const LATER_KEYS: [Key; 3] = [Key::Version, Key::Asset, Key::Set];
 
 /// Reads a policy from its text: a TOML 1.1 document in UTF-8 with the keys of this project's own policy language.
 ///
@@ -74,7 +74,7 @@ fn document(alloc: Global, table: &Table) -> Result<Policy, PolicyFault>
     Ok(Policy { assets })
 }
 
-/// The version of the document, which is 1 or 2.
+/// The version of the document, which is 1, 2 or 3.
 fn version(table: &Table) -> Result<Edition, PolicyRefusal>
     ensures { result ≡ version (table_view table.now) }
 {
@@ -89,6 +89,7 @@ fn edition_of(number: i64) -> Option<Edition>
     match number {
         1 => Some(Edition::First),
         2 => Some(Edition::Second),
+        3 => Some(Edition::Third),
         _ => None,
     }
 }
@@ -99,7 +100,7 @@ fn has_other_key(edition: Edition, table: &Table) -> bool
 {
     match edition {
         Edition::First => has_other(&FIRST_KEYS, table),
-        Edition::Second => has_other(&SECOND_KEYS, table),
+        Edition::Second | Edition::Third => has_other(&LATER_KEYS, table),
     }
 }
 

@@ -6,7 +6,7 @@ ghost use Rattle.toml.specs.View.{view, table_view, array_view};
 ghost use Rattle.cf_policy.specs.Names.{is_name, is_name_byte};
 ghost use Rattle.cf_policy.specs.Within.{longest_name};
 ghost use Rattle.cf_policylang.specs.Tested.{AnswersPlainly};
-ghost use Rattle.cf_policylang.specs.Fields.{is_among, has_other, stated, required, as_text, as_number, as_table, is_kind, all_kind};
+ghost use Rattle.cf_policylang.specs.Fields.{is_among, has_other, stated, required, as_text, as_number, as_flag, as_table, is_kind, all_kind};
 ghost use Rattle.cf_policylang.specs.Fields.{as_array_of, count, name, number_in};
 
 use crate::refusal::{Cause, Key, Place, PolicyRefusal, refusal};
@@ -19,6 +19,8 @@ use toml::{Table, Value};
 pub(crate) enum Kind {
     Text,
     Number,
+    /// A number, or a text that names one.
+    Code,
     Table,
 }
 
@@ -73,6 +75,15 @@ pub(crate) fn as_number(key: Key, place: Place, value: &Value) -> Result<i64, Po
     }
 }
 
+pub(crate) fn as_flag(key: Key, place: Place, value: &Value) -> Result<bool, PolicyRefusal>
+    ensures { result ≡ as_flag key place (view value.now) }
+{
+    match value {
+        Value::Boolean(flag) => Ok(*flag),
+        _ => Err(refusal(Cause::WrongKind, key, place)),
+    }
+}
+
 pub(crate) fn as_table(key: Key, place: Place, value: &Value) -> Result<&Table, PolicyRefusal>
     ensures { AnswersPlainly (λ t. table_view t.now) (as_table key place (view value.now)) result }
 {
@@ -119,6 +130,7 @@ fn is_kind(kind: Kind, value: &Value) -> bool
     match kind {
         Kind::Text => matches!(value, Value::String(_)),
         Kind::Number => matches!(value, Value::Integer(_)),
+        Kind::Code => matches!(value, Value::Integer(_) | Value::String(_)),
         Kind::Table => matches!(value, Value::Table(_)),
     }
 }

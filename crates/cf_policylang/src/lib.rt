@@ -6,7 +6,9 @@ mod documents;
 mod earlier;
 mod fields;
 mod lists;
+mod logs;
 mod migrate;
+mod names;
 mod numbers;
 mod printing;
 mod rates;
@@ -17,6 +19,7 @@ mod spelling;
 
 pub use documents::{LONGEST_TEXT, read_policy};
 pub use migrate::migrated_text;
+pub use names::{code_name, code_named, group_named};
 pub use numbers::address;
 pub use printing::document_text;
 pub use refusal::{Cause, Key, PolicyFault, PolicyRefusal, push_refusal};

@@ -2,12 +2,14 @@
 ghost use Rattle.std.specs.Prelude.{◌≡◌, []};
 ghost use Rattle.toml.specs.View.{view, table_view, array_view};
 ghost use Rattle.cf_policylang.specs.Tested.{Answers, AnswersPlainly};
-ghost use Rattle.cf_policylang.specs.Lists.{kind_of, address_span, code_span, entry, entries_from, listed, spans, optional_spans};
+ghost use Rattle.cf_policylang.specs.Lists.{kind_of, address_span, code_entry, code_span, entry, entries_from, group_end};
+ghost use Rattle.cf_policylang.specs.Lists.{group_span, listed, named_code_span, optional_spans, spans};
 
 use crate::fields::{Kind, as_array_of, as_number, as_text, count, stated};
-use crate::numbers::{address, ends, number_span, span, within};
+use crate::names::{code_named, group_named};
+use crate::numbers::{address, ends, number_span, printed_number_in, span, within};
 use crate::refusal::{Cause, Key, Place, PolicyFault, PolicyRefusal, refusal};
-use cf_policy::{HIGHEST_CODE, Items, MOST_SPANS, Span};
+use cf_policy::{HIGHEST_CODE, HIGHEST_GROUP, Items, MOST_SPANS, Protocol, Span};
 use std::alloc::Global;
 use toml::value::Array;
 use toml::{Table, Value};
@@ -19,8 +21,12 @@ pub(crate) enum Entries {
     Addresses,
     /// Integers from 0 to `HIGHEST_CODE`.
     Codes,
+    /// Such integers, and texts: the names of the protocol's codes.
+    NamedCodes(Protocol),
     /// Texts: numbers from `low` to `high`, and ranges of such numbers.
     Numbers { low: i64, high: i64 },
+    /// Texts: numbers from 0 to `HIGHEST_GROUP` and names of the protocol's groups, and ranges of such ends.
+    NamedGroups(Protocol),
 }
 
 impl Entries {
@@ -30,7 +36,9 @@ impl Entries {
         match self {
             Entries::Addresses => Kind::Text,
             Entries::Codes => Kind::Number,
+            Entries::NamedCodes(_) => Kind::Code,
             Entries::Numbers { .. } => Kind::Text,
+            Entries::NamedGroups(_) => Kind::Text,
         }
     }
 }
@@ -115,6 +123,11 @@ fn entry(entries: Entries, key: Key, place: Place, value: &Value) -> Result<Span
             let text = as_text(key, place, value)?;
             number_span(low, high, text).ok_or(refusal(Cause::BadRange, key, place))
         }
+        Entries::NamedCodes(protocol) => code_entry(protocol, key, place, value),
+        Entries::NamedGroups(protocol) => {
+            let text = as_text(key, place, value)?;
+            group_span(protocol, text).ok_or(refusal(Cause::BadRange, key, place))
+        }
     }
 }
 
@@ -133,4 +146,48 @@ fn code_span(number: i64) -> Option<Span>
 {
     let code = within(0, HIGHEST_CODE, number)?;
     span(code, code)
+}
+
+/// A code as a number or by its name.
+fn code_entry(
+    protocol: Protocol,
+    key: Key,
+    place: Place,
+    value: &Value,
+) -> Result<Span, PolicyRefusal>
+    ensures { result ≡ code_entry protocol key place (view value.now) }
+{
+    match value {
+        Value::Integer(number) => { code_span(*number).ok_or(refusal(Cause::BadRange, key, place)) }
+        Value::String(name) => {
+            named_code_span(protocol, name.as_str()).ok_or(refusal(Cause::BadRange, key, place))
+        }
+        _ => Err(refusal(Cause::WrongKind, key, place)),
+    }
+}
+
+fn named_code_span(protocol: Protocol, name: &str) -> Option<Span>
+    ensures { result ≡ named_code_span protocol name.now }
+{
+    code_span(i64::from(code_named(protocol, name)?))
+}
+
+/// A group of the protocol, or a range of its groups.
+fn group_span(protocol: Protocol, text: &str) -> Option<Span>
+    ensures { result ≡ group_span protocol text.now }
+{
+    let (first, last) = ends(text);
+    let first = group_end(protocol, first)?;
+    let last = group_end(protocol, last)?;
+    span(first, last)
+}
+
+/// A group as a number or by its name.
+fn group_end(protocol: Protocol, text: &str) -> Option<i64>
+    ensures { result ≡ group_end protocol text.now }
+{
+    match printed_number_in(0, HIGHEST_GROUP, text) {
+        Some(number) => Some(number),
+        None => Some(i64::from(group_named(protocol, text)?)),
+    }
 }

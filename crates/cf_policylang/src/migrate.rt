@@ -1,13 +1,14 @@
-//! A policy as the text of a document of version 2.
-ghost use Rattle.std.specs.Prelude.{◌≡◌, ◌≤◌, ◌<◌, ◌++◌, [], false, IfOk, IsTrue, Ok, OnOk, length, map, string_bytes, vec_len};
-ghost use Rattle.std.specs.List.{All};
+//! A policy as the text of a document of version 2 or 3.
+ghost use Rattle.std.specs.Prelude.{◌≡◌, ◌≤◌, ◌<◌, ◌++◌, [], false, IfOk, IsTrue, Ok, OnOk, length, map, pos, string_bytes, vec_len};
+ghost use Rattle.std.specs.List.{All, list_any};
 ghost use Rattle.toml.specs.Text.{IsDocumentText};
 ghost use Rattle.toml.specs.View.{array_view, table_view};
 ghost use Rattle.cf_policy.specs.declared.policy.Policy.{Policy};
 ghost use Rattle.cf_policy.specs.Within.{IsWithin, IsAssetWithin};
 ghost use Rattle.cf_policylang.specs.declared.sets.TheConstants.{MOST_SETS};
 ghost use Rattle.cf_policylang.specs.Documents.{text_meaning};
-ghost use Rattle.cf_policylang.specs.Migrating.{all_points, gets_set, has_list, migrated, second_document, sets_behind, with_set};
+ghost use Rattle.cf_policylang.specs.Migrating.{all_points, gets_set, has_list, later_document, migrated, needs_third, sets_behind};
+ghost use Rattle.cf_policylang.specs.Migrating.{version_for, with_set};
 ghost use Rattle.cf_policylang.specs.Spelling.{asset_tables, set_tables};
 
 use crate::printing::document_text;
@@ -20,7 +21,7 @@ use std::alloc::{AllocError, Global};
 use toml::value::Array;
 use toml::{Table, Value};
 
-/// Writes a policy as a document of version 2. Each list of points that two rules state at least is a set, in the order of
+/// Writes a policy as a document of version 2, or of version 3 where that alone can state it. Each list of points that two rules state at least is a set, in the order of
 /// the first such rule, the first `MOST_SETS` of them; every other list is stated with an entry for each span. The text is
 /// what `toml` prints of that table, and it means exactly the given policy, if its size is left aside: it may be longer than
 /// a policy's file may be. Only want of memory gives none. The layout is this project's own; TOML 1.1 is that of `toml`.
@@ -33,6 +34,7 @@ pub fn migrated_text(alloc: Global, policy: &Policy) -> Result<String, NoMemory>
     ensures meaning { IfOk result (λ t. text_meaning (string_bytes t) ≡ Ok policy.now) }
 {
     let assets = policy.assets.as_slice();
+    let third = needs_third(assets);
     let Ok(lists) = set_lists(alloc, assets) else {
         return Err(NoMemory);
     };
@@ -42,27 +44,56 @@ pub fn migrated_text(alloc: Global, policy: &Policy) -> Result<String, NoMemory>
     let Ok(assets) = asset_tables(alloc, lists.as_slice(), assets) else {
         return Err(NoMemory);
     };
-    match printed(alloc, sets, assets) {
+    match printed(alloc, third, sets, assets) {
         Ok(text) => Ok(text),
         Err(_) => Err(NoMemory),
     }
 }
 
 /// The text of the document that has these sets and assets. It means a policy whose document that is.
-fn printed(alloc: Global, sets: Array, assets: Array) -> Result<String, AllocError>
-    ensures text { IfOk result (λ t. IsDocumentText false (second_document (array_view sets) (array_view assets)) (string_bytes t)) }
-    ensures meaning { IfOk result (λ t. (p : Policy) → IsWithin p → second_document (array_view sets) (array_view assets) ≡ migrated p
+fn printed(alloc: Global, third: bool, sets: Array, assets: Array) -> Result<String, AllocError>
+    ensures text { IfOk result (λ t. IsDocumentText false (later_document third (array_view sets) (array_view assets)) (string_bytes t)) }
+    ensures meaning { IfOk result (λ t. (p : Policy) → IsWithin p → later_document third (array_view sets) (array_view assets) ≡ migrated p
         → text_meaning (string_bytes t) ≡ Ok p) }
 {
-    document_text(alloc, &second_document(alloc, sets, assets)?)
+    document_text(alloc, &later_document(alloc, third, sets, assets)?)
 }
 
-/// The document of version 2 that has these sets and assets.
-fn second_document(alloc: Global, sets: Array, assets: Array) -> Result<Table, AllocError>
-    ensures { IfOk result (λ t. table_view t ≡ second_document (array_view sets) (array_view assets)) }
+/// Whether version 3 alone can state a policy with these assets.
+fn needs_third(assets: &[Asset]) -> bool
+    ensures { result ≡ needs_third assets.now }
+{
+    assets.iter().any(|asset| has_log(asset.rules.as_slice()))
+}
+
+fn has_log(rules: &[Rule]) -> bool
+    ensures { result ≡ list_any (λ r. r.log) rules.now }
+{
+    rules.iter().any(|rule| rule.log)
+}
+
+fn version_for(third: bool) -> i64
+    ensures { result ≡ pos (version_for third) }
+{
+    if third { 3 } else { 2 }
+}
+
+/// The document of version 2, or 3, that has these sets and assets.
+fn later_document(
+    alloc: Global,
+    third: bool,
+    sets: Array,
+    assets: Array,
+) -> Result<Table, AllocError>
+    ensures { IfOk result (λ t. table_view t ≡ later_document third (array_view sets) (array_view assets)) }
 {
     let mut table = Table::new(alloc);
-    insert(alloc, &mut table, Key::Version, Value::Integer(2))?;
+    insert(
+        alloc,
+        &mut table,
+        Key::Version,
+        Value::Integer(version_for(third)),
+    )?;
     insert_list(alloc, &mut table, Key::Set, sets)?;
     insert(alloc, &mut table, Key::Asset, Value::Array(assets))?;
     Ok(table)

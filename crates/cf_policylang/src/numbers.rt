@@ -55,7 +55,7 @@ fn octets(a: &str, b: &str, c: &str, d: &str) -> Option<u32>
     Some(((a * 256 + b) * 256 + c) * 256 + d)
 }
 
-fn octet(text: &str) -> Option<u32>
+pub(crate) fn octet(text: &str) -> Option<u32>
     ensures value { result ≡ octet text.now }
     ensures small { IfSome result (λ n. n < 256) }
 {
@@ -64,7 +64,7 @@ fn octet(text: &str) -> Option<u32>
 }
 
 /// What stands before and what stands after the first place at which the mark stands.
-fn split_at_mark<'a>(mark: &str, text: &'a str) -> Option<(&'a str, &'a str)>
+pub(crate) fn split_at_mark<'a>(mark: &str, text: &'a str) -> Option<(&'a str, &'a str)>
     requires { 0 < length mark.now }
     ensures { option_map (λ p. (p.0.now, p.1.now)) result ≡ split_at_mark mark.now text.now }
 {
@@ -72,7 +72,7 @@ fn split_at_mark<'a>(mark: &str, text: &'a str) -> Option<(&'a str, &'a str)>
 }
 
 /// The number from `low` to `high` that the text is, as it is printed.
-fn printed_number_in(low: i64, high: i64, text: &str) -> Option<i64>
+pub(crate) fn printed_number_in(low: i64, high: i64, text: &str) -> Option<i64>
     ensures value { result ≡ printed_number_in low high text.now }
     ensures above { IfSome result (λ z. low ≤ℤ z) }
     ensures below { IfSome result (λ z. z ≤ℤ high) }

@@ -33,6 +33,7 @@ pub enum Key {
     Most,
     Seconds,
     Set,
+    Log,
 }
 
 impl Key {
@@ -61,6 +62,7 @@ impl Key {
             Key::Most => "most",
             Key::Seconds => "seconds",
             Key::Set => "set",
+            Key::Log => "log",
         }
     }
 }
@@ -96,7 +98,7 @@ pub enum Cause {
     /// A file of more than `LONGEST_TEXT` bytes, or more than `MOST_SETS` sets, `MOST_ASSETS` assets, `MOST_RULES` rules of an
     /// asset, `MOST_RATED` of them with a rate, `MOST_SPANS` entries of a list, or as many spans of a rule's points.
     TooMany = 8,
-    /// A version other than 1 and 2.
+    /// A version other than 1, 2 and 3.
     Version = 9,
     /// An entry of a rule's points that names a set which the document does not have.
     UnknownSet = 10,

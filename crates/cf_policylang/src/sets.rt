@@ -27,6 +27,8 @@ pub(crate) enum Edition {
     First,
     /// Version 2, in which a rule's points may name sets.
     Second,
+    /// Version 3, in which a rule may have a log, and codes and groups have names besides.
+    Third,
 }
 
 /// A set of points that has a name.
@@ -197,7 +199,7 @@ fn named_in(edition: Edition, text: &str) -> Option<&str>
 {
     match edition {
         Edition::First => None,
-        Edition::Second => text.strip_prefix("@"),
+        Edition::Second | Edition::Third => text.strip_prefix("@"),
     }
 }
 

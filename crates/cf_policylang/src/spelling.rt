@@ -8,7 +8,7 @@ ghost use Rattle.cf_policy.specs.Within.{IsAssetWithin, IsRuleWithin, IsSpanWith
 ghost use Rattle.cf_policylang.specs.declared.sets.TheConstants.{MOST_SETS};
 ghost use Rattle.cf_policylang.specs.Spelling.{action_text, address_text, are_same, asset_table, number_text, numbers, point_items};
 ghost use Rattle.cf_policylang.specs.Spelling.{protocol_text, rule_table, rule_tables, set_place, set_table, set_text, texts, with_key};
-ghost use Rattle.cf_policylang.specs.Spelling.{with_list, with_master, with_rate};
+ghost use Rattle.cf_policylang.specs.Spelling.{with_list, with_log, with_master, with_rate};
 
 use crate::refusal::Key;
 use arrayvec::ArrayString;
@@ -149,7 +149,18 @@ fn rule_table(alloc: Global, lists: &[Items<Span>], rule: &Rule) -> Result<Table
     let values = number_texts(alloc, rule.values.as_slice())?;
     insert_list(alloc, &mut table, Key::Values, values)?;
     insert_rate(alloc, &mut table, rule.rate)?;
+    insert_log(alloc, &mut table, rule.log)?;
     Ok(table)
+}
+
+fn insert_log(alloc: Global, table: &mut Table, log: bool) -> Result<(), AllocError>
+    ensures { OnOk result (table_view table.new ≡ with_log log (table_view table.old)) }
+{
+    if log {
+        insert(alloc, table, Key::Log, Value::Boolean(true))
+    } else {
+        Ok(())
+    }
 }
 
 fn insert_rate(alloc: Global, table: &mut Table, rate: Option<Rate>) -> Result<(), AllocError>

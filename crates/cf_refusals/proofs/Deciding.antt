@@ -2,7 +2,8 @@
 use Rattle.std.proofs.Common.{◌≡◌, ℕ, ◌<◌, Bool, true, false, List, [], ◌∷◌, length, Option, Some, None, refl, subst}
 use Rattle.std.specs.Prelude.{option_and_then, slice_get}
 use Rattle.std.proofs.lemmas.Option.{slice_get_within}
-use Rattle.cf_lane.specs.Acts.{by_refusal, fate_of_acts, first_refusal, refusal_or, used_by}
+use Rattle.cf_lane.specs.Acts.{admission, by_refusal, fate_of_acts, first_refusal, refusal_or}
+use Rattle.cf_lane.specs.declared.fate.Admission.{Admission}
 use Rattle.cf_lane.specs.Fate.{HasOwnDecider}
 use Rattle.cf_lane.specs.Judged.{Judged}
 use Rattle.cf_lane.specs.Rates.{Says, is_spent, rated, said, says_at, unless_spent}
@@ -48,10 +49,10 @@ module _ (rules : List Rule) (says : Says) (inside : (act : Act) → IsInside ru
   first_inside [] refusal e = cc
   first_inside (act ∷ acts) refusal e = refusal_inside act (says act) (first_refusal says acts) refusal (inside act) (first_inside acts refusal) e
 
-  own_by : (used : List Bool) (o : Option Refusal) → ((refusal : Refusal) → o ≡ Some refusal → IsOneOf rules refusal.decider) → HasOwnDecider rules (by_refusal used o)
+  own_by : (used : Admission) (o : Option Refusal) → ((refusal : Refusal) → o ≡ Some refusal → IsOneOf rules refusal.decider) → HasOwnDecider rules (by_refusal used o)
   own_by used None h = tt
   own_by used (Some refusal) h = h refusal refl
 
 pub own_acts : (asset : Asset) (says : Says) → ((act : Act) → IsInside asset.rules (says act)) → (acts : List Act) → HasOwnDecider asset.rules (fate_of_acts asset says acts)
 own_acts asset says inside acts =
-    own_by asset.rules says inside (used_by (rated asset.rules) says acts) (first_refusal says acts) (first_inside asset.rules says inside acts)
+    own_by asset.rules says inside (admission asset says acts) (first_refusal says acts) (first_inside asset.rules says inside acts)

@@ -1,4 +1,5 @@
--- What is told of a refused command, in the log and in the stream to the client: RefusedAreTold, read from the end. The replies are
+-- What is told of a refused command, in the log and in the stream to the client, and of an admitted one in the log: RefusedAreTold and
+-- ShownAreTold, read from the end. The replies are
 -- those of the standards as the codecs have them; which commands have none is this project's own.
 use Rattle.std.specs.Prelude.{◌≡◌, ℕ, nat_lt, not, Bool, ◌||◌, if◌then◌else◌, List, [], ◌∷◌, ◌++◌, length, slice_index}
 use Rattle.cf_apci.specs.Apdu.{Info}
@@ -12,11 +13,12 @@ use Rattle.cf_lane.specs.History.{Element}
 use Rattle.cf_lane.specs.Iec104.{stamped}
 use Rattle.cf_lane.specs.Item.{Item, Took}
 use Rattle.cf_lane.specs.Judged.{Judged, has_ended}
-use Rattle.cf_lane.specs.Log.{is_some_bytes, line_about, lines, refusal_line}
+use Rattle.cf_lane.specs.Log.{admission_lines, command_octets, is_some_bytes, line_about, lines, refusal_line}
 use Rattle.cf_lane.specs.Numbers.{events_of}
 use Rattle.cf_lane.specs.Output.{outputs}
 use Rattle.cf_lane.specs.Unit.{Adu, Apdu, Frame, apdu_spelling}
 use Rattle.cf_lane.specs.declared.fate.Fate.TheVariants as fate
+use Rattle.cf_lane.specs.declared.fate.Admission.{Admission}
 use Rattle.cf_lane.specs.declared.fate.Refusal.{Refusal}
 use Rattle.cf_modbus.specs.Adu.{spelling}
 use Rattle.cf_modbus.specs.Exception.{exception_of}
@@ -47,6 +49,11 @@ IsReply asset ended earlier (Took side.Client (Apdu (Info send receive asdu))) r
     replied ≡ unless (ended || nat_lt (length asdu) 9) (apdu_spelling (stamped (mirror_stamp (events_of earlier)) (mirrored asdu)))
 IsReply asset ended earlier _ refusal replied = ⊥
 
+-- the octets of a command as they were received: the ADU, the APDU, or the DNP3 fragment that the frame completes
+abbrev pub received : Asset → (earlier : List Judged) → Item → List ℕ
+received asset earlier (Took s unit) = command_octets asset earlier s unit
+received asset earlier _ = []
+
 -- of a refused command between earlier and later items: what decided, its line, and its reply
 pub record IsTold (asset : Asset) (client : Endpoint) (earlier : List Judged) (j : Judged) (later : List Judged) (refusal : Refusal) : Type
     0 where
@@ -57,12 +64,10 @@ pub record IsTold (asset : Asset) (client : Endpoint) (earlier : List Judged) (j
   pub in_stream :
       outputs asset side.Client [] (earlier ++ j ∷ later)
       ≡ outputs asset side.Client [] earlier ++ (replied ++ outputs asset side.Client (earlier ++ j ∷ []) later)
-  -- the octets as they were received
-  pub octets : List ℕ
   pub in_log :
       lines asset client [] (earlier ++ j ∷ later)
       ≡ lines asset client [] earlier
-      ++ (line_about asset client j.moment (refusal_line asset refusal (is_some_bytes replied) octets)
+      ++ (line_about asset client j.moment (refusal_line asset refusal (is_some_bytes replied) (received asset earlier j.item))
       ∷ lines asset client (earlier ++ j ∷ []) later)
 
 -- so it is of each refused command of every history
@@ -71,3 +76,18 @@ RefusedAreTold =
     (asset : Asset) (client : Endpoint) (history : List Element) (earlier later : List Judged) (j : Judged) (refusal : Refusal) →
     AreJudged asset client.address history (earlier ++ j ∷ later) → j.fate ≡ fate.Refused refusal
     → IsTold asset client earlier j later refusal
+
+-- of an admitted command between earlier and later items: its line stands at its place, if a rule with a log allowed one of its acts
+pub record IsShown (asset : Asset) (client : Endpoint) (earlier : List Judged) (j : Judged) (later : List Judged) (admitted : Admission) : Type
+    0 where
+  pub in_log :
+      lines asset client [] (earlier ++ j ∷ later)
+      ≡ lines asset client [] earlier
+      ++ (admission_lines asset client j.moment (received asset earlier j.item) admitted ++ lines asset client (earlier ++ j ∷ []) later)
+
+-- so it is of each admitted command of every history
+abbrev pub ShownAreTold : Type 0
+ShownAreTold =
+    (asset : Asset) (client : Endpoint) (history : List Element) (earlier later : List Judged) (j : Judged) (admitted : Admission) →
+    AreJudged asset client.address history (earlier ++ j ∷ later) → j.fate ≡ fate.Admitted admitted
+    → IsShown asset client earlier j later admitted

@@ -3,4 +3,4 @@
 
 mod laws;
 
-pub use laws::refused_commands_are_told;
+pub use laws::{refused_commands_are_told, shown_commands_are_told};

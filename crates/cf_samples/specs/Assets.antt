@@ -1,5 +1,5 @@
 -- Beside the proof: the assets of the tests as values: `pump_asset` and `rtu_asset`.
-use Rattle.std.specs.Prelude.{None, pos, [], ◌∷◌, codes}
+use Rattle.std.specs.Prelude.{None, pos, [], ◌∷◌, codes, false}
 use Rattle.cf_policy.specs.declared.policy.Action.TheVariants.{Allow}
 use Rattle.cf_policy.specs.declared.policy.Asset.{Asset}
 use Rattle.cf_policy.specs.declared.policy.Protocol.TheVariants.{Modbus, Dnp3}
@@ -17,6 +17,7 @@ set_rule = record {
   points = record { low = pos 40; high = pos 49 } ∷ [];
   values = record { low = pos 0; high = pos 500 } ∷ [];
   rate = None;
+  log = false;
 }
 
 abbrev pub pump_asset : Asset

@@ -71,6 +71,7 @@ pub fn pump(alloc: Global) -> Result<Asset, AllocError>
         points: one_span(alloc, 40, 49)?,
         values: one_span(alloc, 0, 500)?,
         rate: None,
+        log: false,
     })?;
     Ok(Asset {
         name: Name::from_text("pump"),

@@ -19,7 +19,7 @@ ghost use Rattle.cf_lane.specs.Kept.{of_side};
 use crate::dnp3::judge::judge_fragment;
 use crate::dnp3::recut::push_fragment;
 use crate::fate::{Fate, Judgement, Refusal};
-use crate::log::{log_refusal, log_stray};
+use crate::log::{log_admission, log_refusal, log_stray};
 use crate::rules::Rules;
 use crate::wire::Fragments;
 use arrayvec::ArrayVec;
@@ -156,7 +156,7 @@ impl Fragments {
                 log_refusal(asset, client, moment, &refusal, replied, octets, desk)?;
                 Ok(Fate::Refused(refusal))
             }
-            Some(Judgement::Admitted(used)) => {
+            Some(Judgement::Admitted(admission)) => {
                 self.to_controller = push_fragment(
                     asset,
                     Side::Controller,
@@ -164,7 +164,8 @@ impl Fragments {
                     self.to_controller,
                     to_controller,
                 );
-                Ok(Fate::Admitted(used))
+                log_admission(asset, client, moment, &admission, octets, desk)?;
+                Ok(Fate::Admitted(admission))
             }
             None => {
                 self.to_controller = push_fragment(

@@ -12,9 +12,14 @@ ghost use Rattle.cf_lane.specs.declared.fate.Fate.{Fate};
 
 use crate::fate::{Judgement, judge_acts, refused};
 use crate::rules::Rules;
-use cf_dnpobj::{CONFIRM, Fragment, FragmentRefusal, act_at, act_count, read_fragment};
+use cf_dnpobj::{
+    CONFIRM, Fragment, FragmentRefusal, act_at, act_by, act_count, marks_of, read_fragment,
+};
 use cf_policy::{Asset, Decider};
 use cf_view::{Reason, Side, View};
+
+/// So many acts are found one by one, without marks.
+const FEW_ACTS: u32 = 16;
 
 /// What becomes of a fragment of 2 to 2,048 octets of the client of the index: none for a confirmation, which is no command and
 /// goes on. Of every other one the form is read, then each act is judged in its order; the first that is not allowed decides. This
@@ -75,11 +80,13 @@ fn judge_request(
     if fragment.code == CONFIRM {
         return None;
     }
-    Some(judge_acts(
-        asset,
-        rules,
-        moment,
-        act_count(fragment),
-        |i| act_at(fragment, i),
-    ))
+    let count = act_count(fragment);
+    if count <= FEW_ACTS {
+        return Some(judge_acts(asset, rules, moment, count, |i| { act_at(fragment, i) }));
+    }
+    // Each of many acts is found from a mark near it: a walk over all headers for each would take their number squared.
+    let marks = marks_of(fragment);
+    Some(judge_acts(asset, rules, moment, count, |i| {
+        act_by(fragment, &marks, i)
+    }))
 }

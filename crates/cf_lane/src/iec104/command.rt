@@ -16,7 +16,7 @@ use crate::fate::{Fate, Judgement};
 use crate::iec104::carry::number_cut;
 use crate::iec104::judge::judge_asdu;
 use crate::iec104::push::{push_ack, push_info, push_mirror};
-use crate::log::log_refusal;
+use crate::log::{log_admission, log_refusal};
 use crate::rules::Rules;
 use cf_asdu::SHORTEST;
 use cf_audit::CutReason;
@@ -103,10 +103,11 @@ pub(crate) fn take_command<D: Desk>(
         return Ok(Fate::Cuts(number_cut(Side::Client, refusal)));
     }
     match judge_asdu(asset, rules, moment, asdu) {
-        Judgement::Admitted(used) => {
+        Judgement::Admitted(admission) => {
             let stamp = numbers.admitted();
             push_info(&stamp, asdu, to_controller);
-            Ok(Fate::Admitted(used))
+            log_admission(asset, client, moment, &admission, octets, desk)?;
+            Ok(Fate::Admitted(admission))
         }
         Judgement::Refused(refusal) => {
             let replied = has_mirror(asdu, to_client);

@@ -1,8 +1,7 @@
 use Rattle.std.proofs.Common.{arith, of_calls, ap}
 use Rattle.cf_policy.specs.Verdict.{verdict_of}
 use Rattle.cf_lane.proofs.Commands.{admitted_at_end, allowed_at, refused_at}
-use Rattle.cf_lane.specs.Acts.{used_by}
-use Rattle.cf_lane.specs.Rates.{rated}
+use Rattle.cf_lane.specs.Acts.{admission}
 use Rattle.cf_judge.specs.Ruling.{ruling_of}
 use Rattle.cf_judge.proofs.ruling.judge_acts.Goals as goal
 
@@ -11,7 +10,7 @@ returns-in-Refuse g c = λ client acts is size gives.
     let says = verdict_of c.args.asset.now client in
     ap ruling_of (refused_at says acts c.loop-i.i c.act_at-act.result
     (gives c.loop-i.i c.act_at-act.result (omega (arith, size, c.loop-i-test.true)) (search of_calls))
-    (c.loop-i.invariant client acts is size gives) (used_by (rated c.args.asset.now.rules) says acts) c.in-Refuse.decider c.in-Refuse.reason (c.in-Refuse.ensures.decides client is))
+    (c.loop-i.invariant client acts is size gives) (admission c.args.asset.now says acts) c.in-Refuse.decider c.in-Refuse.reason (c.in-Refuse.ensures.decides client is))
 
 pub loop-i-preserved : goal.loop-i-preserved
 loop-i-preserved g c = λ client acts is size gives.
@@ -22,4 +21,4 @@ loop-i-preserved g c = λ client acts is size gives.
 pub returns : goal.returns
 returns g c = λ client acts is size gives.
     let says = verdict_of c.args.asset.now client in
-    ap ruling_of (admitted_at_end says acts c.loop-i.i (used_by (rated c.args.asset.now.rules) says acts) (omega (arith, size, c.loop-i-test.false)) (c.loop-i.invariant client acts is size gives))
+    ap ruling_of (admitted_at_end says acts c.loop-i.i (admission c.args.asset.now says acts) (omega (arith, size, c.loop-i-test.false)) (c.loop-i.invariant client acts is size gives))

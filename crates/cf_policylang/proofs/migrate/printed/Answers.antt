@@ -5,7 +5,7 @@ use Rattle.toml.specs.View.{array_view, table_view}
 use Rattle.cf_policy.specs.declared.policy.Policy.{Policy}
 use Rattle.cf_policy.specs.Within.{IsWithin}
 use Rattle.cf_policylang.specs.Documents.{document, text_meaning}
-use Rattle.cf_policylang.specs.Migrating.{migrated, second_document}
+use Rattle.cf_policylang.specs.Migrating.{later_document, migrated}
 use Rattle.cf_policylang.proofs.Depths.{migrated_shallow}
 use Rattle.cf_policylang.proofs.DocumentsBack.{document_read}
 use Rattle.cf_policylang.proofs.migrate.printed.Goals as goal
@@ -13,9 +13,9 @@ use Rattle.cf_policylang.proofs.migrate.printed.Goals as goal
 -- the text means what its table means, and that is the policy
 pub returns-clause-meaning : goal.returns-clause-meaning
 returns-clause-meaning c =
-    let own = second_document (array_view c.args.sets) (array_view c.args.assets) in
-    let table = c.in_ok-second_document.field-0 in
-    let made : table_view table ≡ own = c.in_ok-second_document.ensures in
+    let own = later_document c.args.third (array_view c.args.sets) (array_view c.args.assets) in
+    let table = c.in_ok-later_document.field-0 in
+    let made : table_view table ≡ own = c.in_ok-later_document.ensures in
     IfOk-weaker c.document_text.result (λ t. members_depth (table_view table) ≤ 80 → text_meaning (string_bytes t) ≡ document (table_view table))
     (λ t. (p : Policy) → IsWithin p → own ≡ migrated p → text_meaning (string_bytes t) ≡ Ok p)
     (λ t read p within is.

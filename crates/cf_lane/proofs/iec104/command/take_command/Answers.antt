@@ -8,7 +8,7 @@ use Rattle.cf_outq.specs.SendQueue.{Queue}
 use Rattle.cf_lane.proofs.Renumbering.{AreRight, ack_most, does_admitted, does_refused, mirror_most, refused_lines}
 use Rattle.cf_lane.specs.Numbers.{events_of, has_mirror}
 use Rattle.cf_lane.specs.Renumbered.{MissesApdu, mirror_octets, numbered}
-use Rattle.cf_lane.specs.Log.{line_about, refusal_line, with_lines}
+use Rattle.cf_lane.specs.Log.{admission_lines, line_about, refusal_line, with_lines}
 use Rattle.cf_lane.specs.Judgement.{fate_of_judgement}
 use Rattle.cf_apci.specs.Apdu.{Info}
 use Rattle.std.specs.Prelude.{if◌then◌else◌, nat_lt}
@@ -33,7 +33,6 @@ returns-in_err-log_refusal-in-Refused-clause-misses g c =
     let missed : MissesApdu asset (says_by c.args.asset.now c.args.client.now.address c.args.rules.now c.args.moment) client moment side.Client (Info c.args.send c.args.receive asdu) old (DeskValue.lines (g.D.Desk.value c.log_refusal.new.desk)) (DeskValue.line_part (g.D.Desk.value c.log_refusal.new.desk)) = record {
       fate = fate.Refused r;
       uncut = refl;
-      unadmitted = refl;
       new = numbered c.refused-stamp.new.self c.push_refused.new.to_client c.push_refused.new.to_controller (with_lines text (line ∷ []));
       takes = λ earlier stands ended.
           (let right : AreRight c.args.send c.args.receive earlier = record { may = search rules; none = c.in_default.ensures.answer (events_of earlier) stands } in
@@ -55,17 +54,49 @@ returns-in_err-log_refusal-in-Refused-clause-misses g c =
     } in
     on_err _ _ missed
 
-pub returns-in-Admitted-clause-takes : goal.returns-in-Admitted-clause-takes
-returns-in-Admitted-clause-takes g c = λ earlier stands ended.
+pub returns-in_ok-log_admission-in-Admitted-clause-takes : goal.returns-in_ok-log_admission-in-Admitted-clause-takes
+returns-in_ok-log_admission-in-Admitted-clause-takes g c = λ earlier stands ended.
     (let right : AreRight c.args.send c.args.receive earlier = record {
       may = search rules;
       none = c.in_default.ensures.answer (events_of earlier) stands;
     } in
     let awaits = c.in_default.ensures.stands (events_of earlier) stands in
-    let old = numbered c.args.numbers.now c.args.to_client.now c.args.to_controller.now (DeskValue.lines (g.D.Desk.value c.args.desk.now)) in
-    does_admitted c.args.asset.now (says_by c.args.asset.now c.args.client.now.address c.args.rules.now c.args.moment) c.args.client.now c.args.moment c.args.send c.args.receive c.args.asdu.now.bytes old earlier right c.in-Admitted.used c.admitted-stamp.result _ _
+    let text = DeskValue.lines (g.D.Desk.value c.args.desk.now) in
+    let old = numbered c.args.numbers.now c.args.to_client.now c.args.to_controller.now text in
+    does_admitted c.args.asset.now (says_by c.args.asset.now c.args.client.now.address c.args.rules.now c.args.moment) c.args.client.now c.args.moment c.args.send c.args.receive c.args.asdu.now.bytes old earlier right c.in-Admitted.admission c.admitted-stamp.result _ _ _
     (sym (ap fate_of_judgement c.in-Admitted.is) ∙ c.judge_asdu.ensures.fate c.args.client.now.address c.requires.rules) (c.admitted-stamp.ensures.stamp (events_of earlier) c.args.receive awaits)
-    (c.admitted-stamp.ensures.stands (events_of earlier) c.args.receive awaits) c.push_info.ensures.queue c.requires.«open»)
+    (c.admitted-stamp.ensures.stands (events_of earlier) c.args.receive awaits) c.push_info.ensures.queue c.requires.«open»
+    (c.in_ok-log_admission-in-Admitted.ensures.lines
+    ∙ ap (λ (o : List ℕ). with_lines text (admission_lines c.args.asset.now c.args.client.now c.args.moment o c.in-Admitted.admission)) c.requires.octets))
+
+pub returns-in_err-log_admission-in-Admitted-clause-misses :
+    goal.returns-in_err-log_admission-in-Admitted-clause-misses
+returns-in_err-log_admission-in-Admitted-clause-misses g c =
+    let asset = c.args.asset.now in
+    let client = c.args.client.now in
+    let moment = c.args.moment in
+    let asdu = c.args.asdu.now.bytes in
+    let text = DeskValue.lines (g.D.Desk.value c.args.desk.now) in
+    let log = DeskValue.lines (g.D.Desk.value c.log_admission.new.desk) in
+    let part = DeskValue.line_part (g.D.Desk.value c.log_admission.new.desk) in
+    let old = numbered c.args.numbers.now c.args.to_client.now c.args.to_controller.now text in
+    let used = c.in-Admitted.admission in
+    let own = admission_lines asset client moment (apdu_octets (Info c.args.send c.args.receive asdu)) used in
+    let missed : MissesApdu asset (says_by asset client.address c.args.rules.now moment) client moment side.Client (Info c.args.send c.args.receive asdu) old log part = record {
+      fate = fate.Admitted used;
+      uncut = refl;
+      new = numbered c.admitted-stamp.new.self c.args.to_client.now c.push_info.new.queue (with_lines text own);
+      takes = λ earlier stands ended.
+          (let right : AreRight c.args.send c.args.receive earlier = record { may = search rules; none = c.in_default.ensures.answer (events_of earlier) stands } in
+          let awaits = c.in_default.ensures.stands (events_of earlier) stands in
+          does_admitted asset (says_by asset client.address c.args.rules.now moment) client moment c.args.send c.args.receive asdu old earlier right used c.admitted-stamp.result _ _ _
+          (sym (ap fate_of_judgement c.in-Admitted.is) ∙ c.judge_asdu.ensures.fate client.address c.requires.rules) (c.admitted-stamp.ensures.stamp (events_of earlier) c.args.receive awaits)
+          (c.admitted-stamp.ensures.stands (events_of earlier) c.args.receive awaits) c.push_info.ensures.queue c.requires.«open» refl);
+      more = own;
+      are_more = λ earlier stands ended. refl;
+      line = subst (λ (o : List ℕ). MayHaveMore (admission_lines asset client moment o used) text log part) c.requires.octets c.in_err-log_admission-in-Admitted.ensures.fails;
+    } in
+    on_err _ _ missed
 
 pub returns-in_ok-log_refusal-in-Refused-clause-takes :
     goal.returns-in_ok-log_refusal-in-Refused-clause-takes

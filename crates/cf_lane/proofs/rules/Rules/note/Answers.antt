@@ -8,12 +8,12 @@ pub returns : goal.returns
 returns c =
     let new = c.note_all.new.rings in
     let old = c.args.self.now.rings.items in
-    let used = c.args.used.now in
+    let used = c.args.admission.now.used in
     let noted = subst (λ (old : List RingValue). AreNoted (length old) used c.args.moment old new) c.as_mut_slice.ensures.value c.note_all.ensures in
     let size : c.args.self.now.rings.len ≡ length old = search rules in
     let whole = whole_written c.args.self.now.rings.len new old (size ∙ sym noted.count) in
     record {
       index = refl;
       rings = ap (map ring_rate) whole ∙ rates_go_on used c.args.moment old new noted;
-      know = λ earlier j f at know. subst (λ rings. KnowRings rings (earlier ++ j ∷ [])) (sym whole) (rings_go_on used c.args.moment old new noted earlier j f at know);
+      know = λ earlier j f at know. subst (λ rings. KnowRings rings (earlier ++ j ∷ [])) (sym whole) (rings_go_on c.args.admission.now c.args.moment old new noted earlier j f at know);
     }

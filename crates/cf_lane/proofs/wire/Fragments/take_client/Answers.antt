@@ -2,13 +2,13 @@ use Rattle.cf_lane.specs.Rings.{says_by}
 use Rattle.std.proofs.Common.{List, [], ap, arith, length, refl, subst, sym, ℕ, ◌+◌, ◌<◌, ◌∙◌, ◌∷◌, ◌≡◌, ◌≤◌}
 use Rattle.cf_audit.specs.declared.line.Why.TheVariants as why
 use Rattle.cf_dnptrans.specs.declared.assembly.SegmentAnswer.TheVariants as answers
-use Rattle.cf_lane.proofs.Dnp3Segments.{fate_long, fate_short, misses_quietly, misses_reply, recut_grows, recut_room, stray_fragment}
+use Rattle.cf_lane.proofs.Dnp3Segments.{fate_long, fate_short, misses_admitted, misses_quietly, misses_reply, recut_grows, recut_room, sends_one, stray_fragment, takes_admitted}
 use Rattle.cf_lane.proofs.Failing.{on_err}
 use Rattle.cf_lane.specs.Fragments.{Sends, frames_exist, parts}
 use Rattle.cf_lane.specs.Dnp3.{IsOfFragment, fate_of_fragment, fate_of_segment, fragment_reply}
 use Rattle.cf_lane.specs.Handled.{MayHaveMore}
 use Rattle.cf_lane.specs.Judgement.{fate_of_judgement, fate_or_carried}
-use Rattle.cf_lane.specs.Log.{line_about, refusal_line}
+use Rattle.cf_lane.specs.Log.{admission_lines, line_about, refusal_line, with_lines}
 use Rattle.cf_lane.specs.declared.fate.Fate.TheVariants as fate
 use Rattle.cf_outside.specs.Desk.{DeskValue}
 use Rattle.cf_view.specs.declared.Side.TheVariants as side
@@ -22,7 +22,7 @@ returns-in_err-log_stray-clause-misses g c =
     on_err _ _ (misses_quietly c.args.asset.now (says_by c.args.asset.now c.args.client.now.address c.args.rules.now c.args.moment) c.args.client.now c.args.moment side.Client answers.Whole (f.client.octets ∷ []) (fate.Stray why.Short) old
     (fate_short c.args.asset.now (says_by c.args.asset.now c.args.client.now.address c.args.rules.now c.args.moment) side.Client f.client.octets short)
     (λ to. stray_fragment to side.Client c.args.to_client.now.ended why.Short (f.client.octets ∷ []))
-    c.requires.to_client c.requires.to_controller refl _ _ c.in_err-log_stray.ensures.fails)
+    c.requires.to_client c.requires.to_controller _ _ c.in_err-log_stray.ensures.fails)
 
 pub returns-in_err-log_refusal-in-Some-Refused-clause-misses :
     goal.returns-in_err-log_refusal-in-Some-Refused-clause-misses
@@ -53,8 +53,8 @@ push_fragment-self-requires-in-None-clause-room g c =
     recut_room c.args.asset.now side.Controller c.args.self.now.to_controller (length c.args.self.now.client.octets + 2) c.fragment-octets.result.bytes c.args.to_controller.now
     (omega (arith, ap length c.fragment-octets.ensures.octets)) c.requires.controller_room
 
-pub returns-in-Some-Admitted-clause-controller_grows : goal.returns-in-Some-Admitted-clause-controller_grows
-returns-in-Some-Admitted-clause-controller_grows g c =
+pub returns-in_ok-log_admission-in-Some-Admitted-clause-controller_grows : goal.returns-in_ok-log_admission-in-Some-Admitted-clause-controller_grows
+returns-in_ok-log_admission-in-Some-Admitted-clause-controller_grows g c =
     recut_grows c.args.asset.now side.Controller c.args.self.now.to_controller (length c.args.self.now.client.octets + 2) c.fragment-octets.result.bytes c.args.to_controller.now _
     (omega (arith, ap length c.fragment-octets.ensures.octets)) c.push_fragment-self.ensures.queue
 
@@ -66,3 +66,43 @@ returns-in-None-clause-controller_grows g c =
 pub reply-replied-requires-clause-reason : goal.reply-replied-requires-clause-reason
 reply-replied-requires-clause-reason g c =
     subst IsOfFragment (ap fate_or_carried c.in-Some-Refused.is ∙ ap fate_of_judgement c.in-Some-Refused.field-0-is) (c.judge_fragment.ensures.fragment c.args.client.now.address c.requires.rules)
+
+pub returns-in_ok-log_admission-in-Some-Admitted-clause-takes :
+    goal.returns-in_ok-log_admission-in-Some-Admitted-clause-takes
+returns-in_ok-log_admission-in-Some-Admitted-clause-takes g c =
+    let f = c.args.self.now in
+    let asset = c.args.asset.now in
+    let says = says_by asset c.args.client.now.address c.args.rules.now c.args.moment in
+    let text = DeskValue.lines (g.D.Desk.value c.args.desk.now) in
+    let old = parts f c.args.to_client.now c.args.to_controller.now text in
+    let long : 2 ≤ length f.client.octets = omega (arith, c.if-len-lt2.false, c.len.ensures.length, ap length c.fragment-octets.ensures.octets) in
+    let used = c.in-Some-Admitted.admission in
+    let same : c.fragment-octets.result.bytes ≡ f.client.octets = c.fragment-octets.ensures.octets in
+    let is : fate.Admitted used ≡ fate_of_segment asset says side.Client answers.Whole (f.client.octets ∷ []) =
+    sym (ap fate_or_carried c.in-Some-Admitted.is ∙ ap fate_of_judgement c.in-Some-Admitted.field-0-is) ∙ c.judge_fragment.ensures.fate c.args.client.now.address c.requires.rules ∙ ap (λ xs. fate_of_fragment asset says side.Client xs) same
+    ∙ fate_long asset says side.Client f.client.octets long in
+    takes_admitted asset says c.args.client.now c.args.moment f.client.octets used old _ _ _ is c.requires.to_client
+    (subst (λ xs. Sends asset side.Controller (xs ∷ []) f.to_controller c.args.to_controller.now c.push_fragment-self.result c.push_fragment-self.new.queue) same
+    (sends_one asset side.Controller c.fragment-octets.result.bytes f.to_controller c.push_fragment-self.result c.args.to_controller.now c.push_fragment-self.new.queue c.requires.«open» c.push_fragment-self.ensures.sequence c.push_fragment-self.ensures.queue))
+    (c.in_ok-log_admission-in-Some-Admitted.ensures.lines ∙ ap (λ xs. with_lines text (admission_lines asset c.args.client.now c.args.moment xs used)) same)
+
+pub returns-in_err-log_admission-in-Some-Admitted-clause-misses :
+    goal.returns-in_err-log_admission-in-Some-Admitted-clause-misses
+returns-in_err-log_admission-in-Some-Admitted-clause-misses g c =
+    let f = c.args.self.now in
+    let asset = c.args.asset.now in
+    let says = says_by asset c.args.client.now.address c.args.rules.now c.args.moment in
+    let text = DeskValue.lines (g.D.Desk.value c.args.desk.now) in
+    let log = DeskValue.lines (g.D.Desk.value c.log_admission.new.desk) in
+    let part = DeskValue.line_part (g.D.Desk.value c.log_admission.new.desk) in
+    let old = parts f c.args.to_client.now c.args.to_controller.now text in
+    let long : 2 ≤ length f.client.octets = omega (arith, c.if-len-lt2.false, c.len.ensures.length, ap length c.fragment-octets.ensures.octets) in
+    let used = c.in-Some-Admitted.admission in
+    let same : c.fragment-octets.result.bytes ≡ f.client.octets = c.fragment-octets.ensures.octets in
+    let is : fate.Admitted used ≡ fate_of_segment asset says side.Client answers.Whole (f.client.octets ∷ []) =
+    sym (ap fate_or_carried c.in-Some-Admitted.is ∙ ap fate_of_judgement c.in-Some-Admitted.field-0-is) ∙ c.judge_fragment.ensures.fate c.args.client.now.address c.requires.rules ∙ ap (λ xs. fate_of_fragment asset says side.Client xs) same
+    ∙ fate_long asset says side.Client f.client.octets long in
+    on_err _ _ (misses_admitted asset says c.args.client.now c.args.moment f.client.octets used old c.push_fragment-self.result c.push_fragment-self.new.queue _ _ is c.requires.to_client
+    (subst (λ xs. Sends asset side.Controller (xs ∷ []) f.to_controller c.args.to_controller.now c.push_fragment-self.result c.push_fragment-self.new.queue) same
+    (sends_one asset side.Controller c.fragment-octets.result.bytes f.to_controller c.push_fragment-self.result c.args.to_controller.now c.push_fragment-self.new.queue c.requires.«open» c.push_fragment-self.ensures.sequence c.push_fragment-self.ensures.queue))
+    (subst (λ xs. MayHaveMore (admission_lines asset c.args.client.now c.args.moment xs used) text log part) same c.in_err-log_admission-in-Some-Admitted.ensures.fails))

@@ -22,7 +22,7 @@ returns-in_err-log_stray-clause-misses g c =
     (old to_controller)
     (fate_short c.args.asset.now says side.Controller f.controller.octets short)
     (λ to. stray_fragment to side.Controller c.args.to_client.now.ended why.Short (f.controller.octets ∷ []))
-    c.requires.to_client c.requires.to_controller refl _ _ c.in_err-log_stray.ensures.fails in
+    c.requires.to_client c.requires.to_controller _ _ c.in_err-log_stray.ensures.fails in
     on_err _ _ all
 
 pub push_fragment-self-requires-clause-room : goal.push_fragment-self-requires-clause-room
