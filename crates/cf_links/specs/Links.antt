@@ -69,6 +69,7 @@ with_answers told answers = record { session = told.session; list = option_map (
 abbrev pub Reaches : (listen : ℕ) → (peer : Endpoint) → SessionTold → SessionTold → ReachAnswer → Type 0
 Reaches listen peer old new (reach.Met client) = new ≡ with_entry old (met_at listen peer client)
 Reaches listen peer old new reach.Waiting = new ≡ old
+Reaches listen peer old new reach.Gone = new ≡ old
 Reaches listen peer old new reach.Failed = new ≡ old
 
 -- the moment is told

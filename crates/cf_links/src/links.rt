@@ -14,6 +14,8 @@ pub enum ReachAnswer {
     Met(Endpoint),
     /// The controller has not answered yet.
     Waiting,
+    /// The client's stream ended or failed before the controller was reached.
+    Gone,
     Failed,
 }
 
@@ -33,7 +35,8 @@ pub trait Links {
     /// of no session failed.
     ghost place: { Self → LinksPlace };
 
-    /// Asks whether the controller of a session is reached, as the listening port and the peer of its meeting.
+    /// Asks whether the controller of a session is reached, as the listening port and the peer of its meeting; a client that has gone
+    /// before is told of instead.
     fn meet(&mut self, session: u64, listen: u16, peer: Endpoint) -> ReachAnswer
         requires serves { LinksPlace.serves (place self.old) session ≡ true }
         ensures place { place self.new ≡ place self.old }

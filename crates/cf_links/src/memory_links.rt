@@ -19,6 +19,8 @@ pub struct MemoryClient {
     pub place: u32,
     /// How often `meet` still answers `Waiting`.
     pub waits: u64,
+    /// Whether `meet` answers `Gone` then, as of a client that does not wait for its controller.
+    pub gone: bool,
     /// How often `is_ready` still says yes before it rests.
     pub wakes: u64,
     /// How often it says no then; behind that it says yes.
@@ -29,11 +31,12 @@ pub struct MemoryClient {
 impl MemoryClient {
     /// A client of a listening place, whose controller is reached at once, and which never rests.
     pub fn new(place: u32, pair: MemoryPair) -> Self
-        ensures { result ≡ record { place = place; waits = 0; wakes = 0; rests = 0; pair = pair } }
+        ensures { result ≡ record { place = place; waits = 0; gone = false; wakes = 0; rests = 0; pair = pair } }
     {
         MemoryClient {
             place,
             waits: 0,
+            gone: false,
             wakes: 0,
             rests: 0,
             pair,
@@ -67,7 +70,8 @@ pub enum LinksTold {
 
 /// Links in memory, whose answers are scripted. The clients come in their order: `arrive` answers the next one alone, where it is
 /// asked for at that client's place and under its number, which counts from 0; one that is not taken keeps those behind it out. A
-/// session answers what its pair answers (`MemoryPair`), once `meet` has said `waits` times that its controller has not answered;
+/// session answers what its pair answers (`MemoryPair`), once `meet` has said `waits` times that its controller has not answered (and
+/// that its client is `gone`, where it is);
 /// `is_ready` says yes but for its `rests`. `listen` fails at the place `deaf`; `wait` moves the clock on by `step`, and fails once it
 /// was answered `rounds` times. What is told is kept, but for failed calls. A call fails besides where memory ran out for the object's
 /// own list, which raises `lacks` too; then the pair is not called. Of the script no clause says anything: the clauses are those of
@@ -272,6 +276,9 @@ impl Links for MemoryLinks {
         if client.waits > 0 {
             client.waits -= 1;
             return ReachAnswer::Waiting;
+        }
+        if client.gone {
+            return ReachAnswer::Gone;
         }
         match client.pair.meet(listen, peer) {
             MeetAnswer::Met(client) => {

@@ -71,6 +71,7 @@ module _ (law : HasOneJudgement) (at : Listening) (most : ℕ) (es : List Entry)
       (same_line (lost_line at.asset es) one.ended.goes.judged two.ended.goes.judged one.admitted one.refused two.admitted two.refused is one.counts two.counts)
       ∙ sym two.ended.holds_log
   ends_alone client client' own other end.Unreached relayed one two = cc
+  ends_alone client client' own other end.Gone relayed one two = cc
   ends_alone client client' own other end.NoMemory relayed one two = cc
 
   alone : (client client' : Endpoint) (own other : List (List ℕ)) (ends : List SessionEnd) → AreRelayed ends →

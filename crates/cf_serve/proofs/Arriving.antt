@@ -5,21 +5,27 @@ use Rattle.std.specs.Prelude.{Err, Ok, OnErr, OnOk, Result, option_map, option_t
 use Rattle.std.specs.List.{AllByRecursion}
 use Rattle.std.proofs.lemmas.Grind.{flat_map-append}
 use Rattle.std.proofs.lemmas.List.{append-nil, append_assoc, length-append, map-append}
-use Rattle.cf_audit.specs.Line.{Full}
+use Rattle.std.proofs.lemmas.Option.{same_Some}
+use Rattle.cf_audit.specs.Line.{Full, Stranger}
 use Rattle.cf_lane.specs.Handled.{MayHaveMore}
 use Rattle.cf_lane.specs.Log.{line_about, with_lines}
-use Rattle.cf_links.specs.Links.{Came, LinksEntry, LinksPlace, Woke}
-use Rattle.cf_links.specs.Service.{GetsSession}
+use Rattle.cf_links.specs.Links.{Came, Left, LinksEntry, LinksPlace, Woke}
+use Rattle.cf_links.specs.Service.{GetsSession, LosesSession}
+use Rattle.cf_outside.specs.Faults.{counted}
 use Rattle.cf_relay.proofs.Lined.{lines_none}
 use Rattle.cf_view.specs.declared.Endpoint.{Endpoint}
 use Rattle.cf_view.specs.declared.WriteFault.{WriteFault}
 use Rattle.cf_serve.proofs.Keeping.{part_none}
 use Rattle.cf_serve.proofs.Missing.{begins_line}
-use Rattle.cf_serve.proofs.Numbers.{all_join, all_map, all_zip, above, below, members}
+use Rattle.cf_serve.proofs.Numbers.{all_join, all_map, all_zip, above, below, higher, members}
 use Rattle.cf_serve.proofs.Rounding.{more_none, more_twice}
 use Rattle.cf_serve.specs.Failing.{MissesArrival}
 use Rattle.cf_serve.specs.Phase.{Phase}
-use Rattle.cf_serve.specs.Rounds.{Arrival, AreArrivals, Seat, TurnOf, full_line, full_lines, has_place}
+use Rattle.cf_serve.specs.Door.{door_with, is_due, is_named, stranger_line}
+use Rattle.cf_serve.specs.Rounds.{Arrival, AreArrivals, IsArrival, Seat, TurnOf, full_lines, has_place, lobby_behind, lobby_with}
+use Rattle.cf_serve.specs.Rounds.{taken_by, taken_of}
+use Rattle.cf_serve.specs.declared.door.Door.{Door}
+use Rattle.cf_serve.specs.declared.door.Lobby.{Lobby}
 use Rattle.cf_serve.specs.Session.{Listening}
 use Rattle.cf_serve.specs.Table.{Arrive, IfOver, IsBetween, IsHeld, IsTable, Keeps, MayGo, RoundDoes, TurnsDo, new_phase, seats_of}
 use Rattle.cf_serve.specs.declared.end.SessionEnd.{SessionEnd}
@@ -72,9 +78,45 @@ module _ (places : List Listening) (most next place : ℕ) (client : Endpoint) (
           (λ (t : TurnOf). IfOver places most past (ps ++ new_phase next place client ∷ []) t t.end) past (λ t h o. over_new t t.end h o) keeps.early keeps.over;
     }
 
-module _ (places : List Listening) (most moment place next : ℕ) (told : Option (List LinksEntry)) (log : Option (List (List ℕ))) (ps : List Phase) where
+-- one more number is used up
+keeps_more : (places : List Listening) (most next : ℕ) (past : List TurnOf) (ps : List Phase) → Keeps places most next past ps → Keeps places most (next + 1) past ps
+keeps_more places most next past ps keeps = record {
+  early = all_map (λ (t : TurnOf). t.seat.session < next) (λ (t : TurnOf). t.seat.session < next + 1) past (λ t h. omega (arith, h)) keeps.early;
+  held = keeps.held;
+  over = keeps.over;
+}
+
+-- the links had a session and have it no longer
+pub free_away : (next : ℕ) (old mid new : LinksPlace) → ((session : ℕ) → next ≤ session → old.serves session ≡ false) → GetsSession next old mid → LosesSession next mid new →
+    (session : ℕ) → next + 1 ≤ session → new.serves session ≡ false
+free_away next old mid new free gets lost session h =
+    lost.others session (below next session (omega (arith, h))) ∙ gets.others session (below next session (omega (arith, h))) ∙ free session (omega (arith, h))
+
+pub table_away : (places : List Listening) (most next next' : ℕ) (ps : List Phase) (old mid new : LinksPlace) → next' ≡ next + 1 → GetsSession next old mid → LosesSession next mid new →
+    IsTable places most old.serves next ps → IsTable places most new.serves next' ps
+table_away places most next next' ps old mid new one gets lost t = subst (λ n. IsTable places most new.serves n ps) (sym one) (record {
+  ordered = higher 0 next (next + 1) ps (omega arith) t.ordered;
+  each = all_zip (λ (q : Phase). (0 ≤ q.seat.session) × (q.seat.session < next)) (MayGo places most old.serves) (MayGo places most new.serves) ps
+      (λ q h m. record {
+        placed = m.placed;
+        may = m.may;
+        served = lost.others q.seat.session (above next q.seat.session h.1) ∙ gets.others q.seat.session (above next q.seat.session h.1) ∙ m.served;
+      }) (members 0 next ps t.ordered) t.each;
+  free = free_away next old mid new t.free gets lost;
+})
+
+-- whether a stranger has a line
+pub not_due : (b : Bool) (n : ℕ) (o : Option ℕ) → o ≡ (if b then Some n else None) → o ≡ None → b ≡ false
+not_due true n o says none = let e : Some n ≡ None = sym says ∙ none in cc
+not_due false n o says none = refl
+
+pub due : (b : Bool) (n m : ℕ) (o : Option ℕ) → o ≡ (if b then Some n else None) → o ≡ Some m → (b ≡ true) × (m ≡ n)
+due true n m o says some = (refl, sym (same_Some n m (sym says ∙ some)))
+due false n m o says some = let e : None ≡ Some m = sym says ∙ some in cc
+
+module _ (places : List Listening) (most moment place : ℕ) (lobby : Lobby) (told : Option (List LinksEntry)) (log : Option (List (List ℕ))) (ps : List Phase) where
   -- none came, or there was no place
-  pub none_came : (after : Option (List LinksEntry)) → after ≡ told → Arrive places most moment place (place + 1) next next told after log log ps ps
+  pub none_came : (after : Option (List LinksEntry)) → after ≡ told → Arrive places most moment place (place + 1) lobby lobby told after log log ps ps
   none_came after same = record {
     arrivals = [];
     tells = same ∙ more_none told;
@@ -82,67 +124,181 @@ module _ (places : List Listening) (most moment place next : ℕ) (told : Option
     come = tt;
     below = tt;
     seats = sym (append-nil (seats_of ps));
-    counts = omega arith;
+    counts = refl;
     keeps = λ past k. k;
   }
 
-  module _ (client : Endpoint) (after : Option (List LinksEntry)) (log' : Option (List (List ℕ))) (new : List Phase) (next' : ℕ)
-      (came : after ≡ option_map (λ es. es ++ Came next place client ∷ []) told) (room : has_place (seats_of ps) place ≡ true)
-      (is : new ≡ ps ++ new_phase next place client ∷ []) (one : next' ≡ next + 1) where
-    seats_new : seats_of new ≡ seats_of ps ++ (new_phase next place client).seat ∷ []
-    seats_new = ap seats_of is ∙ map-append (λ (p : Phase). p.seat) ps (new_phase next place client ∷ [])
+  module _ (client : Endpoint) (after : Option (List LinksEntry)) (log' : Option (List (List ℕ))) (lobby' : Lobby) (room : has_place (seats_of ps) place ≡ true)
+      (at : Listening) (there : slice_get places place ≡ Some at) where
+    abbrev its : Seat
+    its = (new_phase lobby.next place client).seat
 
-    own_line : (at : Listening) → slice_get places place ≡ Some at → has_place (seats_of new) place ≡ false → full_line (Some at) client moment ≡ full_lines places moment (seats_of new) place client
-    own_line at there full =
-        ap (λ (o : Option Listening). full_line o client moment) (sym there) ∙ ap (λ (b : Bool). if b then [] else full_line (slice_get places place) client moment) (sym full)
+    -- one that no rule names
+    module _ (mid : Option (List LinksEntry)) (came : mid ≡ option_map (λ es. es ++ Came lobby.next place client ∷ []) told)
+        (left : after ≡ option_map (λ es. es ++ Left lobby.next ∷ []) mid) (stranger : is_named at.asset client.address ≡ false)
+        (one : lobby' ≡ record { next = lobby.next + 1; door = door_with lobby.door moment client.address }) where
+      both : after ≡ option_map (λ es. es ++ Came lobby.next place client ∷ Left lobby.next ∷ []) told
+      both = left ∙ ap (option_map (λ es. es ++ Left lobby.next ∷ [])) came ∙ more_twice told (Came lobby.next place client ∷ []) (Left lobby.next ∷ [])
 
-    kept_in : (past : List TurnOf) → Keeps places most next past ps → Keeps places most next' past new
-    kept_in past k = rw (is, one) (keeps_new places most next place client ps past k)
+      kept_out : (past : List TurnOf) → Keeps places most lobby.next past ps → Keeps places most lobby'.next past ps
+      kept_out past k = subst (λ (f : Lobby). Keeps places most f.next past ps) (sym one) (keeps_more places most lobby.next past ps k)
 
-    came_with : (lines : List (List ℕ)) → log' ≡ with_lines log lines → lines ≡ full_lines places moment (seats_of new) place client →
-        Arrive places most moment place (place + 1) next next' told after log log' ps new
-    came_with lines added full = record {
-      arrivals = record { seat = (new_phase next place client).seat; lines = lines } ∷ [];
-      tells = came;
-      added = simp (added, append-nil);
-      come = (omega arith, (refl, (room, (full ∙ ap (λ (ss : List Seat). full_lines places moment ss place client) seats_new, tt))));
-      below = (omega arith, tt);
-      seats = seats_new;
-      counts = one;
-      keeps = kept_in;
-    }
+      away_with : log' ≡ with_lines log (stranger_line at lobby.door client moment) → Arrive places most moment place (place + 1) lobby lobby' told after log log' ps ps
+      away_with added = record {
+        arrivals = record { seat = its; named = false; lines = stranger_line at lobby.door client moment } ∷ [];
+        tells = both;
+        added = simp (added, append-nil);
+        come = (
+          record {
+            later = omega arith;
+            at = at;
+            listens = there;
+            number = refl;
+            room = room;
+            by_rules = sym stranger;
+            own_lines = refl;
+          },
+          tt,
+        );
+        below = (omega arith, tt);
+        seats = sym (append-nil (seats_of ps));
+        counts = one;
+        keeps = kept_out;
+      }
 
-    pub came_in : log' ≡ log → has_place (seats_of new) place ≡ true → Arrive places most moment place (place + 1) next next' told after log log' ps new
-    came_in same more = came_with [] (same ∙ lines_none log) (ap (λ (b : Bool). if b then [] else full_line (slice_get places place) client moment) (sym more))
+      -- it has no line
+      pub away_quiet : log' ≡ log → is_due lobby.door moment client.address ≡ false → Arrive places most moment place (place + 1) lobby lobby' told after log log' ps ps
+      away_quiet same not = away_with (same ∙ lines_none log ∙ ap (λ (b : Bool). with_lines log (if b then line_about at.asset client moment (Stranger (counted lobby.door.since)) ∷ [] else [])) (sym not))
 
-    pub came_last : (at : Listening) → slice_get places place ≡ Some at → has_place (seats_of new) place ≡ false → (r : Result Unit WriteFault) →
-        OnOk r (log' ≡ with_lines log (full_line (Some at) client moment)) → OnOk r (Arrive places most moment place (place + 1) next next' told after log log' ps new)
-    came_last at there full (Ok u) added =
-        came_with (full_line (Some at) client moment) added (own_line at there full)
-    came_last at there full (Err e) added = tt
+      -- it has one
+      module _ (words : (is_due lobby.door moment client.address ≡ true)) where
+        spoken : line_about at.asset client moment (Stranger (counted lobby.door.since)) ∷ [] ≡ stranger_line at lobby.door client moment
+        spoken = ap (λ (b : Bool). if b then line_about at.asset client moment (Stranger (counted lobby.door.since)) ∷ [] else []) (sym words)
 
-    -- it took the last, and its line failed
-    pub came_missed : (at : Listening) → slice_get places place ≡ Some at → has_place (seats_of new) place ≡ false → (part : List ℕ) →
-        MayHaveMore (full_line (Some at) client moment) log log' part → MissesArrival places most moment place next next' told after log log' part ps new
-    came_missed at there full part may =
-        let line = line_about at.asset client moment Full in
-        let w = begins_line line log log' part may in
-        record {
-          arrivals = record { seat = (new_phase next place client).seat; lines = w.0 } ∷ [];
-          tells = came;
-          added = simp (w.1.0, append-nil);
-          fails = record {
-            before = [];
-            seat = (new_phase next place client).seat;
-            line = line;
-            come = (omega arith, (refl, (room, (own_line at there full ∙ ap (λ (ss : List Seat). full_lines places moment ss place client) seats_new, tt))));
-            whole = w.0;
-            are = refl;
-            begins = w.1.1;
-          };
-          seats = seats_new;
-          keeps = kept_in;
-        }
+        pub away_said : (r : Result Unit WriteFault) → OnOk r (log' ≡ with_lines log (line_about at.asset client moment (Stranger (counted lobby.door.since)) ∷ [])) →
+            OnOk r (Arrive places most moment place (place + 1) lobby lobby' told after log log' ps ps)
+        away_said (Ok u) added = away_with (added ∙ ap (with_lines log) spoken)
+        away_said (Err e) added = tt
+
+        pub away_missed : (part : List ℕ) → MayHaveMore (line_about at.asset client moment (Stranger (counted lobby.door.since)) ∷ []) log log' part →
+            MissesArrival places most moment place lobby lobby' told after log log' part ps ps
+        away_missed part may =
+            let line = line_about at.asset client moment (Stranger (counted lobby.door.since)) in
+            let w = begins_line line log log' part may in
+            record {
+              arrivals = record { seat = its; named = false; lines = w.0 } ∷ [];
+              tells = both;
+              added = simp (w.1.0, append-nil);
+              fails = record {
+                before = [];
+                seat = its;
+                named = false;
+                line = line;
+                come = (
+                  record {
+                    later = omega arith;
+                    at = at;
+                    listens = there;
+                    number = refl;
+                    room = room;
+                    by_rules = sym stranger;
+                    own_lines = spoken;
+                  },
+                  tt,
+                );
+                whole = w.0;
+                are = refl;
+                begins = w.1.1;
+              };
+              seats = sym (append-nil (seats_of ps));
+              keeps = kept_out;
+            }
+
+    -- one that is taken
+    module _ (new : List Phase) (came : after ≡ option_map (λ es. es ++ Came lobby.next place client ∷ []) told) (known : is_named at.asset client.address ≡ true)
+        (is : new ≡ ps ++ new_phase lobby.next place client ∷ []) (one : lobby' ≡ record { next = lobby.next + 1; door = lobby.door }) where
+      seats_new : seats_of new ≡ seats_of ps ++ its ∷ []
+      seats_new = ap seats_of is ∙ map-append (λ (p : Phase). p.seat) ps (new_phase lobby.next place client ∷ [])
+
+      own_line : has_place (seats_of new) place ≡ false → line_about at.asset client moment Full ∷ [] ≡ full_lines at moment (seats_of new) place client
+      own_line full = ap (λ (b : Bool). if b then [] else line_about at.asset client moment Full ∷ []) (sym full)
+
+      its_lines : full_lines at moment (seats_of new) place client ≡ full_lines at moment (seats_of ps ++ its ∷ []) place client
+      its_lines = ap (λ (ss : List Seat). full_lines at moment ss place client) seats_new
+
+      kept_in : (past : List TurnOf) → Keeps places most lobby.next past ps → Keeps places most lobby'.next past new
+      kept_in past k = subst (λ (f : Lobby). Keeps places most f.next past new) (sym one)
+          (subst (Keeps places most (lobby.next + 1) past) (sym is) (keeps_new places most lobby.next place client ps past k))
+
+      came_with : (lines : List (List ℕ)) → log' ≡ with_lines log lines → lines ≡ full_lines at moment (seats_of new) place client →
+          Arrive places most moment place (place + 1) lobby lobby' told after log log' ps new
+      came_with lines added full = record {
+        arrivals = record { seat = its; named = true; lines = lines } ∷ [];
+        tells = came;
+        added = simp (added, append-nil);
+        come = (
+          record {
+            later = omega arith;
+            at = at;
+            listens = there;
+            number = refl;
+            room = room;
+            by_rules = sym known;
+            own_lines = full ∙ its_lines;
+          },
+          tt,
+        );
+        below = (omega arith, tt);
+        seats = seats_new;
+        counts = one;
+        keeps = kept_in;
+      }
+
+      pub came_in : log' ≡ log → has_place (seats_of new) place ≡ true → Arrive places most moment place (place + 1) lobby lobby' told after log log' ps new
+      came_in same more = came_with [] (same ∙ lines_none log) (ap (λ (b : Bool). if b then [] else line_about at.asset client moment Full ∷ []) (sym more))
+
+      pub came_last : has_place (seats_of new) place ≡ false → (r : Result Unit WriteFault) →
+          OnOk r (log' ≡ with_lines log (line_about at.asset client moment Full ∷ [])) → OnOk r (Arrive places most moment place (place + 1) lobby lobby' told after log log' ps new)
+      came_last full (Ok u) added = came_with (line_about at.asset client moment Full ∷ []) added (own_line full)
+      came_last full (Err e) added = tt
+
+      -- it took the last, and its line failed
+      pub came_missed : has_place (seats_of new) place ≡ false → (part : List ℕ) →
+          MayHaveMore (line_about at.asset client moment Full ∷ []) log log' part → MissesArrival places most moment place lobby lobby' told after log log' part ps new
+      came_missed full part may =
+          let line = line_about at.asset client moment Full in
+          let w = begins_line line log log' part may in
+          record {
+            arrivals = record { seat = its; named = true; lines = w.0 } ∷ [];
+            tells = came;
+            added = simp (w.1.0, append-nil);
+            fails = record {
+              before = [];
+              seat = its;
+              named = true;
+              line = line;
+              come = (
+                record {
+                  later = omega arith;
+                  at = at;
+                  listens = there;
+                  number = refl;
+                  room = room;
+                  by_rules = sym known;
+                  own_lines = own_line full ∙ its_lines;
+                },
+                tt,
+              );
+              whole = w.0;
+              are = refl;
+              begins = w.1.1;
+            };
+            seats = seats_new;
+            keeps = kept_in;
+          }
+
+abbrev pub with_door : ℕ → Door → Lobby
+with_door next door = record { next = next; door = door }
 
 pub for_all : {E : Type 0} (P : ℕ → Type 0) (r : Result Unit E) → ((most : ℕ) → OnOk r (P most)) → OnOk r ((most : ℕ) → P most)
 for_all P (Ok u) h = h
@@ -154,37 +310,44 @@ err_for_all F P (Err e) h f = λ most. h most f
 
 -- ---- places one after the other
 
-lower_from : (places : List Listening) (moment from from' next : ℕ) (standing : List Seat) (cs : List Arrival) → from' ≤ from →
-    AreArrivals places moment from next standing cs → AreArrivals places moment from' next standing cs
-lower_from places moment from from' next standing [] h come = tt
-lower_from places moment from from' next standing (a ∷ cs) h (f, rest) = (omega (arith, h, f), rest)
-
-come_join : (places : List Listening) (moment from upto next : ℕ) (standing : List Seat) (cs bs : List Arrival) → from ≤ upto →
-    AreArrivals places moment from next standing cs → AllByRecursion (λ (a : Arrival). a.seat.place < upto) cs →
-    AreArrivals places moment upto (next + length cs) (standing ++ map (λ (a : Arrival). a.seat) cs) bs → AreArrivals places moment from next standing (cs ++ bs)
-come_join places moment from upto next standing [] bs h come below later =
-    lower_from places moment upto from next standing bs h
-    (subst (λ n. AreArrivals places moment upto n standing bs) (omega arith)
-    (subst (λ (ss : List Seat). AreArrivals places moment upto (next + length {A = Arrival} []) ss bs) (append-nil standing) later))
-come_join places moment from upto next standing (a ∷ cs) bs h (f, (e, (r, (l, rest)))) (b, below) later = (
-  f,
-  (
-    e,
-    (
-      r,
-      (
-        l,
-        come_join places moment (a.seat.place + 1) upto (next + 1) (standing ++ a.seat ∷ []) cs bs (omega (arith, b)) rest below
-            (subst (λ n. AreArrivals places moment upto n ((standing ++ a.seat ∷ []) ++ map (λ (x : Arrival). x.seat) cs) bs) (omega arith)
-            (subst (λ (ss : List Seat). AreArrivals places moment upto (next + length (a ∷ cs)) ss bs)
-            (sym (append_assoc standing (a.seat ∷ []) (map (λ (x : Arrival). x.seat) cs))) later)),
-      ),
-    ),
-  ),
+lower_from : (places : List Listening) (moment from from' : ℕ) (lobby : Lobby) (standing : List Seat) (cs : List Arrival) → from' ≤ from →
+    AreArrivals places moment from lobby standing cs → AreArrivals places moment from' lobby standing cs
+lower_from places moment from from' lobby standing [] h come = tt
+lower_from places moment from from' lobby standing (a ∷ cs) h (is, rest) = (
+  record {
+    later = omega (arith, h, is.later);
+    at = is.at;
+    listens = is.listens;
+    number = is.number;
+    room = is.room;
+    by_rules = is.by_rules;
+    own_lines = is.own_lines;
+  },
+  rest,
 )
 
-module _ (places : List Listening) (most moment next : ℕ) (told : Option (List LinksEntry)) (log : Option (List (List ℕ))) (old : List Phase) where
-  pub arrive_first : Arrive places most moment 0 0 next next told told log log old old
+taken_more : (cs bs : List Arrival) → taken_of (cs ++ bs) ≡ taken_of cs ++ taken_of bs
+taken_more cs bs = flat_map-append taken_by cs bs
+
+behind_more : (lobby : Lobby) (moment : ℕ) (cs bs : List Arrival) → lobby_behind lobby moment (cs ++ bs) ≡ lobby_behind (lobby_behind lobby moment cs) moment bs
+behind_more lobby moment [] bs = refl
+behind_more lobby moment (c ∷ cs) bs = behind_more (lobby_with lobby moment c) moment cs bs
+
+come_join : (places : List Listening) (moment from upto : ℕ) (lobby : Lobby) (standing : List Seat) (cs bs : List Arrival) → from ≤ upto →
+    AreArrivals places moment from lobby standing cs → AllByRecursion (λ (a : Arrival). a.seat.place < upto) cs →
+    AreArrivals places moment upto (lobby_behind lobby moment cs) (standing ++ taken_of cs) bs → AreArrivals places moment from lobby standing (cs ++ bs)
+come_join places moment from upto lobby standing [] bs h come below later =
+    lower_from places moment upto from lobby standing bs h
+    (subst (λ (ss : List Seat). AreArrivals places moment upto lobby ss bs) (append-nil standing) later)
+come_join places moment from upto lobby standing (a ∷ cs) bs h (is, rest) (b, below) later = (
+  is,
+  come_join places moment (a.seat.place + 1) upto (lobby_with lobby moment a) (standing ++ taken_by a) cs bs (omega (arith, b)) rest below
+      (subst (λ (ss : List Seat). AreArrivals places moment upto (lobby_behind (lobby_with lobby moment a) moment cs) ss bs)
+      (sym (append_assoc standing (taken_by a) (taken_of cs))) later),
+)
+
+module _ (places : List Listening) (most moment : ℕ) (lobby : Lobby) (told : Option (List LinksEntry)) (log : Option (List (List ℕ))) (old : List Phase) where
+  pub arrive_first : Arrive places most moment 0 0 lobby lobby told told log log old old
   arrive_first = record {
     arrivals = [];
     tells = more_none told;
@@ -192,37 +355,38 @@ module _ (places : List Listening) (most moment next : ℕ) (told : Option (List
     come = tt;
     below = tt;
     seats = sym (append-nil (seats_of old));
-    counts = omega arith;
+    counts = refl;
     keeps = λ past k. k;
   }
 
-  pub arrive_then : (place next1 next2 : ℕ) (told1 told2 : Option (List LinksEntry)) (log1 log2 : Option (List (List ℕ))) (mid new : List Phase) →
-      Arrive places most moment 0 place next next1 told told1 log log1 old mid →
-      Arrive places most moment place (place + 1) next1 next2 told1 told2 log1 log2 mid new →
-      Arrive places most moment 0 (place + 1) next next2 told told2 log log2 old new
-  arrive_then place next1 next2 told1 told2 log1 log2 mid new a b = record {
+  pub arrive_then : (place : ℕ) (lobby1 lobby2 : Lobby) (told1 told2 : Option (List LinksEntry)) (log1 log2 : Option (List (List ℕ))) (mid new : List Phase) →
+      Arrive places most moment 0 place lobby lobby1 told told1 log log1 old mid →
+      Arrive places most moment place (place + 1) lobby1 lobby2 told1 told2 log1 log2 mid new →
+      Arrive places most moment 0 (place + 1) lobby lobby2 told told2 log log2 old new
+  arrive_then place lobby1 lobby2 told1 told2 log1 log2 mid new a b = record {
     arrivals = a.arrivals ++ b.arrivals;
     tells = simp (b.tells, a.tells, more_twice, flat_map-append);
     added = simp (b.added, a.added, more_twice, flat_map-append);
-    come = come_join places moment 0 place next (seats_of old) a.arrivals b.arrivals (omega arith) a.come a.below
-        (subst (λ n. AreArrivals places moment place n (seats_of old ++ map (λ (x : Arrival). x.seat) a.arrivals) b.arrivals) a.counts
-        (subst (λ (ss : List Seat). AreArrivals places moment place next1 ss b.arrivals) a.seats b.come));
+    come = come_join places moment 0 place lobby (seats_of old) a.arrivals b.arrivals (omega arith) a.come a.below
+        (subst (λ (f : Lobby). AreArrivals places moment place f (seats_of old ++ taken_of a.arrivals) b.arrivals) a.counts
+        (subst (λ (ss : List Seat). AreArrivals places moment place lobby1 ss b.arrivals) a.seats b.come));
     below = all_join (λ (x : Arrival). x.seat.place < place + 1) a.arrivals b.arrivals
         (all_map (λ (x : Arrival). x.seat.place < place) (λ (x : Arrival). x.seat.place < place + 1) a.arrivals (λ x h. omega (arith, h)) a.below) b.below;
-    seats = simp (b.seats, a.seats, append_assoc, map-append);
-    counts = let l : length (a.arrivals ++ b.arrivals) ≡ length a.arrivals + length b.arrivals = length-append a.arrivals b.arrivals in omega (arith, l, a.counts, b.counts);
+    seats = b.seats ∙ ap (λ (ss : List Seat). ss ++ taken_of b.arrivals) a.seats ∙ append_assoc (seats_of old) (taken_of a.arrivals) (taken_of b.arrivals)
+        ∙ ap (λ (ss : List Seat). seats_of old ++ ss) (sym (taken_more a.arrivals b.arrivals));
+    counts = b.counts ∙ ap (λ (f : Lobby). lobby_behind f moment b.arrivals) a.counts ∙ sym (behind_more lobby moment a.arrivals b.arrivals);
     keeps = λ past k. b.keeps past (a.keeps past k);
   }
 
   -- the line of the last failed
-  pub arrive_missed : (place next1 next2 : ℕ) (told1 told2 : Option (List LinksEntry)) (log1 log2 : Option (List (List ℕ))) (part : List ℕ) (mid new : List Phase) →
-      Arrive places most moment 0 place next next1 told told1 log log1 old mid →
-      MissesArrival places most moment place next1 next2 told1 told2 log1 log2 part mid new →
-      MissesArrival places most moment 0 next next2 told told2 log log2 part old new
-  arrive_missed place next1 next2 told1 told2 log1 log2 part mid new a b =
+  pub arrive_missed : (place : ℕ) (lobby1 lobby2 : Lobby) (told1 told2 : Option (List LinksEntry)) (log1 log2 : Option (List (List ℕ))) (part : List ℕ) (mid new : List Phase) →
+      Arrive places most moment 0 place lobby lobby1 told told1 log log1 old mid →
+      MissesArrival places most moment place lobby1 lobby2 told1 told2 log1 log2 part mid new →
+      MissesArrival places most moment 0 lobby lobby2 told told2 log log2 part old new
+  arrive_missed place lobby1 lobby2 told1 told2 log1 log2 part mid new a b =
       let f = b.fails in
-      let last : List Arrival = record { seat = f.seat; lines = f.line ∷ [] } ∷ [] in
-      let cut : List Arrival = record { seat = f.seat; lines = f.whole } ∷ [] in
+      let last : List Arrival = record { seat = f.seat; named = f.named; lines = f.line ∷ [] } ∷ [] in
+      let cut : List Arrival = record { seat = f.seat; named = f.named; lines = f.whole } ∷ [] in
       record {
         arrivals = a.arrivals ++ b.arrivals;
         tells = simp (b.tells, a.tells, more_twice, flat_map-append);
@@ -230,26 +394,28 @@ module _ (places : List Listening) (most moment next : ℕ) (told : Option (List
         fails = record {
           before = a.arrivals ++ f.before;
           seat = f.seat;
+          named = f.named;
           line = f.line;
-          come = subst (AreArrivals places moment 0 next (seats_of old)) (sym (append_assoc a.arrivals f.before last))
-              (come_join places moment 0 place next (seats_of old) a.arrivals (f.before ++ last) (omega arith) a.come a.below
-              (subst (λ n. AreArrivals places moment place n (seats_of old ++ map (λ (x : Arrival). x.seat) a.arrivals) (f.before ++ last)) a.counts
-              (subst (λ (ss : List Seat). AreArrivals places moment place next1 ss (f.before ++ last)) a.seats f.come)));
+          come = subst (AreArrivals places moment 0 lobby (seats_of old)) (sym (append_assoc a.arrivals f.before last))
+              (come_join places moment 0 place lobby (seats_of old) a.arrivals (f.before ++ last) (omega arith) a.come a.below
+              (subst (λ (x : Lobby). AreArrivals places moment place x (seats_of old ++ taken_of a.arrivals) (f.before ++ last)) a.counts
+              (subst (λ (ss : List Seat). AreArrivals places moment place lobby1 ss (f.before ++ last)) a.seats f.come)));
           whole = f.whole;
           are = ap (λ xs. a.arrivals ++ xs) f.are ∙ sym (append_assoc a.arrivals f.before cut);
           begins = f.begins;
         };
-        seats = simp (b.seats, a.seats, append_assoc, map-append);
+        seats = b.seats ∙ ap (λ (ss : List Seat). ss ++ taken_of b.arrivals) a.seats ∙ append_assoc (seats_of old) (taken_of a.arrivals) (taken_of b.arrivals)
+            ∙ ap (λ (ss : List Seat). seats_of old ++ ss) (sym (taken_more a.arrivals b.arrivals));
         keeps = λ past k. b.keeps past (a.keeps past k);
       }
 
   -- the clients that came, and then the turns
-  pub round_is : (upto next1 : ℕ) (told0 told1 told2 : Option (List LinksEntry)) (log1 log2 : Option (List (List ℕ))) (mid new : List Phase) (past : List TurnOf) →
+  pub round_is : (upto : ℕ) (lobby1 : Lobby) (told0 told1 told2 : Option (List LinksEntry)) (log1 log2 : Option (List (List ℕ))) (mid new : List Phase) (past : List TurnOf) →
       told ≡ option_map (λ es. es ++ Woke moment ∷ []) told0 →
-      Arrive places most moment 0 upto next next1 told told1 log log1 old mid →
-      TurnsDo places most next1 past told1 told2 log1 log2 mid new →
-      RoundDoes places most next next1 past told0 told2 log log2 old new
-  round_is upto next1 told0 told1 told2 log1 log2 mid new past woke a b = record {
+      Arrive places most moment 0 upto lobby lobby1 told told1 log log1 old mid →
+      TurnsDo places most lobby1.next past told1 told2 log1 log2 mid new →
+      RoundDoes places most lobby lobby1 past told0 told2 log log2 old new
+  round_is upto lobby1 told0 told1 told2 log1 log2 mid new past woke a b = record {
     round = record { moment = moment; arrivals = a.arrivals; turns = b.turns };
     tells = simp (b.tells, a.tells, woke, more_twice);
     added = simp (b.added, a.added, more_twice);

@@ -17,7 +17,8 @@ use Rattle.cf_serve.specs.Broken.{Breaks, BreaksOff, FailsSo, IsFailedClient, Tu
 use Rattle.cf_serve.specs.Failing.{MissesArrival, MissesRound, MissesRounds, MissesSeat, MissesStep, MissesTurns}
 use Rattle.cf_serve.specs.Phase.{Phase, listenings, phase_of}
 use Rattle.cf_serve.specs.Rounds.{AreTurns, IsTurn, Round, Seat, TurnOf, answers_in, lines_in, round_entries, round_lines}
-use Rattle.cf_serve.specs.Rounds.{stays, turns_of}
+use Rattle.cf_serve.specs.Rounds.{first_lobby, stays, turns_of}
+use Rattle.cf_serve.specs.declared.door.Lobby.{Lobby}
 use Rattle.cf_serve.specs.Served.{IfEnded, IsClient, OpensDo, left_of, listen_lines, opened_from}
 use Rattle.cf_serve.specs.Session.{Listening}
 use Rattle.cf_serve.specs.Table.{Arrive, IsBetween, IsHeld, IsTable, Keeps, TurnsBegin, seats_of}
@@ -116,11 +117,11 @@ module _ (places : List Listening) (most next : ℕ) (past : List TurnOf) (told 
 
 -- ---- the round
 
-module _ (places : List Listening) (most moment next next1 : ℕ) (past : List TurnOf) (told0 told told1 : Option (List LinksEntry)) (log log1 : Option (List (List ℕ)))
+module _ (places : List Listening) (most moment : ℕ) (lobby lobby1 : Lobby) (past : List TurnOf) (told0 told told1 : Option (List LinksEntry)) (log log1 : Option (List (List ℕ)))
     (part : List ℕ) (old mid : List Phase) (woke : told ≡ option_map (λ es. es ++ Woke moment ∷ []) told0) where
   -- as clients came
-  pub round_missed_early : (serves : ℕ → Bool) → MissesArrival places most moment 0 next next1 told told1 log log1 part old mid → IsTable places most serves next1 mid →
-      Keeps places most next past old → MissesRound places most next past told0 told1 log log1 part old mid
+  pub round_missed_early : (serves : ℕ → Bool) → MissesArrival places most moment 0 lobby lobby1 told told1 log log1 part old mid → IsTable places most serves lobby1.next mid →
+      Keeps places most lobby.next past old → MissesRound places most lobby past told0 told1 log log1 part old mid
   round_missed_early serves a table keeps =
       let k = a.keeps past keeps in
       record {
@@ -138,9 +139,9 @@ module _ (places : List Listening) (most moment next next1 : ℕ) (past : List T
 
   -- in the turns
   pub round_missed : (upto : ℕ) (told2 : Option (List LinksEntry)) (log2 : Option (List (List ℕ))) (new : List Phase) →
-      Arrive places most moment 0 upto next next1 told told1 log log1 old mid →
+      Arrive places most moment 0 upto lobby lobby1 told told1 log log1 old mid →
       MissesTurns places most past told1 told2 log1 log2 part mid new →
-      MissesRound places most next past told0 told2 log log2 part old new
+      MissesRound places most lobby past told0 told2 log log2 part old new
   round_missed upto told2 log2 new a b = record {
     round = record { moment = moment; arrivals = a.arrivals; turns = b.turns };
     tells = simp (b.tells, a.tells, woke, more_twice);
@@ -155,15 +156,15 @@ ready_turn : (t : TurnOf) → t.ready ≡ true → IsTurn t
 ready_turn t is not = absurd (let n : true ≡ false = sym is ∙ not in cc)
 
 -- the turns of a round that breaks off
-broken_turns : (places : List Listening) (most : ℕ) (past : List TurnOf) (next : ℕ) (standing : List Seat) (r : Round) (left : List Seat) (part : List ℕ) →
-    BreaksOff places most past next standing r left part → AreTurns r.turns
-broken_turns places most past next standing r left part (inl early) = subst AreTurns (sym early.no_turns) tt
-broken_turns places most past next standing r left part (inr late) =
+broken_turns : (places : List Listening) (most : ℕ) (past : List TurnOf) (lobby : Lobby) (standing : List Seat) (r : Round) (left : List Seat) (part : List ℕ) →
+    BreaksOff places most past lobby standing r left part → AreTurns r.turns
+broken_turns places most past lobby standing r left part (inl early) = subst AreTurns (sym early.no_turns) tt
+broken_turns places most past lobby standing r left part (inr late) =
     let f = late.1 in
     subst AreTurns (sym f.are) (turns_join f.before (f.turn ∷ []) f.each (ready_turn f.turn f.ready, tt))
 
 pub breaks_all : (places : List Place) (most made : ℕ) (told told1 told2 told3 : Option (List LinksEntry)) (log log1 log2 : Option (List (List ℕ))) (part : List ℕ) (ps : List Phase) →
-    made < 2 ^ 64 - 1 → OpensDo places (length places) told told1 log log1 → MissesRounds (listenings places) most 0 made [] told1 told2 log1 log2 part [] ps →
+    made < 2 ^ 64 - 1 → OpensDo places (length places) told told1 log log1 → MissesRounds (listenings places) most first_lobby made [] told1 told2 log1 log2 part [] ps →
     told3 ≡ option_map (λ es. es ++ left_of (seats_of ps)) told2 → Breaks places most told told3 log log2 part
 breaks_all places most made told told1 told2 told3 log log1 log2 part ps few o r left =
     let rs = r.rounds ++ r.round ∷ [] in (
@@ -179,7 +180,7 @@ breaks_all places most made told told1 told2 told3 log log1 log2 part ps few o r
               opened = o.all;
               rounds = r.rounds;
               made = subst (λ n. n < 2 ^ 64 - 1) (sym r.count) few;
-              next = r.mid;
+              lobby = r.mid;
               standing = r.standing;
               in_turn = r.in_turn;
               round = r.round;

@@ -50,7 +50,7 @@ pub lower : (low low' high : ℕ) (ps : List Phase) → low' ≤ low → IsBetwe
 lower low low' high [] h b = omega (arith, h, b)
 lower low low' high (p ∷ ps) h (l, b) = (omega (arith, h, l), b)
 
-higher : (low high high' : ℕ) (ps : List Phase) → high ≤ high' → IsBetween low high ps → IsBetween low high' ps
+pub higher : (low high high' : ℕ) (ps : List Phase) → high ≤ high' → IsBetween low high ps → IsBetween low high' ps
 higher low high high' [] h b = omega (arith, h, b)
 higher low high high' (p ∷ ps) h (l, b) = (l, higher (p.seat.session + 1) high high' ps h b)
 

@@ -11,51 +11,52 @@ use Rattle.cf_serve.specs.Rounds.{AreRounds, IsRound, Round, Seat, TurnOf, turns
 use Rattle.cf_serve.specs.Served.{IfEnded}
 use Rattle.cf_serve.specs.Session.{Listening}
 use Rattle.cf_serve.specs.Table.{IfWhole, Keeps, RoundDoes, RoundsDo, seats_of}
+use Rattle.cf_serve.specs.declared.door.Lobby.{Lobby}
 use Rattle.cf_serve.specs.declared.fault.ServeFault.{ServeFault}
 use Rattle.cf_serve.specs.declared.fault.ServeFault.TheVariants as fault
 
-rounds_more : (places : List Listening) (next : ℕ) (standing : List Seat) (rs : List Round) (n : ℕ) (mid : List Seat) (r : Round) (n' : ℕ) (after : List Seat) →
-    AreRounds places next standing rs n mid → IsRound places n mid r n' after → AreRounds places next standing (rs ++ r ∷ []) n' after
-rounds_more places next standing [] n mid r n' after (p, q) is =
+rounds_more : (places : List Listening) (lobby : Lobby) (standing : List Seat) (rs : List Round) (n : Lobby) (mid : List Seat) (r : Round) (n' : Lobby) (after : List Seat) →
+    AreRounds places lobby standing rs n mid → IsRound places n mid r n' after → AreRounds places lobby standing (rs ++ r ∷ []) n' after
+rounds_more places lobby standing [] n mid r n' after (p, q) is =
     (n', (after, (subst (λ k. IsRound places k standing r n' after) p (subst (λ (s : List Seat). IsRound places n s r n' after) q is), (refl, refl))))
-rounds_more places next standing (x ∷ rs) n mid r n' after (k, (s, (one, later))) is =
+rounds_more places lobby standing (x ∷ rs) n mid r n' after (k, (s, (one, later))) is =
     (k, (s, (one, rounds_more places k s rs n mid r n' after later is)))
 
 turns_behind : (past : List TurnOf) (rs : List Round) (r : Round) → (past ++ turns_of rs) ++ r.turns ≡ past ++ turns_of (rs ++ r ∷ [])
 turns_behind past rs r = simp (append_assoc, flat_one)
 
-module _ (places : List Listening) (most next : ℕ) (past : List TurnOf) (told : Option (List LinksEntry)) (log : Option (List (List ℕ))) (old : List Phase) where
-  pub rounds_none : Keeps places most next past old → RoundsDo places most next next 0 past told told log log old old
+module _ (places : List Listening) (most : ℕ) (lobby : Lobby) (past : List TurnOf) (told : Option (List LinksEntry)) (log : Option (List (List ℕ))) (old : List Phase) where
+  pub rounds_none : Keeps places most lobby.next past old → RoundsDo places most lobby lobby 0 past told told log log old old
   rounds_none keeps = record {
     rounds = [];
     count = refl;
     tells = more_none told;
     added = lines_none log;
     in_turn = (refl, refl);
-    keeps = subst (λ (p : List TurnOf). Keeps places most next p old) (sym (append-nil past)) keeps;
+    keeps = subst (λ (p : List TurnOf). Keeps places most lobby.next p old) (sym (append-nil past)) keeps;
   }
 
-  pub rounds_then : (next1 next2 made : ℕ) (told1 told2 : Option (List LinksEntry)) (log1 log2 : Option (List (List ℕ))) (mid new : List Phase) →
-      RoundsDo places most next next1 made past told told1 log log1 old mid →
-      ((p : List TurnOf) → Keeps places most next1 p mid → RoundDoes places most next1 next2 p told1 told2 log1 log2 mid new) →
-      RoundsDo places most next next2 (made + 1) past told told2 log log2 old new
-  rounds_then next1 next2 made told1 told2 log1 log2 mid new a round =
+  pub rounds_then : (lobby1 lobby2 : Lobby) (made : ℕ) (told1 told2 : Option (List LinksEntry)) (log1 log2 : Option (List (List ℕ))) (mid new : List Phase) →
+      RoundsDo places most lobby lobby1 made past told told1 log log1 old mid →
+      ((p : List TurnOf) → Keeps places most lobby1.next p mid → RoundDoes places most lobby1 lobby2 p told1 told2 log1 log2 mid new) →
+      RoundsDo places most lobby lobby2 (made + 1) past told told2 log log2 old new
+  rounds_then lobby1 lobby2 made told1 told2 log1 log2 mid new a round =
       let b = round (past ++ turns_of a.rounds) a.keeps in
       record {
         rounds = a.rounds ++ b.round ∷ [];
         count = length-append a.rounds (b.round ∷ []) ∙ ap (λ n. n + 1) a.count;
         tells = simp (b.tells, a.tells, more_twice, flat_one);
         added = simp (b.added, a.added, more_twice, flat_one);
-        in_turn = rounds_more places next (seats_of old) a.rounds next1 (seats_of mid) b.round next2 (seats_of new) a.in_turn b.is_round;
-        keeps = subst (λ (p : List TurnOf). Keeps places most next2 p new) (turns_behind past a.rounds b.round) b.keeps;
+        in_turn = rounds_more places lobby (seats_of old) a.rounds lobby1 (seats_of mid) b.round lobby2 (seats_of new) a.in_turn b.is_round;
+        keeps = subst (λ (p : List TurnOf). Keeps places most lobby2.next p new) (turns_behind past a.rounds b.round) b.keeps;
       }
 
   -- a line failed in the round behind them
-  pub rounds_fail : (next1 made : ℕ) (told1 told2 : Option (List LinksEntry)) (log1 log2 : Option (List (List ℕ))) (part : List ℕ) (mid new : List Phase) →
-      RoundsDo places most next next1 made past told told1 log log1 old mid →
-      ((p : List TurnOf) → Keeps places most next1 p mid → MissesRound places most next1 p told1 told2 log1 log2 part mid new) →
-      MissesRounds places most next made past told told2 log log2 part old new
-  rounds_fail next1 made told1 told2 log1 log2 part mid new a round =
+  pub rounds_fail : (lobby1 : Lobby) (made : ℕ) (told1 told2 : Option (List LinksEntry)) (log1 log2 : Option (List (List ℕ))) (part : List ℕ) (mid new : List Phase) →
+      RoundsDo places most lobby lobby1 made past told told1 log log1 old mid →
+      ((p : List TurnOf) → Keeps places most lobby1.next p mid → MissesRound places most lobby1 p told1 told2 log1 log2 part mid new) →
+      MissesRounds places most lobby made past told told2 log log2 part old new
+  rounds_fail lobby1 made told1 told2 log1 log2 part mid new a round =
       let b = round (past ++ turns_of a.rounds) a.keeps in
       record {
         rounds = a.rounds;
@@ -64,7 +65,7 @@ module _ (places : List Listening) (most next : ℕ) (past : List TurnOf) (told 
         tells = simp (b.tells, a.tells, more_twice, flat_one);
         added = simp (b.added, a.added, more_twice, flat_one);
         ended = subst (λ (p : List TurnOf). AllByRecursion (λ (t : TurnOf). IfEnded places most p t t.end) p) (turns_behind past a.rounds b.round) b.ended;
-        mid = next1;
+        mid = lobby1;
         standing = seats_of mid;
         in_turn = a.in_turn;
         breaks = b.breaks;

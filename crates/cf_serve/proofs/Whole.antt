@@ -7,14 +7,15 @@ use Rattle.std.proofs.lemmas.Grind.{flat_map-append}
 use Rattle.std.proofs.lemmas.List.{append-nil, append_assoc}
 use Rattle.std.proofs.lemmas.Option.{same_Some}
 use Rattle.cf_links.proofs.Projection.{answers_more}
-use Rattle.cf_links.specs.Links.{LinksEntry, Of, Ready, answers_of}
+use Rattle.cf_links.specs.Links.{Came, Left, LinksEntry, Of, Ready, answers_of}
 use Rattle.cf_outside.specs.Pair.{Entry}
 use Rattle.cf_relay.proofs.Turned.{turned_stands}
 use Rattle.cf_serve.proofs.Numbers.{all_map, all_zip}
 use Rattle.cf_serve.proofs.Rounding.{flat_one, more_twice}
 use Rattle.cf_serve.specs.Phase.{LinkedValue, MayTurn, Phase, StandsAs, listenings}
 use Rattle.cf_serve.specs.Rounds.{AreRounds, AreTurns, Arrival, IsTurn, Round, Seat, TurnOf, answers_in, arrival_entries, left_by}
-use Rattle.cf_serve.specs.Rounds.{round_entries, round_lines, turn_entries, turns_of}
+use Rattle.cf_serve.specs.Rounds.{first_lobby, round_entries, round_lines, turn_entries, turns_of}
+use Rattle.cf_serve.specs.declared.door.Lobby.{Lobby}
 use Rattle.cf_serve.specs.Served.{IfEnded, IsClient, OpensDo, Serves, left_of, listen_lines, opened_from}
 use Rattle.cf_serve.specs.Session.{Listening, StandsSo}
 use Rattle.cf_serve.specs.Table.{IfOver, IfWhole, IsHeld, IsTable, Keeps, MayGo, RoundsDo, seats_of}
@@ -62,19 +63,24 @@ module _ (k : ℕ) where
       answers_more k (turn_entries t) (flat_map turn_entries ts) ∙ ap (λ xs. xs ++ answers_of k (flat_map turn_entries ts)) (of_turn t t.ready refl is)
       ∙ ap (λ xs. own_of t ++ xs) (of_turns ts are)
 
+  -- a client that was taken, or closed
+  of_one : (named : Bool) (c : Arrival) (cs : List LinksEntry) → answers_of k ((Came c.seat.session c.seat.place c.seat.client ∷ (if named then [] else Left c.seat.session ∷ [])) ++ cs) ≡ answers_of k cs
+  of_one true c cs = refl
+  of_one false c cs = refl
+
   of_arrivals : (cs : List Arrival) → answers_of k (flat_map arrival_entries cs) ≡ []
   of_arrivals [] = refl
-  of_arrivals (c ∷ cs) = of_arrivals cs
+  of_arrivals (c ∷ cs) = of_one c.named c (flat_map arrival_entries cs) ∙ of_arrivals cs
 
   of_round : (r : Round) → AreTurns r.turns → answers_of k (round_entries r) ≡ answers_in k r.turns
   of_round r are =
       answers_more k (flat_map arrival_entries r.arrivals) (flat_map turn_entries r.turns)
       ∙ ap (λ xs. xs ++ answers_of k (flat_map turn_entries r.turns)) (of_arrivals r.arrivals) ∙ of_turns r.turns are
 
-  of_rounds : (places : List Listening) (next : ℕ) (standing : List Seat) (rs : List Round) (n : ℕ) (after : List Seat) → AreRounds places next standing rs n after →
+  of_rounds : (places : List Listening) (lobby : Lobby) (standing : List Seat) (rs : List Round) (n : Lobby) (after : List Seat) → AreRounds places lobby standing rs n after →
       answers_of k (flat_map round_entries rs) ≡ answers_in k (turns_of rs)
-  of_rounds places next standing [] n after are = refl
-  of_rounds places next standing (r ∷ rs) n after (m, (s, (one, later))) =
+  of_rounds places lobby standing [] n after are = refl
+  of_rounds places lobby standing (r ∷ rs) n after (m, (s, (one, later))) =
       answers_more k (round_entries r) (flat_map round_entries rs)
       ∙ ap (λ xs. xs ++ answers_of k (flat_map round_entries rs)) (of_round r one.each)
       ∙ ap (λ xs. answers_in k r.turns ++ xs) (of_rounds places m s rs n after later)
@@ -93,19 +99,19 @@ module _ (k : ℕ) where
       answers_more k (opened_from 0 ms) (es ++ left_of ss) ∙ ap (λ xs. xs ++ answers_of k (es ++ left_of ss)) (of_opened 0 ms)
       ∙ answers_more k es (left_of ss) ∙ ap (λ xs. answers_of k es ++ xs) (of_all_left ss) ∙ append-nil (answers_of k es)
 
-  pub own_of_broken : (places : List Listening) (ms : List ℕ) (rs : List Round) (n : ℕ) (standing ss : List Seat) (r : Round) → AreRounds places 0 [] rs n standing →
+  pub own_of_broken : (places : List Listening) (ms : List ℕ) (rs : List Round) (n : Lobby) (standing ss : List Seat) (r : Round) → AreRounds places first_lobby [] rs n standing →
       AreTurns r.turns → answers_of k (opened_from 0 ms ++ (flat_map round_entries (rs ++ r ∷ []) ++ left_of ss)) ≡ answers_in k (turns_of (rs ++ r ∷ []))
   own_of_broken places ms rs n standing ss r are turns =
       own_of_whole ms (flat_map round_entries (rs ++ r ∷ [])) ss ∙ ap (answers_of k) (flat_one round_entries rs r)
       ∙ answers_more k (flat_map round_entries rs) (round_entries r)
-      ∙ ap (λ xs. xs ++ answers_of k (round_entries r)) (of_rounds places 0 [] rs n standing are)
+      ∙ ap (λ xs. xs ++ answers_of k (round_entries r)) (of_rounds places first_lobby [] rs n standing are)
       ∙ ap (λ xs. answers_in k (turns_of rs) ++ xs) (of_round r turns)
       ∙ sym (flat_map-append own_of (turns_of rs) r.turns)
       ∙ ap (λ (xs : List TurnOf). answers_in k xs) (sym (flat_one (λ (x : Round). x.turns) rs r))
 
-  pub own_of_all : (places : List Listening) (ms : List ℕ) (rs : List Round) (n : ℕ) (standing ss : List Seat) → AreRounds places 0 [] rs n standing →
+  pub own_of_all : (places : List Listening) (ms : List ℕ) (rs : List Round) (n : Lobby) (standing ss : List Seat) → AreRounds places first_lobby [] rs n standing →
       answers_of k (opened_from 0 ms ++ (flat_map round_entries rs ++ left_of ss)) ≡ answers_in k (turns_of rs)
-  own_of_all places ms rs n standing ss are = own_of_whole ms (flat_map round_entries rs) ss ∙ of_rounds places 0 [] rs n standing are
+  own_of_all places ms rs n standing ss are = own_of_whole ms (flat_map round_entries rs) ss ∙ of_rounds places first_lobby [] rs n standing are
 
 -- ---- what stands, and what ended
 
@@ -154,13 +160,13 @@ module _ (places : List Place) (most : ℕ) (told told1 : Option (List LinksEntr
             record {
               moments = o.moments;
               rounds = [];
-              next = 0;
+              lobby = first_lobby;
               standing = [];
               told = refl;
               logged = refl;
               opened = inr refl;
               in_turn = (refl, refl);
-              answers = λ k. own_of_all k (listenings places) o.moments [] 0 [] [] (refl, refl);
+              answers = λ k. own_of_all k (listenings places) o.moments [] first_lobby [] [] (refl, refl);
               ended = tt;
               stand = tt;
             },
@@ -171,11 +177,11 @@ module _ (places : List Place) (most : ℕ) (told told1 : Option (List LinksEntr
     ),
   )
 
-  pub serves_all : (Made : ℕ → Type 0) (next made : ℕ) (told2 told3 : Option (List LinksEntry)) (log2 : Option (List (List ℕ))) (serves : ℕ → Bool) (ps : List Phase) →
-      Made made → OpensDo places (length places) told told1 log log1 → RoundsDo (listenings places) most 0 next made [] told1 told2 log1 log2 [] ps →
-      IsTable (listenings places) most serves next ps → told3 ≡ option_map (λ es. es ++ left_of (seats_of ps)) told2 →
+  pub serves_all : (Made : ℕ → Type 0) (lobby : Lobby) (made : ℕ) (told2 told3 : Option (List LinksEntry)) (log2 : Option (List (List ℕ))) (serves : ℕ → Bool) (ps : List Phase) →
+      Made made → OpensDo places (length places) told told1 log log1 → RoundsDo (listenings places) most first_lobby lobby made [] told1 told2 log1 log2 [] ps →
+      IsTable (listenings places) most serves lobby.next ps → told3 ≡ option_map (λ es. es ++ left_of (seats_of ps)) told2 →
       Serves places most Made told told3 log log2
-  serves_all Made next made told2 told3 log2 serves ps so_many o r table left = (
+  serves_all Made lobby made told2 told3 log2 serves ps so_many o r table left = (
     opened_from 0 o.moments ++ (flat_map round_entries r.rounds ++ left_of (seats_of ps)),
     (
       listen_lines places o.moments ++ flat_map round_lines r.rounds,
@@ -187,13 +193,13 @@ module _ (places : List Place) (most : ℕ) (told told1 : Option (List LinksEntr
             record {
               moments = o.moments;
               rounds = r.rounds;
-              next = next;
+              lobby = lobby;
               standing = seats_of ps;
               told = refl;
               logged = refl;
               opened = inl o.all;
               in_turn = r.in_turn;
-              answers = λ k. own_of_all k (listenings places) o.moments r.rounds next (seats_of ps) (seats_of ps) r.in_turn;
+              answers = λ k. own_of_all k (listenings places) o.moments r.rounds lobby (seats_of ps) (seats_of ps) r.in_turn;
               ended = all_ended (listenings places) most (turns_of r.rounds) ps r.keeps.over;
               stand = all_seats (λ (s : Seat). IsClient (listenings places) most (turns_of r.rounds) s []) ps
                   (all_stand (listenings places) most (turns_of r.rounds) serves ps r.keeps.held table.each);
@@ -224,11 +230,11 @@ whole_two (Err fault.Write) a b f = tt
 whole_two (Err fault.NoMemory) a b f = tt
 
 -- from an empty table on
-pub from_start : (places : List Listening) (most : ℕ) (Q : ℕ → ℕ → List TurnOf → List Phase → Type 0) (m n : ℕ) (q : List Phase) → m ≡ most → n ≡ 0 → q ≡ [] →
-    ((past : List TurnOf) → Keeps places m n past q → Q m n past q) → Q most 0 [] []
+pub from_start : (places : List Listening) (most : ℕ) (Q : ℕ → Lobby → List TurnOf → List Phase → Type 0) (m : ℕ) (n : Lobby) (q : List Phase) → m ≡ most → n ≡ first_lobby → q ≡ [] →
+    ((past : List TurnOf) → Keeps places m n.next past q → Q m n past q) → Q most first_lobby [] []
 from_start places most Q m n q e f p d =
-    let x : (past : List TurnOf) → Keeps places most 0 past [] → Q most 0 past [] =
-    subst (λ y. (past : List TurnOf) → Keeps places most 0 past y → Q most 0 past y) p
-    (subst (λ y. (past : List TurnOf) → Keeps places most y past q → Q most y past q) f
-    (subst (λ y. (past : List TurnOf) → Keeps places y n past q → Q y n past q) e d)) in
+    let x : (past : List TurnOf) → Keeps places most 0 past [] → Q most first_lobby past [] =
+    subst (λ y. (past : List TurnOf) → Keeps places most 0 past y → Q most first_lobby past y) p
+    (subst (λ (y : Lobby). (past : List TurnOf) → Keeps places most y.next past q → Q most y past q) f
+    (subst (λ y. (past : List TurnOf) → Keeps places y n.next past q → Q y n past q) e d)) in
     x [] (keeps_start places most)

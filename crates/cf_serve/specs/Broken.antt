@@ -12,13 +12,14 @@ use Rattle.cf_outside.specs.declared.files.WriteAnswer.TheVariants as write
 use Rattle.cf_relay.specs.Ends.{IsWriteEnd, LogContents}
 use Rattle.cf_view.specs.declared.Endpoint.{Endpoint}
 use Rattle.std.specs.List.{AllByRecursion, concat, flat_map}
-use Rattle.std.specs.Prelude.{List, None, Option, Some, [], drop, length, map, option_map, slice_get, take, true, ℕ, ◌++◌, ◌-◌, ◌<◌, ◌^◌}
-use Rattle.std.specs.Prelude.{◌∷◌, ◌≡◌, ◌⊎◌}
+use Rattle.std.specs.Prelude.{Bool, List, None, Option, Some, [], drop, length, map, option_map, slice_get, take, true, ℕ, ◌++◌}
+use Rattle.std.specs.Prelude.{◌-◌, ◌<◌, ◌^◌, ◌∷◌, ◌≡◌, ◌⊎◌}
 use Rattle.cf_serve.specs.Phase.{listenings}
 use Rattle.cf_serve.specs.Rounds.{AreArrivals, AreRounds, AreTurns, Arrival, Round, Seat, TurnOf, answers_in, lines_in, round_entries}
-use Rattle.cf_serve.specs.Rounds.{round_lines, stays, turns_of}
+use Rattle.cf_serve.specs.Rounds.{first_lobby, round_lines, stays, taken_of, turns_of}
 use Rattle.cf_serve.specs.Served.{IfEnded, IsClient, left_of, listen_lines, opened_from}
 use Rattle.cf_serve.specs.Session.{EndsSo, Listening}
+use Rattle.cf_serve.specs.declared.door.Lobby.{Lobby}
 use Rattle.cf_serve.specs.declared.end.SessionEnd.{SessionEnd}
 use Rattle.cf_serve.specs.declared.table.Place.{Place}
 
@@ -59,24 +60,25 @@ IsFailedClient places most past seat part =
 
 -- ---- the round that breaks off
 
--- a client took the last place, and its line `full` failed: it is the last that was taken
-pub record FullFails (places : List Listening) (moment from next : ℕ) (standing : List Seat) (arrivals : List Arrival)
+-- a client took the last place, or no rule names it, and its line failed: it is the last that came
+pub record ComingFails (places : List Listening) (moment from : ℕ) (lobby : Lobby) (standing : List Seat) (arrivals : List Arrival)
     (part : List ℕ) : Type 0 where
   pub before : List Arrival
   pub seat : Seat
+  pub named : Bool
   pub line : List ℕ
   -- all who came, with the lines that were theirs
-  pub come : AreArrivals places moment from next standing (before ++ record { seat = seat; lines = line ∷ [] } ∷ [])
+  pub come : AreArrivals places moment from lobby standing (before ++ record { seat = seat; named = named; lines = line ∷ [] } ∷ [])
   pub whole : List (List ℕ)
-  pub are : arrivals ≡ before ++ record { seat = seat; lines = whole } ∷ []
+  pub are : arrivals ≡ before ++ record { seat = seat; named = named; lines = whole } ∷ []
   pub begins : BeginsLine line whole part
 
 -- the round breaks off there: no session had its turn, and each stands as it stood
-pub record BreaksInArrivals (places : List Listening) (most : ℕ) (past : List TurnOf) (next : ℕ) (standing : List Seat) (r : Round)
+pub record BreaksInArrivals (places : List Listening) (most : ℕ) (past : List TurnOf) (lobby : Lobby) (standing : List Seat) (r : Round)
     (left : List Seat) (part : List ℕ) : Type 0 where
-  pub fails : FullFails places r.moment 0 next standing r.arrivals part
+  pub fails : ComingFails places r.moment 0 lobby standing r.arrivals part
   pub no_turns : r.turns ≡ []
-  pub all : left ≡ standing ++ map (λ (a : Arrival). a.seat) r.arrivals
+  pub all : left ≡ standing ++ taken_of r.arrivals
   pub stand : AllByRecursion (λ (s : Seat). IsClient places most past s []) left
 
 -- a line of a turn failed: the sessions before had theirs, those behind did not, and each but this one stands as it stood
@@ -95,17 +97,17 @@ pub record TurnFails (places : List Listening) (most : ℕ) (past : List TurnOf)
   pub was : IsClient places most (past ++ before) turn.seat []
   pub fails : IsFailedClient places most (past ++ turns) turn.seat part
 
-abbrev pub BreaksInTurns : List Listening → (most : ℕ) → (past : List TurnOf) → (next : ℕ) → (standing : List Seat) → Round
+abbrev pub BreaksInTurns : List Listening → (most : ℕ) → (past : List TurnOf) → (lobby : Lobby) → (standing : List Seat) → Round
     → (left : List Seat) → (part : List ℕ) → Type 0
-BreaksInTurns places most past next standing r left part =
-    AreArrivals places r.moment 0 next standing r.arrivals
-    × TurnFails places most past (standing ++ map (λ (a : Arrival). a.seat) r.arrivals) r.turns left part
+BreaksInTurns places most past lobby standing r left part =
+    AreArrivals places r.moment 0 lobby standing r.arrivals
+    × TurnFails places most past (standing ++ taken_of r.arrivals) r.turns left part
 
 -- a round that breaks off, from the sessions that stand to those that are left
-abbrev pub BreaksOff : List Listening → (most : ℕ) → (past : List TurnOf) → (next : ℕ) → (standing : List Seat) → Round
+abbrev pub BreaksOff : List Listening → (most : ℕ) → (past : List TurnOf) → (lobby : Lobby) → (standing : List Seat) → Round
     → (left : List Seat) → (part : List ℕ) → Type 0
-BreaksOff places most past next standing r left part =
-    BreaksInArrivals places most past next standing r left part ⊎ BreaksInTurns places most past next standing r left part
+BreaksOff places most past lobby standing r left part =
+    BreaksInArrivals places most past lobby standing r left part ⊎ BreaksInTurns places most past lobby standing r left part
 
 -- ---- the service
 
@@ -127,12 +129,12 @@ pub record RoundFails (places : List Place) (most : ℕ) (entries : List LinksEn
   pub opened : length moments ≡ length places
   pub rounds : List Round
   pub made : length rounds < 2 ^ 64 - 1
-  pub next : ℕ
+  pub lobby : Lobby
   pub standing : List Seat
-  pub in_turn : AreRounds (listenings places) 0 [] rounds next standing
+  pub in_turn : AreRounds (listenings places) first_lobby [] rounds lobby standing
   pub round : Round
   pub left : List Seat
-  pub breaks : BreaksOff (listenings places) most (turns_of rounds) next standing round left part
+  pub breaks : BreaksOff (listenings places) most (turns_of rounds) lobby standing round left part
   pub told : entries ≡ opened_from 0 moments ++ (flat_map round_entries (rounds ++ round ∷ []) ++ left_of left)
   pub logged : lines ≡ listen_lines places moments ++ flat_map round_lines (rounds ++ round ∷ [])
   pub answers : (session : ℕ) → answers_of session entries ≡ answers_in session (turns_of (rounds ++ round ∷ []))

@@ -6,13 +6,14 @@ use Rattle.cf_outside.specs.Pair.{Entry}
 use Rattle.cf_view.specs.declared.Endpoint.{Endpoint}
 use Rattle.std.specs.List.{AllByRecursion, flat_map}
 use Rattle.std.specs.Prelude.{List, None, Option, [], length, map, option_map, true, ℕ, ◌++◌, ◌∷◌, ◌≡◌}
-use Rattle.cf_serve.specs.Broken.{BreaksOff, FailsSo, FullFails, IsFailedClient, TurnFails}
+use Rattle.cf_serve.specs.Broken.{BreaksOff, ComingFails, FailsSo, IsFailedClient, TurnFails}
 use Rattle.cf_serve.specs.Phase.{LinkedValue, Phase, StandsAs}
 use Rattle.cf_serve.specs.Rounds.{AreRounds, Arrival, Round, Seat, TurnOf, arrival_entries, round_entries, round_lines, turn_entries}
-use Rattle.cf_serve.specs.Rounds.{turns_of}
+use Rattle.cf_serve.specs.Rounds.{taken_of, turns_of}
 use Rattle.cf_serve.specs.Served.{IfEnded, IsClient}
 use Rattle.cf_serve.specs.Session.{EndsSo, Listening}
 use Rattle.cf_serve.specs.Table.{Keeps, seats_of}
+use Rattle.cf_serve.specs.declared.door.Lobby.{Lobby}
 use Rattle.cf_serve.specs.declared.end.SessionEnd.{SessionEnd}
 
 -- a turn adds answers and lines with which a session ends, once its last line stands behind them
@@ -82,27 +83,30 @@ pub record MissesTurns (places : List Listening) (most : ℕ) (past : List TurnO
   pub fails : TurnFails places most past (seats_of old) turns (seats_of new) part
 
 -- clients that came at the places from one on, up to the one whose line failed
-pub record MissesArrival (places : List Listening) (most moment from next next_after : ℕ) (told told_after : Option (List LinksEntry))
-    (log log_after : Option (List (List ℕ))) (part : List ℕ) (old new : List Phase) : Type 0 where
+pub record MissesArrival (places : List Listening) (most moment from : ℕ) (lobby lobby_after : Lobby)
+    (told told_after : Option (List LinksEntry)) (log log_after : Option (List (List ℕ)))
+    (part : List ℕ) (old new : List Phase) : Type 0 where
   pub arrivals : List Arrival
   pub tells : told_after ≡ option_map (λ entries. entries ++ flat_map arrival_entries arrivals) told
   pub added : log_after ≡ with_lines log (flat_map (λ (a : Arrival). a.lines) arrivals)
-  pub fails : FullFails places moment from next (seats_of old) arrivals part
-  pub seats : seats_of new ≡ seats_of old ++ map (λ (a : Arrival). a.seat) arrivals
-  pub keeps : (past : List TurnOf) → Keeps places most next past old → Keeps places most next_after past new
+  pub fails : ComingFails places moment from lobby (seats_of old) arrivals part
+  pub seats : seats_of new ≡ seats_of old ++ taken_of arrivals
+  pub keeps : (past : List TurnOf) → Keeps places most lobby.next past old → Keeps places most lobby_after.next past new
 
 -- a round that breaks off
-pub record MissesRound (places : List Listening) (most next : ℕ) (past : List TurnOf) (told told_after : Option (List LinksEntry))
-    (log log_after : Option (List (List ℕ))) (part : List ℕ) (old new : List Phase) : Type 0 where
+pub record MissesRound (places : List Listening) (most : ℕ) (lobby : Lobby) (past : List TurnOf)
+    (told told_after : Option (List LinksEntry)) (log log_after : Option (List (List ℕ)))
+    (part : List ℕ) (old new : List Phase) : Type 0 where
   pub round : Round
   pub tells : told_after ≡ option_map (λ entries. entries ++ round_entries round) told
   pub added : log_after ≡ with_lines log (round_lines round)
   pub ended : AllByRecursion (λ (t : TurnOf). IfEnded places most (past ++ round.turns) t t.end) (past ++ round.turns)
-  pub breaks : BreaksOff places most past next (seats_of old) round (seats_of new) part
+  pub breaks : BreaksOff places most past lobby (seats_of old) round (seats_of new) part
 
 -- rounds, of which the last breaks off
-pub record MissesRounds (places : List Listening) (most next made : ℕ) (past : List TurnOf) (told told_after : Option (List LinksEntry))
-    (log log_after : Option (List (List ℕ))) (part : List ℕ) (old new : List Phase) : Type 0 where
+pub record MissesRounds (places : List Listening) (most : ℕ) (lobby : Lobby) (made : ℕ) (past : List TurnOf)
+    (told told_after : Option (List LinksEntry)) (log log_after : Option (List (List ℕ)))
+    (part : List ℕ) (old new : List Phase) : Type 0 where
   pub rounds : List Round
   pub count : length rounds ≡ made
   pub round : Round
@@ -110,7 +114,7 @@ pub record MissesRounds (places : List Listening) (most next made : ℕ) (past :
   pub added : log_after ≡ with_lines log (flat_map round_lines (rounds ++ round ∷ []))
   pub ended : AllByRecursion (λ (t : TurnOf). IfEnded places most (past ++ turns_of (rounds ++ round ∷ [])) t t.end)
       (past ++ turns_of (rounds ++ round ∷ []))
-  pub mid : ℕ
+  pub mid : Lobby
   pub standing : List Seat
-  pub in_turn : AreRounds places next (seats_of old) rounds mid standing
+  pub in_turn : AreRounds places lobby (seats_of old) rounds mid standing
   pub breaks : BreaksOff places most (past ++ turns_of rounds) mid standing round (seats_of new) part

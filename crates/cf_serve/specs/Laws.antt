@@ -1,10 +1,15 @@
--- Laws of a service. The main definitions are `EachIsAlone` and `IsolatesSessions`. This project's own.
+-- Laws of a service. The main definitions are `EachIsAlone`, `IsolatesSessions` and `StrangersAreRefused`. This project's own.
 use Rattle.cf_links.specs.Links.{LinksEntry, answers_of}
 use Rattle.cf_outside.specs.Pair.{Entry}
 use Rattle.cf_relay.specs.Answers.{given}
 use Rattle.cf_view.specs.declared.Endpoint.{Endpoint}
 use Rattle.cf_view.specs.declared.Side.{Side}
 use Rattle.std.specs.Prelude.{Bool, List, [], ◌∷◌, false, true, ℕ, ◌≡◌}
+use Rattle.cf_policy.specs.Laws.{IsAllowed}
+use Rattle.cf_policy.specs.Verdict.{verdict_of}
+use Rattle.cf_policy.specs.declared.policy.Asset.{Asset}
+use Rattle.cf_view.specs.declared.base.Act.{Act}
+use Rattle.cf_serve.specs.Door.{is_named}
 use Rattle.cf_serve.specs.Rounds.{ends_in, lines_in, turns_of}
 use Rattle.cf_serve.specs.Served.{IsServed}
 use Rattle.cf_serve.specs.Session.{IsSession, Listening}
@@ -19,6 +24,7 @@ was_relayed (end.Cut reason) = true
 was_relayed end.Silent = true
 was_relayed end.Lost = true
 was_relayed end.Unreached = false
+was_relayed end.Gone = false
 was_relayed end.NoMemory = false
 
 -- it stands, or it ended and was a relay
@@ -45,3 +51,7 @@ IsolatesSessions =
     → AreRelayed (ends_in l (turns_of two.rounds))
     → ((s : Side) → given s (answers_of k entries) ≡ given s (answers_of l other_entries))
     × (lines_in k (turns_of one.rounds) ≡ lines_in l (turns_of two.rounds))
+
+-- a client that no rule names is allowed nothing, so closing it takes nothing from anybody
+abbrev pub StrangersAreRefused : Type 0
+StrangersAreRefused = (asset : Asset) (client : ℕ) (act : Act) → is_named asset client ≡ false → IsAllowed (verdict_of asset client act) → ⊥

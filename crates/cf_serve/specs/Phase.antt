@@ -1,6 +1,6 @@
 -- A session of a service between two rounds, and what a turn does to it. The main definitions are `StandsAs` and `TurnDoes`. This
 -- project's own.
-use Rattle.cf_audit.specs.Line.{Begun, Close, Cut, Lost, NoMemory, Silent, Unreached, WhatValue}
+use Rattle.cf_audit.specs.Line.{Begun, Close, Cut, Gone, Lost, NoMemory, Silent, Unreached, WhatValue}
 use Rattle.cf_lane.specs.Log.{line_about, with_lines}
 use Rattle.cf_links.specs.Links.{LinksEntry, LinksPlace, SessionTold, with_answers}
 use Rattle.cf_links.specs.Service.{LosesSession}
@@ -118,6 +118,7 @@ last_value (end.Cut reason) admitted refused = Cut reason
 last_value end.Silent admitted refused = Silent admitted refused
 last_value end.Lost admitted refused = Lost admitted refused
 last_value end.Unreached admitted refused = Unreached
+last_value end.Gone admitted refused = Gone
 last_value end.NoMemory admitted refused = NoMemory
 
 -- the assets that are served, each with the port at which its clients come

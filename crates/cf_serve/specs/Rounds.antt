@@ -1,8 +1,9 @@
 -- The rounds of a service: what the links answered and what the log got, in the order of the loop. The main definitions are `Round`,
 -- `round_entries`, `round_lines` and `AreRounds`. This project's own.
 --
--- In a round at most one client is taken at each listening place, and then each session that stands has one place, in the order in
--- which the sessions came: a turn where the links say that something can move for it, and else nothing.
+-- In a round at most one client comes at each listening place: it is taken, or closed where no rule of its asset names it. Then each
+-- session that stands has one place, in the order in which the sessions came: a turn where the links say that something can move for
+-- it, and else nothing.
 use Rattle.cf_audit.specs.Line.{Full}
 use Rattle.cf_lane.specs.Log.{line_about}
 use Rattle.cf_links.specs.Links.{Came, Left, LinksEntry, Of, Ready, Woke}
@@ -12,7 +13,10 @@ use Rattle.std.specs.List.{flat_map, sum_by}
 use Rattle.std.specs.Prelude.{Bool, List, None, Option, Some, [], false, if◌then◌else◌, length, map, nat_lt, option_to_list}
 use Rattle.std.specs.Prelude.{slice_get, ℕ, ◌&&◌, ◌++◌, ◌+◌}
 use Rattle.std.specs.Prelude.{◌∷◌, ◌≡◌, ◌≤◌, ◌==◌, true}
+use Rattle.cf_serve.specs.Door.{door_with, is_named, stranger_line}
 use Rattle.cf_serve.specs.Session.{Listening}
+use Rattle.cf_serve.specs.declared.door.Door.{Door}
+use Rattle.cf_serve.specs.declared.door.Lobby.{Lobby}
 use Rattle.cf_serve.specs.declared.end.SessionEnd.{SessionEnd}
 
 -- a session's number, that of the listening place to which its client came, and the endpoint from which it came
@@ -21,9 +25,10 @@ pub record Seat : Type 0 where
   pub place : ℕ
   pub client : Endpoint
 
--- a client that came and was taken
+-- a client that came: some rule of its asset names it, and it was taken; or none does, and it was closed
 pub record Arrival : Type 0 where
   pub seat : Seat
+  pub named : Bool
   pub lines : List (List ℕ)
 
 -- what a round was to one session: its answers, the lines that it got, and its end where this was its last
@@ -49,7 +54,14 @@ turn_entries t =
     if t.ready then Ready t.seat.session ∷ (map (Of t.seat.session) t.answers ++ left_by t.seat.session t.end) else []
 
 abbrev pub arrival_entries : Arrival → List LinksEntry
-arrival_entries a = Came a.seat.session a.seat.place a.seat.client ∷ []
+arrival_entries a = Came a.seat.session a.seat.place a.seat.client ∷ (if a.named then [] else Left a.seat.session ∷ [])
+
+-- the clients that were taken
+abbrev pub taken_by : Arrival → List Seat
+taken_by a = if a.named then a.seat ∷ [] else []
+
+abbrev pub taken_of : List Arrival → List Seat
+taken_of arrivals = flat_map taken_by arrivals
 
 -- the answers of a round, in the order of the loop
 abbrev pub round_entries : Round → List LinksEntry
@@ -96,38 +108,65 @@ count_of place standing = sum_by (is_of place) standing
 abbrev pub has_place : List Seat → (place : ℕ) → Bool
 has_place standing place = nat_lt (length standing) 256 && nat_lt (count_of place standing) 32
 
--- the line of a client that took the last place
-abbrev pub full_line : Option Listening → Endpoint → (moment : ℕ) → List (List ℕ)
-full_line None client moment = []
-full_line (Some at) client moment = line_about at.asset client moment Full ∷ []
+-- the line of a client that was taken, where there is no place for another behind it
+abbrev pub full_lines : Listening → (moment : ℕ) → (standing : List Seat) → (place : ℕ) → Endpoint → List (List ℕ)
+full_lines at moment standing place client = if has_place standing place then [] else line_about at.asset client moment Full ∷ []
 
-abbrev pub full_lines : List Listening → (moment : ℕ) → (standing : List Seat) → (place : ℕ) → Endpoint → List (List ℕ)
-full_lines places moment standing place client = if has_place standing place then [] else full_line (slice_get places place) client moment
+-- the line of a client that came at a listening place, if it has one
+abbrev pub arrival_lines : Listening → Door → (moment : ℕ) → (standing : List Seat) → Arrival → List (List ℕ)
+arrival_lines at door moment standing a =
+    if a.named then full_lines at moment (standing ++ a.seat ∷ []) a.seat.place a.seat.client
+    else stranger_line at door a.seat.client moment
 
--- from a listening place on, each at its own: numbers count up, each client has a place, and one that took the last has its line
-abbrev pub AreArrivals : List Listening → (moment : ℕ) → (from next : ℕ) → (standing : List Seat) → List Arrival → Type 0
-AreArrivals places moment from next standing [] = Unit {0}
-AreArrivals places moment from next standing (a ∷ more) =
-    (from ≤ a.seat.place) × ((a.seat.session ≡ next) × ((has_place standing a.seat.place ≡ true)
-    × ((a.lines ≡ full_lines places moment (standing ++ a.seat ∷ []) a.seat.place a.seat.client)
-    × AreArrivals places moment (a.seat.place + 1) (next + 1) (standing ++ a.seat ∷ []) more)))
+-- what is kept of all clients behind one more, and behind more of them
+abbrev pub lobby_with : Lobby → (moment : ℕ) → Arrival → Lobby
+lobby_with lobby moment a = record {
+  next = lobby.next + 1;
+  door = if a.named then lobby.door else door_with lobby.door moment a.seat.client.address;
+}
+
+abbrev pub lobby_behind : Lobby → (moment : ℕ) → List Arrival → Lobby
+lobby_behind lobby moment [] = lobby
+lobby_behind lobby moment (a ∷ more) = lobby_behind (lobby_with lobby moment a) moment more
+
+-- no client came yet
+abbrev pub first_lobby : Lobby
+first_lobby = record { next = 0; door = record { last = None; since = 0 } }
+
+-- a client came at a listening place, one from a number on: it has the next number, and there is a place for it; whether it was taken
+-- is what the rules of the asset say; and it has its line where it took the last place, or was closed and a line is due
+pub record IsArrival (places : List Listening) (moment from : ℕ) (lobby : Lobby) (standing : List Seat) (a : Arrival) : Type 0 where
+  pub later : from ≤ a.seat.place
+  pub at : Listening
+  pub listens : slice_get places a.seat.place ≡ Some at
+  pub number : a.seat.session ≡ lobby.next
+  pub room : has_place standing a.seat.place ≡ true
+  pub by_rules : a.named ≡ is_named at.asset a.seat.client.address
+  pub own_lines : a.lines ≡ arrival_lines at lobby.door moment standing a
+
+-- from a listening place on, each at its own
+abbrev pub AreArrivals : List Listening → (moment : ℕ) → (from : ℕ) → (lobby : Lobby) → (standing : List Seat) → List Arrival → Type 0
+AreArrivals places moment from lobby standing [] = Unit {0}
+AreArrivals places moment from lobby standing (a ∷ more) =
+    IsArrival places moment from lobby standing a
+    × AreArrivals places moment (a.seat.place + 1) (lobby_with lobby moment a) (standing ++ taken_by a) more
 
 -- the sessions that stand behind a round
 abbrev pub stays : TurnOf → List Seat
 stays t = elim t.end [ None ↦ t.seat ∷ [] | Some end ↦ [] ]
 
--- each session that stands, and each that came, has one place in the round
-pub record IsRound (places : List Listening) (next : ℕ) (standing : List Seat) (r : Round) (next_after : ℕ)
+-- each session that stands, and each that was taken, has one place in the round
+pub record IsRound (places : List Listening) (lobby : Lobby) (standing : List Seat) (r : Round) (lobby_after : Lobby)
     (standing_after : List Seat) : Type 0 where
-  pub arrive : AreArrivals places r.moment 0 next standing r.arrivals
-  pub in_turn : map (λ (t : TurnOf). t.seat) r.turns ≡ standing ++ map (λ (a : Arrival). a.seat) r.arrivals
+  pub arrive : AreArrivals places r.moment 0 lobby standing r.arrivals
+  pub in_turn : map (λ (t : TurnOf). t.seat) r.turns ≡ standing ++ taken_of r.arrivals
   pub each : AreTurns r.turns
-  pub counts : next_after ≡ next + length r.arrivals
+  pub counts : lobby_after ≡ lobby_behind lobby r.moment r.arrivals
   pub stay : standing_after ≡ flat_map stays r.turns
 
--- one after the other, from the next number and the sessions that stand to those behind the last
-abbrev pub AreRounds : List Listening → (next : ℕ) → (standing : List Seat) → List Round → (next_after : ℕ)
+-- one after the other, from what is kept of the clients and the sessions that stand to those behind the last
+abbrev pub AreRounds : List Listening → (lobby : Lobby) → (standing : List Seat) → List Round → (lobby_after : Lobby)
     → (standing_after : List Seat) → Type 0
-AreRounds places next standing [] next_after standing_after = (next_after ≡ next) × (standing_after ≡ standing)
-AreRounds places next standing (r ∷ rs) next_after standing_after =
-    (n : ℕ) × ((s : List Seat) × (IsRound places next standing r n s × AreRounds places n s rs next_after standing_after))
+AreRounds places lobby standing [] lobby_after standing_after = (lobby_after ≡ lobby) × (standing_after ≡ standing)
+AreRounds places lobby standing (r ∷ rs) lobby_after standing_after =
+    (n : Lobby) × ((s : List Seat) × (IsRound places lobby standing r n s × AreRounds places n s rs lobby_after standing_after))

@@ -6,8 +6,10 @@ use Rattle.std.specs.List.{AllByRecursion, flat_map}
 use Rattle.std.specs.Prelude.{Err, List, None, Ok, Option, Result, Some, [], length, map, option_map, slice_get, ℕ, ◌++◌, ◌+◌, ◌-◌}
 use Rattle.std.specs.Prelude.{◌<◌, ◌^◌, ◌∷◌, ◌≡◌, ◌⊎◌}
 use Rattle.cf_serve.specs.Phase.{listenings}
-use Rattle.cf_serve.specs.Rounds.{AreRounds, Round, Seat, TurnOf, answers_in, ends_in, lines_in, round_entries, round_lines, turns_of}
+use Rattle.cf_serve.specs.Rounds.{AreRounds, Round, Seat, TurnOf, answers_in, ends_in, first_lobby, lines_in, round_entries, round_lines}
+use Rattle.cf_serve.specs.Rounds.{turns_of}
 use Rattle.cf_serve.specs.Session.{IsSession, Listening}
+use Rattle.cf_serve.specs.declared.door.Lobby.{Lobby}
 use Rattle.cf_serve.specs.declared.end.SessionEnd.{SessionEnd}
 use Rattle.cf_serve.specs.declared.fault.ServeFault.{ServeFault}
 use Rattle.cf_serve.specs.declared.table.Place.{Place}
@@ -42,13 +44,13 @@ IfEnded places most past t (Some end) = (ends_in t.seat.session past ≡ end ∷
 pub record IsServed (places : List Place) (most : ℕ) (entries : List LinksEntry) (lines : List (List ℕ)) : Type 0 where
   pub moments : List ℕ
   pub rounds : List Round
-  pub next : ℕ
+  pub lobby : Lobby
   pub standing : List Seat
   pub told : entries ≡ opened_from 0 moments ++ (flat_map round_entries rounds ++ left_of standing)
   pub logged : lines ≡ listen_lines places moments ++ flat_map round_lines rounds
   -- no round begins before every place was opened
   pub opened : (length moments ≡ length places) ⊎ (rounds ≡ [])
-  pub in_turn : AreRounds (listenings places) 0 [] rounds next standing
+  pub in_turn : AreRounds (listenings places) first_lobby [] rounds lobby standing
   -- each session's own answers are those of its turns
   pub answers : (session : ℕ) → answers_of session entries ≡ answers_in session (turns_of rounds)
   pub ended : AllByRecursion (λ (t : TurnOf). IfEnded (listenings places) most (turns_of rounds) t t.end) (turns_of rounds)

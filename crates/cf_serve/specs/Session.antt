@@ -1,5 +1,5 @@
 -- One session of a service, by its own answers and its own lines. The main definition is `IsSession`. This project's own.
-use Rattle.cf_audit.specs.Line.{Lost, NoMemory, Silent, Unreached}
+use Rattle.cf_audit.specs.Line.{Gone, Lost, NoMemory, Silent, Unreached}
 use Rattle.cf_lane.specs.Log.{line_about}
 use Rattle.cf_outside.specs.Pair.{Entry, met_at}
 use Rattle.cf_policy.specs.declared.Asset.{Asset}
@@ -48,7 +48,8 @@ pub record IsLostEnd (at : Listening) (most : ℕ) (es : List Entry) (own : List
   pub ended : IsLinkEnd at.asset at.port most (with_last own (lost_line at.asset es admitted refused)) es
   pub counts : IsCounted ended.goes.judged admitted refused
 
--- a session that ended: it is a relay of its own that ended so; or its controller was not reached, or memory was wanting as it was
+-- a session that ended: it is a relay of its own that ended so; or its controller was not reached, or its client had gone before it
+-- was, and in both nothing was taken or given; or memory was wanting as it was reached
 abbrev pub EndsSo : Listening → (most : ℕ) → (client : Endpoint) → List Entry → (own : List (List ℕ)) → SessionEnd → Type 0
 EndsSo at most client es own end.Closed = (done : RelayDone) × IsDone at.asset at.port most (own_log own) es done
 EndsSo at most client es own (end.Cut reason) = (done : RelayDone) × IsCutEnd at.asset at.port most (own_log own) es done reason
@@ -56,6 +57,7 @@ EndsSo at most client es own end.Silent =
     (done : RelayDone) × IsIdleEnd at.asset at.port most (with_last own (silent_line at.asset es done.admitted done.refused)) es done
 EndsSo at most client es own end.Lost = IsLostEnd at most es own
 EndsSo at most client es own end.Unreached = (es ≡ []) × ((moment : ℕ) × (own ≡ line_about at.asset client moment Unreached ∷ []))
+EndsSo at most client es own end.Gone = (es ≡ []) × ((moment : ℕ) × (own ≡ line_about at.asset client moment Gone ∷ []))
 EndsSo at most client es own end.NoMemory =
     (met : Endpoint) × ((es ≡ met_at at.port at.asset.endpoint met ∷ [])
     × ((moment : ℕ) × (own ≡ line_about at.asset met moment NoMemory ∷ [])))

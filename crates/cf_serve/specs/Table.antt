@@ -8,8 +8,10 @@ use Rattle.std.specs.Prelude.{slice_get, true, ℕ, ◌++◌, ◌+◌, ◌<◌}
 use Rattle.std.specs.Prelude.{◌∷◌, ◌≡◌, ◌≤◌, ◌==◌}
 use Rattle.cf_serve.specs.Phase.{MayTurn, Phase, StandsAs}
 use Rattle.cf_serve.specs.Rounds.{AreArrivals, AreRounds, AreTurns, Arrival, IsRound, IsTurn, Round, Seat, TurnOf, answers_in}
-use Rattle.cf_serve.specs.Rounds.{arrival_entries, ends_in, lines_in, round_entries, round_lines, stays, turn_entries, turns_of}
+use Rattle.cf_serve.specs.Rounds.{arrival_entries, ends_in, lines_in, lobby_behind, round_entries, round_lines, stays, taken_of}
+use Rattle.cf_serve.specs.Rounds.{turn_entries, turns_of}
 use Rattle.cf_serve.specs.Session.{EndsSo, Listening}
+use Rattle.cf_serve.specs.declared.door.Lobby.{Lobby}
 use Rattle.cf_serve.specs.declared.end.SessionEnd.{SessionEnd}
 use Rattle.cf_serve.specs.declared.fault.ServeFault.{ServeFault}
 use Rattle.cf_serve.specs.declared.fault.ServeFault.TheVariants as fault
@@ -113,36 +115,36 @@ seats_of ps = map (λ (p : Phase). p.seat) ps
 abbrev pub new_phase : (session place : ℕ) → Endpoint → Phase
 new_phase session place client = record { seat = record { session = session; place = place; client = client }; linked = None }
 
--- clients that came at the places from one on and below another, each in the table from here on
-pub record Arrive (places : List Listening) (most moment from upto next next_after : ℕ) (told told_after : Option (List LinksEntry))
-    (log log_after : Option (List (List ℕ))) (old new : List Phase) : Type 0 where
+-- clients that came at the places from one on and below another; each that was taken is in the table from here on
+pub record Arrive (places : List Listening) (most moment from upto : ℕ) (lobby lobby_after : Lobby)
+    (told told_after : Option (List LinksEntry)) (log log_after : Option (List (List ℕ))) (old new : List Phase) : Type 0 where
   pub arrivals : List Arrival
   pub tells : told_after ≡ option_map (λ entries. entries ++ flat_map arrival_entries arrivals) told
   pub added : log_after ≡ with_lines log (flat_map (λ (a : Arrival). a.lines) arrivals)
-  pub come : AreArrivals places moment from next (seats_of old) arrivals
+  pub come : AreArrivals places moment from lobby (seats_of old) arrivals
   pub below : AllByRecursion (λ (a : Arrival). a.seat.place < upto) arrivals
-  pub seats : seats_of new ≡ seats_of old ++ map (λ (a : Arrival). a.seat) arrivals
-  pub counts : next_after ≡ next + length arrivals
-  pub keeps : (past : List TurnOf) → Keeps places most next past old → Keeps places most next_after past new
+  pub seats : seats_of new ≡ seats_of old ++ taken_of arrivals
+  pub counts : lobby_after ≡ lobby_behind lobby moment arrivals
+  pub keeps : (past : List TurnOf) → Keeps places most lobby.next past old → Keeps places most lobby_after.next past new
 
 -- a whole round, whatever came before
-pub record RoundDoes (places : List Listening) (most next next_after : ℕ) (past : List TurnOf) (told told_after : Option (List LinksEntry))
-    (log log_after : Option (List (List ℕ))) (old new : List Phase) : Type 0 where
+pub record RoundDoes (places : List Listening) (most : ℕ) (lobby lobby_after : Lobby) (past : List TurnOf)
+    (told told_after : Option (List LinksEntry)) (log log_after : Option (List (List ℕ))) (old new : List Phase) : Type 0 where
   pub round : Round
   pub tells : told_after ≡ option_map (λ entries. entries ++ round_entries round) told
   pub added : log_after ≡ with_lines log (round_lines round)
-  pub is_round : IsRound places next (seats_of old) round next_after (seats_of new)
-  pub keeps : Keeps places most next_after (past ++ round.turns) new
+  pub is_round : IsRound places lobby (seats_of old) round lobby_after (seats_of new)
+  pub keeps : Keeps places most lobby_after.next (past ++ round.turns) new
 
 -- round after round, so many of them
-pub record RoundsDo (places : List Listening) (most next next_after made : ℕ) (past : List TurnOf)
+pub record RoundsDo (places : List Listening) (most : ℕ) (lobby lobby_after : Lobby) (made : ℕ) (past : List TurnOf)
     (told told_after : Option (List LinksEntry)) (log log_after : Option (List (List ℕ))) (old new : List Phase) : Type 0 where
   pub rounds : List Round
   pub count : length rounds ≡ made
   pub tells : told_after ≡ option_map (λ entries. entries ++ flat_map round_entries rounds) told
   pub added : log_after ≡ with_lines log (flat_map round_lines rounds)
-  pub in_turn : AreRounds places next (seats_of old) rounds next_after (seats_of new)
-  pub keeps : Keeps places most next_after (past ++ turns_of rounds) new
+  pub in_turn : AreRounds places lobby (seats_of old) rounds lobby_after (seats_of new)
+  pub keeps : Keeps places most lobby_after.next (past ++ turns_of rounds) new
 
 -- the service goes on, or its wait failed: all rounds were whole
 abbrev pub IfWhole : Result Unit ServeFault → Type 0 → Type 0

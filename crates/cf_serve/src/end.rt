@@ -15,6 +15,8 @@ pub enum SessionEnd {
     Lost,
     /// The controller took no connection.
     Unreached,
+    /// The client had gone before the controller was reached.
+    Gone,
     /// Memory was wanting as the controller was reached.
     NoMemory,
 }

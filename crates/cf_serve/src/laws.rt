@@ -1,7 +1,8 @@
 //! Laws of a service, as the contracts of functions with empty bodies.
-ghost use Rattle.cf_serve.specs.Laws.{EachIsAlone, IsolatesSessions};
+ghost use Rattle.cf_serve.specs.Laws.{EachIsAlone, IsolatesSessions, StrangersAreRefused};
 
 use cf_lane::has_one_judgement;
+use cf_policy::allows_by_first_rule;
 
 /// What a session gets and what it leaves in the log follow from its own answers, whatever the other sessions do.
 pub fn sessions_are_isolated()
@@ -9,4 +10,11 @@ pub fn sessions_are_isolated()
     ensures isolates { IsolatesSessions }
 {
     has_one_judgement();
+}
+
+/// A client that is closed at the door would have had each of its commands refused.
+pub fn strangers_are_refused()
+    ensures refused { StrangersAreRefused }
+{
+    allows_by_first_rule();
 }

@@ -1,11 +1,11 @@
 //! A session of a service, and its turns.
-ghost use Rattle.std.specs.Prelude.{◌≡◌, ◌<◌, ◌∷◌, [], IfOk, IsErr, Err, None, OnErr, OnOk, Some, length, true};
+ghost use Rattle.std.specs.Prelude.{◌≡◌, ◌<◌, ◌∷◌, [], IfOk, IsErr, Err, None, Ok, OnErr, OnOk, Some, length, true};
 ghost use Rattle.cf_audit.specs.Line.{what_value};
 ghost use Rattle.cf_lane.specs.Handled.{WritesLog};
 ghost use Rattle.cf_links.specs.LinkValue.{told_of};
 ghost use Rattle.cf_links.specs.Links.{LinksPlace};
 ghost use Rattle.cf_outside.specs.Desk.{DeskValue};
-ghost use Rattle.cf_outside.specs.Faults.{HasCause};
+ghost use Rattle.cf_outside.specs.Faults.{HasCause, Rose};
 ghost use Rattle.cf_outq.specs.SendQueue.{empty};
 ghost use Rattle.cf_outside.specs.Pair.{met_at};
 ghost use Rattle.cf_policy.specs.Within.{IsAssetWithin};
@@ -92,6 +92,7 @@ fn last_what(end: SessionEnd, admitted: u64, refused: u64) -> What<'static>
         SessionEnd::Silent => What::Silent { admitted, refused },
         SessionEnd::Lost => What::Lost { admitted, refused },
         SessionEnd::Unreached => What::Unreached,
+        SessionEnd::Gone => What::Gone,
         SessionEnd::NoMemory => What::NoMemory,
     }
 }
@@ -144,6 +145,7 @@ fn begin<L: Links, D: Desk>(
         (told_of L.Links session links.old) (told_of L.Links session links.new)
         (DeskValue.lines (D.value desk.old)) (DeskValue.lines (D.value desk.new)) (DeskValue.line_part (D.value desk.new))) }
     ensures may { IfOk result (λ reached. IsSoundBegun (listening_of terms.now) terms.now.most reached) }
+    ensures met { (result ≡ Ok (Reached.Ended SessionEnd.Unreached) → ⊥) × (result ≡ Ok (Reached.Ended SessionEnd.Gone) → ⊥) }
     ensures whole { OnOk result (DeskValue.whole (D.value desk.new) ≡ true) }
     ensures log { WritesLog (D.value desk.old) (D.value desk.new) }
     ensures cause { HasCause (DeskValue.faults (D.value desk.old)) (DeskValue.faults (D.value desk.new)) (IsErr result) }
@@ -198,6 +200,8 @@ fn reach<L: Links, D: Desk>(
         (told_of L.Links session links.old) (told_of L.Links session links.new)
         (DeskValue.lines (D.value desk.old)) (DeskValue.lines (D.value desk.new)) (DeskValue.line_part (D.value desk.new))) }
     ensures may { IfOk result (λ reached. IsSoundBegun (listening_of terms.now) terms.now.most reached) }
+    ensures unreached { result ≡ Ok (Reached.Ended SessionEnd.Unreached) → Rose (L.faults links.old) (L.faults links.new) }
+    ensures gone { result ≡ Ok (Reached.Ended SessionEnd.Gone) → L.faults links.new ≡ L.faults links.old }
     ensures whole { OnOk result (DeskValue.whole (D.value desk.new) ≡ true) }
     ensures log { WritesLog (D.value desk.old) (D.value desk.new) }
     ensures cause { HasCause (DeskValue.faults (D.value desk.old)) (DeskValue.faults (D.value desk.new)) (IsErr result) }
@@ -205,6 +209,10 @@ fn reach<L: Links, D: Desk>(
     match links.meet(session, terms.port, terms.asset.endpoint) {
         ReachAnswer::Met(met) => begin(alloc, session, met, terms, links, desk),
         ReachAnswer::Waiting => Ok(Reached::Waiting),
+        ReachAnswer::Gone => {
+            log_line(terms.asset, client, terms.moment, What::Gone, desk)?;
+            Ok(Reached::Ended(SessionEnd::Gone))
+        }
         ReachAnswer::Failed => {
             log_line(terms.asset, client, terms.moment, What::Unreached, desk)?;
             Ok(Reached::Ended(SessionEnd::Unreached))

@@ -11,12 +11,13 @@ ghost use Rattle.cf_relay.specs.declared.limit.TheConstants.{MOST_BYTES};
 ghost use Rattle.cf_serve.specs.Phase.{KeepsPlace, MayTurn, Phase, SeatDoes, StandsAs, listening_at, listening_of, listenings, phase_of};
 ghost use Rattle.cf_serve.specs.Failing.{MissesArrival, MissesRound, MissesRounds, MissesSeat, MissesStep, MissesTurns};
 ghost use Rattle.cf_serve.specs.Served.{HasMade, left_of};
-ghost use Rattle.cf_serve.specs.Rounds.{TurnOf, has_place};
+ghost use Rattle.cf_serve.specs.Rounds.{TurnOf, first_lobby, has_place};
 ghost use Rattle.cf_serve.specs.Table.{Arrive, IfWhole, IsTable, Keeps, MayLeave, RoundDoes, RoundsDo, StepDoes, TurnsDo, new_phase};
 ghost use Rattle.cf_serve.specs.Table.{seats_of};
 ghost use Rattle.cf_serve.specs.declared.table.Place.{Place as PlaceOf};
 ghost use Rattle.std.specs.List.{AllByRecursion};
 
+use crate::door::{Door, Lobby, names_client};
 use crate::fault::ServeFault;
 use crate::session::{Served, Terms};
 use cf_audit::What;
@@ -101,27 +102,34 @@ fn turn_one<L: Service, D: Desk>(
     }
 }
 
-/// The sessions that stand, in the order in which they came, and the number of the next.
+/// The sessions that stand, in the order in which they came, and what is kept of all clients that came.
 #[derive(Drop)]
 pub(crate) struct Table {
     pub(crate) sessions: Vec<Served>,
-    pub(crate) next: u64,
+    pub(crate) lobby: Lobby,
 }
 
 impl Table {
     /// No sessions, and room for all that may stand.
     pub(crate) fn new(alloc: Global) -> Result<Table, AllocError>
         ensures none { IfOk result (λ table. (Table.sessions table).items ≡ []) }
-        ensures next { IfOk result (λ table. Table.next table ≡ 0) }
+        ensures lobby { IfOk result (λ table. Table.lobby table ≡ first_lobby) }
         ensures room { IfOk result (λ table. 256 ≤ vec_capacity (Table.sessions table)) }
     {
         let sessions = Vec::with_capacity(alloc, SESSION_LIMIT)?;
-        Ok(Table { sessions, next: 0 })
+        let door = Door {
+            last: None,
+            since: 0,
+        };
+        Ok(Table {
+            sessions,
+            lobby: Lobby { next: 0, door },
+        })
     }
 
     /// Leaves every session.
     pub(crate) fn leave_all<L: Service>(&self, links: &mut L)
-        requires leave { MayLeave (LinksPlace.serves (L.place links.old)) self.now.next (map phase_of self.now.sessions.items) }
+        requires leave { MayLeave (LinksPlace.serves (L.place links.old)) self.now.lobby.next (map phase_of self.now.sessions.items) }
         ensures told { L.told links.new
             ≡ option_map (λ es. es ++ left_of (seats_of (map phase_of self.now.sessions.items))) (L.told links.old) }
         ensures round { LinksPlace.round_faults (L.place links.new) ≡ LinksPlace.round_faults (L.place links.old) }
@@ -144,29 +152,29 @@ impl Table {
         desk: &mut D,
     ) -> Result<bool, WriteFault>
         requires index { index < length self.old.sessions.items }
-        requires table { IsTable (listenings places.now) most (LinksPlace.serves (L.place links.old)) self.old.next
+        requires table { IsTable (listenings places.now) most (LinksPlace.serves (L.place links.old)) self.old.lobby.next
             (map phase_of self.old.sessions.items) }
         requires within { AllByRecursion (λ place. IsAssetWithin (PlaceOf.asset place).now) places.now }
         requires most { 0 < most }
         requires whole { DeskValue.whole (D.value desk.old) ≡ true }
         requires buffer { length buf.old ≡ MOST_BYTES }
-        ensures table { OnOk result (IsTable (listenings places.now) most (LinksPlace.serves (L.place links.new)) self.new.next
+        ensures table { OnOk result (IsTable (listenings places.now) most (LinksPlace.serves (L.place links.new)) self.new.lobby.next
             (map phase_of self.new.sessions.items)) }
         ensures does { IfOk result (λ stays. (past : List TurnOf)
-            → Keeps (listenings places.now) most self.old.next past (map phase_of self.old.sessions.items)
-            → StepDoes (listenings places.now) most self.old.next past index (L.told links.old) (L.told links.new)
+            → Keeps (listenings places.now) most self.old.lobby.next past (map phase_of self.old.sessions.items)
+            → StepDoes (listenings places.now) most self.old.lobby.next past index (L.told links.old) (L.told links.new)
             (DeskValue.lines (D.value desk.old)) (DeskValue.lines (D.value desk.new))
             (map phase_of self.old.sessions.items) (map phase_of self.new.sessions.items) stays) }
         ensures breaks { OnErr result ((past : List TurnOf)
-            → Keeps (listenings places.now) most self.old.next past (map phase_of self.old.sessions.items)
+            → Keeps (listenings places.now) most self.old.lobby.next past (map phase_of self.old.sessions.items)
             → MissesStep (listenings places.now) most past index (L.told links.old) (L.told links.new)
             (DeskValue.lines (D.value desk.old)) (DeskValue.lines (D.value desk.new)) (DeskValue.line_part (D.value desk.new))
             (map phase_of self.old.sessions.items) (map phase_of self.new.sessions.items)) }
         ensures room { vec_capacity self.new.sessions ≡ vec_capacity self.old.sessions }
         ensures len { IfOk result (λ stays. vec_len self.new.sessions + (if stays then 0 else 1) ≡ vec_len self.old.sessions) }
-        ensures leave { OnErr result (MayLeave (LinksPlace.serves (L.place links.new)) self.new.next
+        ensures leave { OnErr result (MayLeave (LinksPlace.serves (L.place links.new)) self.new.lobby.next
             (map phase_of self.new.sessions.items)) }
-        ensures next { self.new.next ≡ self.old.next }
+        ensures lobby { self.new.lobby ≡ self.old.lobby }
         ensures round { LinksPlace.round_faults (L.place links.new) ≡ LinksPlace.round_faults (L.place links.old) }
         ensures whole { OnOk result (DeskValue.whole (D.value desk.new) ≡ true) }
         ensures log { WritesLog (D.value desk.old) (D.value desk.new) }
@@ -198,26 +206,26 @@ impl Table {
         links: &mut L,
         desk: &mut D,
     ) -> Result<(), WriteFault>
-        requires table { IsTable (listenings places.now) most (LinksPlace.serves (L.place links.old)) self.old.next
+        requires table { IsTable (listenings places.now) most (LinksPlace.serves (L.place links.old)) self.old.lobby.next
             (map phase_of self.old.sessions.items) }
         requires within { AllByRecursion (λ place. IsAssetWithin (PlaceOf.asset place).now) places.now }
         requires most { 0 < most }
         requires whole { DeskValue.whole (D.value desk.old) ≡ true }
-        ensures table { OnOk result (IsTable (listenings places.now) most (LinksPlace.serves (L.place links.new)) self.new.next
+        ensures table { OnOk result (IsTable (listenings places.now) most (LinksPlace.serves (L.place links.new)) self.new.lobby.next
             (map phase_of self.new.sessions.items)) }
         ensures does { OnOk result ((past : List TurnOf)
-            → Keeps (listenings places.now) most self.old.next past (map phase_of self.old.sessions.items)
-            → TurnsDo (listenings places.now) most self.old.next past (L.told links.old) (L.told links.new)
+            → Keeps (listenings places.now) most self.old.lobby.next past (map phase_of self.old.sessions.items)
+            → TurnsDo (listenings places.now) most self.old.lobby.next past (L.told links.old) (L.told links.new)
             (DeskValue.lines (D.value desk.old)) (DeskValue.lines (D.value desk.new))
             (map phase_of self.old.sessions.items) (map phase_of self.new.sessions.items)) }
         ensures breaks { OnErr result ((past : List TurnOf)
-            → Keeps (listenings places.now) most self.old.next past (map phase_of self.old.sessions.items)
+            → Keeps (listenings places.now) most self.old.lobby.next past (map phase_of self.old.sessions.items)
             → MissesTurns (listenings places.now) most past (L.told links.old) (L.told links.new)
             (DeskValue.lines (D.value desk.old)) (DeskValue.lines (D.value desk.new)) (DeskValue.line_part (D.value desk.new))
             (map phase_of self.old.sessions.items) (map phase_of self.new.sessions.items)) }
-        ensures leave { OnErr result (MayLeave (LinksPlace.serves (L.place links.new)) self.new.next
+        ensures leave { OnErr result (MayLeave (LinksPlace.serves (L.place links.new)) self.new.lobby.next
             (map phase_of self.new.sessions.items)) }
-        ensures next { self.new.next ≡ self.old.next }
+        ensures lobby { self.new.lobby ≡ self.old.lobby }
         ensures round { LinksPlace.round_faults (L.place links.new) ≡ LinksPlace.round_faults (L.place links.old) }
         ensures room { vec_capacity self.new.sessions ≡ vec_capacity self.old.sessions }
         ensures whole { OnOk result (DeskValue.whole (D.value desk.new) ≡ true) }
@@ -247,7 +255,7 @@ impl Table {
         self.sessions.len() < SESSION_LIMIT && count < PLACE_LIMIT
     }
 
-    /// Takes a client at one place, where one came and there is a place for it.
+    /// Takes a client at one place, where one came and there is a place for it; one that no rule of the asset names is closed.
     fn arrive<L: Service, D: Desk>(
         &mut self,
         place: usize,
@@ -259,18 +267,18 @@ impl Table {
         requires place { place < length places.now }
         requires few { length places.now ≤ 256 }
         requires room { 256 ≤ vec_capacity self.old.sessions }
-        requires free { (session : ℕ) → self.old.next ≤ session → LinksPlace.serves (L.place links.old) session ≡ false }
+        requires free { (session : ℕ) → self.old.lobby.next ≤ session → LinksPlace.serves (L.place links.old) session ≡ false }
         requires within { AllByRecursion (λ place. IsAssetWithin (PlaceOf.asset place).now) places.now }
         requires whole { DeskValue.whole (D.value desk.old) ≡ true }
-        ensures table { (most : ℕ) → IsTable (listenings places.now) most (LinksPlace.serves (L.place links.old)) self.old.next
+        ensures table { (most : ℕ) → IsTable (listenings places.now) most (LinksPlace.serves (L.place links.old)) self.old.lobby.next
             (map phase_of self.old.sessions.items) → IsTable (listenings places.now) most (LinksPlace.serves (L.place links.new))
-            self.new.next (map phase_of self.new.sessions.items) }
-        ensures free { (session : ℕ) → self.new.next ≤ session → LinksPlace.serves (L.place links.new) session ≡ false }
+            self.new.lobby.next (map phase_of self.new.sessions.items) }
+        ensures free { (session : ℕ) → self.new.lobby.next ≤ session → LinksPlace.serves (L.place links.new) session ≡ false }
         ensures round { LinksPlace.round_faults (L.place links.new) ≡ LinksPlace.round_faults (L.place links.old) }
-        ensures does { OnOk result ((most : ℕ) → Arrive (listenings places.now) most moment place (place + 1) self.old.next self.new.next
+        ensures does { OnOk result ((most : ℕ) → Arrive (listenings places.now) most moment place (place + 1) self.old.lobby self.new.lobby
             (L.told links.old) (L.told links.new) (DeskValue.lines (D.value desk.old)) (DeskValue.lines (D.value desk.new))
             (map phase_of self.old.sessions.items) (map phase_of self.new.sessions.items)) }
-        ensures breaks { OnErr result ((most : ℕ) → MissesArrival (listenings places.now) most moment place self.old.next self.new.next
+        ensures breaks { OnErr result ((most : ℕ) → MissesArrival (listenings places.now) most moment place self.old.lobby self.new.lobby
             (L.told links.old) (L.told links.new) (DeskValue.lines (D.value desk.old)) (DeskValue.lines (D.value desk.new))
             (DeskValue.line_part (D.value desk.new)) (map phase_of self.old.sessions.items) (map phase_of self.new.sessions.items)) }
         ensures room { vec_capacity self.old.sessions ≤ vec_capacity self.new.sessions }
@@ -278,38 +286,46 @@ impl Table {
         ensures log { WritesLog (D.value desk.old) (D.value desk.new) }
         ensures cause { HasCause (DeskValue.faults (D.value desk.old)) (DeskValue.faults (D.value desk.new)) (IsErr result) }
     {
-        if self.next == u64::MAX || !self.has_place(place) {
+        if self.lobby.next == u64::MAX || !self.has_place(place) {
             return Ok(());
         }
-        let client = match links.arrive(place as u32, self.next) {
+        let client = match links.arrive(place as u32, self.lobby.next) {
             ArriveAnswer::Came(client) => client,
             ArriveAnswer::Nobody => return Ok(()),
         };
+        let at = place_of(places, place);
+        if !names_client(at.asset, client.address) {
+            links.leave(self.lobby.next);
+            self.lobby.next += 1;
+            return match self.lobby.door.note(moment, client.address) {
+                Some(came) => log_line(at.asset, client, moment, What::Stranger { came }, desk),
+                None => Ok(()),
+            };
+        }
         self.take_in(place, client);
         if self.has_place(place) {
             return Ok(());
         }
-        let at = place_of(places, place);
         log_line(at.asset, client, moment, What::Full, desk)
     }
 
     /// A client has its place in the table, under the next number.
     fn take_in(&mut self, place: usize, client: Endpoint)
         requires room { vec_len self.old.sessions < vec_capacity self.old.sessions }
-        requires next { self.old.next < 2 ^ 64 - 1 }
+        requires next { self.old.lobby.next < 2 ^ 64 - 1 }
         ensures items { map phase_of self.new.sessions.items ≡ map phase_of self.old.sessions.items
-            ++ new_phase self.old.next place client ∷ [] }
-        ensures next { self.new.next ≡ self.old.next + 1 }
+            ++ new_phase self.old.lobby.next place client ∷ [] }
+        ensures lobby { self.new.lobby ≡ record self.old.lobby { next = self.old.lobby.next + 1 } }
         ensures room { vec_capacity self.old.sessions ≤ vec_capacity self.new.sessions }
     {
         let served = Served {
-            number: self.next,
+            number: self.lobby.next,
             place,
             client,
             linked: None,
         };
         let _ = self.sessions.push(served);
-        self.next += 1;
+        self.lobby.next += 1;
     }
 
     /// Takes a client at each listening place that has one, and a place for it.
@@ -322,17 +338,17 @@ impl Table {
     ) -> Result<(), WriteFault>
         requires few { length places.now ≤ 256 }
         requires room { 256 ≤ vec_capacity self.old.sessions }
-        requires free { (session : ℕ) → self.old.next ≤ session → LinksPlace.serves (L.place links.old) session ≡ false }
+        requires free { (session : ℕ) → self.old.lobby.next ≤ session → LinksPlace.serves (L.place links.old) session ≡ false }
         requires within { AllByRecursion (λ place. IsAssetWithin (PlaceOf.asset place).now) places.now }
         requires whole { DeskValue.whole (D.value desk.old) ≡ true }
-        ensures table { (most : ℕ) → IsTable (listenings places.now) most (LinksPlace.serves (L.place links.old)) self.old.next
+        ensures table { (most : ℕ) → IsTable (listenings places.now) most (LinksPlace.serves (L.place links.old)) self.old.lobby.next
             (map phase_of self.old.sessions.items) → IsTable (listenings places.now) most (LinksPlace.serves (L.place links.new))
-            self.new.next (map phase_of self.new.sessions.items) }
+            self.new.lobby.next (map phase_of self.new.sessions.items) }
         ensures round { LinksPlace.round_faults (L.place links.new) ≡ LinksPlace.round_faults (L.place links.old) }
-        ensures does { OnOk result ((most : ℕ) → Arrive (listenings places.now) most moment 0 (length places.now) self.old.next
-            self.new.next (L.told links.old) (L.told links.new) (DeskValue.lines (D.value desk.old)) (DeskValue.lines (D.value desk.new))
+        ensures does { OnOk result ((most : ℕ) → Arrive (listenings places.now) most moment 0 (length places.now) self.old.lobby
+            self.new.lobby (L.told links.old) (L.told links.new) (DeskValue.lines (D.value desk.old)) (DeskValue.lines (D.value desk.new))
             (map phase_of self.old.sessions.items) (map phase_of self.new.sessions.items)) }
-        ensures breaks { OnErr result ((most : ℕ) → MissesArrival (listenings places.now) most moment 0 self.old.next self.new.next
+        ensures breaks { OnErr result ((most : ℕ) → MissesArrival (listenings places.now) most moment 0 self.old.lobby self.new.lobby
             (L.told links.old) (L.told links.new) (DeskValue.lines (D.value desk.old)) (DeskValue.lines (D.value desk.new))
             (DeskValue.line_part (D.value desk.new)) (map phase_of self.old.sessions.items) (map phase_of self.new.sessions.items)) }
         ensures room { vec_capacity self.old.sessions ≤ vec_capacity self.new.sessions }
@@ -357,24 +373,24 @@ impl Table {
     ) -> Result<(), ServeFault>
         requires few { length places.now ≤ 256 }
         requires room { 256 ≤ vec_capacity self.old.sessions }
-        requires table { IsTable (listenings places.now) most (LinksPlace.serves (L.place links.old)) self.old.next
+        requires table { IsTable (listenings places.now) most (LinksPlace.serves (L.place links.old)) self.old.lobby.next
             (map phase_of self.old.sessions.items) }
         requires within { AllByRecursion (λ place. IsAssetWithin (PlaceOf.asset place).now) places.now }
         requires most { 0 < most }
         requires whole { DeskValue.whole (D.value desk.old) ≡ true }
-        ensures table { OnOk result (IsTable (listenings places.now) most (LinksPlace.serves (L.place links.new)) self.new.next
+        ensures table { OnOk result (IsTable (listenings places.now) most (LinksPlace.serves (L.place links.new)) self.new.lobby.next
             (map phase_of self.new.sessions.items)) }
         ensures does { OnOk result ((past : List TurnOf)
-            → Keeps (listenings places.now) most self.old.next past (map phase_of self.old.sessions.items)
-            → RoundDoes (listenings places.now) most self.old.next self.new.next past (L.told links.old) (L.told links.new)
+            → Keeps (listenings places.now) most self.old.lobby.next past (map phase_of self.old.sessions.items)
+            → RoundDoes (listenings places.now) most self.old.lobby self.new.lobby past (L.told links.old) (L.told links.new)
             (DeskValue.lines (D.value desk.old)) (DeskValue.lines (D.value desk.new))
             (map phase_of self.old.sessions.items) (map phase_of self.new.sessions.items)) }
         ensures breaks { result ≡ Err ServeFault.Write → (past : List TurnOf)
-            → Keeps (listenings places.now) most self.old.next past (map phase_of self.old.sessions.items)
-            → MissesRound (listenings places.now) most self.old.next past (L.told links.old) (L.told links.new)
+            → Keeps (listenings places.now) most self.old.lobby.next past (map phase_of self.old.sessions.items)
+            → MissesRound (listenings places.now) most self.old.lobby past (L.told links.old) (L.told links.new)
             (DeskValue.lines (D.value desk.old)) (DeskValue.lines (D.value desk.new)) (DeskValue.line_part (D.value desk.new))
             (map phase_of self.old.sessions.items) (map phase_of self.new.sessions.items) }
-        ensures leave { OnErr result (MayLeave (LinksPlace.serves (L.place links.new)) self.new.next
+        ensures leave { OnErr result (MayLeave (LinksPlace.serves (L.place links.new)) self.new.lobby.next
             (map phase_of self.new.sessions.items)) }
         ensures room { vec_capacity self.old.sessions ≤ vec_capacity self.new.sessions }
         ensures whole { OnOk result (DeskValue.whole (D.value desk.new) ≡ true) }
@@ -413,24 +429,24 @@ impl Table {
     ) -> Result<(), ServeFault>
         requires few { length places.now ≤ 256 }
         requires room { 256 ≤ vec_capacity self.old.sessions }
-        requires table { IsTable (listenings places.now) most (LinksPlace.serves (L.place links.old)) self.old.next
+        requires table { IsTable (listenings places.now) most (LinksPlace.serves (L.place links.old)) self.old.lobby.next
             (map phase_of self.old.sessions.items) }
         requires within { AllByRecursion (λ place. IsAssetWithin (PlaceOf.asset place).now) places.now }
         requires most { 0 < most }
         requires whole { DeskValue.whole (D.value desk.old) ≡ true }
-        ensures table { IfWhole result (IsTable (listenings places.now) most (LinksPlace.serves (L.place links.new)) self.new.next
+        ensures table { IfWhole result (IsTable (listenings places.now) most (LinksPlace.serves (L.place links.new)) self.new.lobby.next
             (map phase_of self.new.sessions.items)) }
         ensures does { IfWhole result ((made : ℕ) × (HasMade result made × ((past : List TurnOf)
-            → Keeps (listenings places.now) most self.old.next past (map phase_of self.old.sessions.items)
-            → RoundsDo (listenings places.now) most self.old.next self.new.next made past (L.told links.old) (L.told links.new)
+            → Keeps (listenings places.now) most self.old.lobby.next past (map phase_of self.old.sessions.items)
+            → RoundsDo (listenings places.now) most self.old.lobby self.new.lobby made past (L.told links.old) (L.told links.new)
             (DeskValue.lines (D.value desk.old)) (DeskValue.lines (D.value desk.new))
             (map phase_of self.old.sessions.items) (map phase_of self.new.sessions.items)))) }
         ensures breaks { result ≡ Err ServeFault.Write → (made : ℕ) × ((made < 2 ^ 64 - 1) × ((past : List TurnOf)
-            → Keeps (listenings places.now) most self.old.next past (map phase_of self.old.sessions.items)
-            → MissesRounds (listenings places.now) most self.old.next made past (L.told links.old) (L.told links.new)
+            → Keeps (listenings places.now) most self.old.lobby.next past (map phase_of self.old.sessions.items)
+            → MissesRounds (listenings places.now) most self.old.lobby made past (L.told links.old) (L.told links.new)
             (DeskValue.lines (D.value desk.old)) (DeskValue.lines (D.value desk.new)) (DeskValue.line_part (D.value desk.new))
             (map phase_of self.old.sessions.items) (map phase_of self.new.sessions.items))) }
-        ensures leave { MayLeave (LinksPlace.serves (L.place links.new)) self.new.next (map phase_of self.new.sessions.items) }
+        ensures leave { MayLeave (LinksPlace.serves (L.place links.new)) self.new.lobby.next (map phase_of self.new.sessions.items) }
         ensures log { WritesLog (D.value desk.old) (D.value desk.new) }
         ensures write { HasCause (DeskValue.faults (D.value desk.old)) (DeskValue.faults (D.value desk.new))
             (result ≡ Err ServeFault.Write) }

@@ -4,10 +4,12 @@ ghost use Rattle.std.specs.Prelude.{◌≡◌, false, ℕ};
 ghost use Rattle.cf_links.specs.MemoryLinks.{serves_in};
 ghost use Rattle.cf_policy.specs.Within.{IsAssetWithin, IsWithin};
 
+mod door;
 mod full;
 mod logs;
 mod runs;
 mod sessions;
+mod set_back;
 
 use cf_links::{LinksTold, MemoryClient, MemoryLinks};
 use cf_outside::{Fail as Scripted, MemoryFiles, MemoryPair, Told};
@@ -181,6 +183,7 @@ fn client_of(rt: &impl Abort, alloc: Global, row: &str) -> MemoryClient {
     };
     let mut client = MemoryClient::new(place, pair_of(rt, alloc, row));
     client.waits = number(row, "waits:");
+    client.gone = number(row, "gone:") == 1;
     client.wakes = number(row, "wakes:");
     client.rests = number(row, "rests:");
     client
@@ -258,6 +261,14 @@ fn serve_three(
         links,
         files,
     }
+}
+
+/// The answer of a run, all that the links told, and the log.
+fn text_of(rt: &impl Abort, alloc: Global, run: &Run) -> String {
+    let answer = &run.answer;
+    let told = run.told(rt, alloc);
+    let log = run.log();
+    format!(in alloc; "{answer:?}\n{told}log\n{log}").expect(rt, "memory")
 }
 
 impl Run {

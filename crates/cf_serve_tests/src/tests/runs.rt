@@ -3,7 +3,7 @@
 ghost use Rattle.cf_policy.specs.Within.{IsWithin};
 
 use crate::tests::{
-    Run, client_of, fail_at, field, files_of, links_of, name_of, policy, put, same, serve_three,
+    client_of, fail_at, field, files_of, links_of, name_of, policy, put, same, serve_three, text_of,
 };
 use cf_links::MemoryClient;
 use cf_outside::Fail as Scripted;
@@ -332,14 +332,6 @@ impl Wanted {
     }
 }
 
-/// The same of a run.
-fn text_of(rt: &impl Abort, alloc: Global, run: &Run) -> String {
-    let answer = &run.answer;
-    let told = run.told(rt, alloc);
-    let log = run.log();
-    format!(in alloc; "{answer:?}\n{told}log\n{log}").expect(rt, "memory")
-}
-
 /// Whether so many lines of the script have one of a session.
 fn has(at: usize, number: &str, word: &str) -> bool {
     let mut lines = SCRIPT.lines().take(at);
@@ -491,19 +483,41 @@ fn a_wait_or_a_place_fails(rt: HostRuntime) {
     );
 }
 
-#[test]
-fn nothing_is_done_behind_a_line_that_failed(rt: HostRuntime) {
-    let alloc = rt.alloc();
-    let policy = policy(&rt, alloc);
+/// Of the lines of the log, each whose number leaves this rest by four fails in turn. Four tests go through all lines, since each test
+/// has a time of its own.
+fn each_fourth_fails(rt: &impl Abort, alloc: Global, rest: u64) {
+    let policy = policy(rt, alloc);
     let mut call = 1_u64;
     let mut at = 0_usize;
     for line in SCRIPT.lines() {
         if let Some(text) = line.strip_prefix("log ") {
             call = call.saturating_add(1);
-            fails_at(&rt, alloc, &policy, at, call, text);
+            if call % 4 == rest {
+                fails_at(rt, alloc, &policy, at, call, text);
+            }
         }
         at = at.saturating_add(1);
     }
+}
+
+#[test]
+fn nothing_is_done_behind_a_line_that_failed(rt: HostRuntime) {
+    each_fourth_fails(&rt, rt.alloc(), 0);
+}
+
+#[test]
+fn nothing_is_done_behind_a_second_line_that_failed(rt: HostRuntime) {
+    each_fourth_fails(&rt, rt.alloc(), 1);
+}
+
+#[test]
+fn nothing_is_done_behind_a_third_line_that_failed(rt: HostRuntime) {
+    each_fourth_fails(&rt, rt.alloc(), 2);
+}
+
+#[test]
+fn nothing_is_done_behind_a_fourth_line_that_failed(rt: HostRuntime) {
+    each_fourth_fails(&rt, rt.alloc(), 3);
 }
 
 /// The append of a line fails, and leaves each number of its bytes.

@@ -367,6 +367,18 @@ to controller
 log
 7.000000 10.0.0.6:49152 rtu unreached
 
+a client that has gone before its controller is reached
+asset: pump
+host: 6
+client: 000100000006010600280064
+waits: 3
+gone: 1
+gives
+to client
+to controller
+log
+7.000000 10.0.0.6:49152 pump gone
+
 a controller that never answers
 asset: pump
 host: 6

@@ -23,7 +23,7 @@ returns-clause-serves g c =
     let most = 2 * c.args.seconds in
     let same = ap (λ n. 2 * n) c.from-most.ensures in
     let ps = map phase_of c.rounds-ended.new.self.sessions.items in
-    let next = c.rounds-ended.new.self.next in
+    let lobby = c.rounds-ended.new.self.lobby in
     let serves = LinksPlace.serves (g.L.Links.place c.rounds-ended.new.links) in
     let told1 = g.L.Links.told c.open_places.new.links in
     let told2 = g.L.Links.told c.rounds-ended.new.links in
@@ -31,10 +31,10 @@ returns-clause-serves g c =
     let log2 = (g.D.Desk.value c.rounds-ended.new.desk).lines in
     whole_two c.rounds-ended.result c.rounds-ended.ensures.does c.rounds-ended.ensures.table
     (λ d t. serves_all c.args.places.now most (g.L.Links.told c.args.links.now) told1 (g.D.Desk.value c.args.desk.now).lines log1
-    (HasMade c.rounds-ended.result) next d.0 told2 (g.L.Links.told c.leave_all.new.links) log2 serves ps d.1.0 c.in-Ok-open_places.ensures.all
-    (from_start places most (λ m n past q. RoundsDo places m n next d.0 past told1 told2 log1 log2 q ps) (2 * c.from-most.result) c.in-Ok.table.next
-    (map phase_of c.in-Ok.table.sessions.items) same c.in-Ok.ensures.next (ap (map phase_of) c.in-Ok.ensures.none) d.1.1)
-    (subst (λ m. IsTable places m serves next ps) same t) c.leave_all.ensures.told)
+    (HasMade c.rounds-ended.result) lobby d.0 told2 (g.L.Links.told c.leave_all.new.links) log2 serves ps d.1.0 c.in-Ok-open_places.ensures.all
+    (from_start places most (λ m n past q. RoundsDo places m n lobby d.0 past told1 told2 log1 log2 q ps) (2 * c.from-most.result) c.in-Ok.table.lobby
+    (map phase_of c.in-Ok.table.sessions.items) same c.in-Ok.ensures.lobby (ap (map phase_of) c.in-Ok.ensures.none) d.1.1)
+    (subst (λ m. IsTable places m serves lobby.next ps) same t) c.leave_all.ensures.told)
 
 pub returns-clause-breaks : goal.returns-clause-breaks
 returns-clause-breaks g c = λ is.
@@ -50,6 +50,6 @@ returns-clause-breaks g c = λ is.
     let d = c.rounds-ended.ensures.breaks is in
     breaks_all c.args.places.now most d.0 (g.L.Links.told c.args.links.now) told1 told2 (g.L.Links.told c.leave_all.new.links)
     (g.D.Desk.value c.args.desk.now).lines log1 log2 part ps d.1.0 c.in-Ok-open_places.ensures.all
-    (from_start places most (λ m n past q. MissesRounds places m n d.0 past told1 told2 log1 log2 part q ps) (2 * c.from-most.result) c.in-Ok.table.next
-    (map phase_of c.in-Ok.table.sessions.items) same c.in-Ok.ensures.next (ap (map phase_of) c.in-Ok.ensures.none) d.1.1)
+    (from_start places most (λ m n past q. MissesRounds places m n d.0 past told1 told2 log1 log2 part q ps) (2 * c.from-most.result) c.in-Ok.table.lobby
+    (map phase_of c.in-Ok.table.sessions.items) same c.in-Ok.ensures.lobby (ap (map phase_of) c.in-Ok.ensures.none) d.1.1)
     c.leave_all.ensures.told

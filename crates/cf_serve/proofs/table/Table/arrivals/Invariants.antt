@@ -9,10 +9,10 @@ use Rattle.cf_serve.proofs.table.Table.arrivals.Given as goal
 abbrev pub invariant-loop-place : goal.invariant-loop-place
 invariant-loop-place g l =
     record {
-      free : (session : ℕ) → l.self.next ≤ session → LinksPlace.serves (g.L.Links.place l.links) session ≡ false;
-      table : (most : ℕ) → IsTable (listenings l.fn.places) most (LinksPlace.serves (g.L.Links.place l.fn.links)) l.fn.self.next (map phase_of l.fn.self.sessions.items) →
-          IsTable (listenings l.fn.places) most (LinksPlace.serves (g.L.Links.place l.links)) l.self.next (map phase_of l.self.sessions.items);
-      does : (most : ℕ) → Arrive (listenings l.fn.places) most l.fn.moment 0 l.place l.fn.self.next l.self.next (g.L.Links.told l.fn.links) (g.L.Links.told l.links)
+      free : (session : ℕ) → l.self.lobby.next ≤ session → LinksPlace.serves (g.L.Links.place l.links) session ≡ false;
+      table : (most : ℕ) → IsTable (listenings l.fn.places) most (LinksPlace.serves (g.L.Links.place l.fn.links)) l.fn.self.lobby.next (map phase_of l.fn.self.sessions.items) →
+          IsTable (listenings l.fn.places) most (LinksPlace.serves (g.L.Links.place l.links)) l.self.lobby.next (map phase_of l.self.sessions.items);
+      does : (most : ℕ) → Arrive (listenings l.fn.places) most l.fn.moment 0 l.place l.fn.self.lobby l.self.lobby (g.L.Links.told l.fn.links) (g.L.Links.told l.links)
           (g.D.Desk.value l.fn.desk).lines (g.D.Desk.value l.desk).lines (map phase_of l.fn.self.sessions.items) (map phase_of l.self.sessions.items);
       round : LinksPlace.round_faults (g.L.Links.place l.links) ≡ LinksPlace.round_faults (g.L.Links.place l.fn.links);
       room : vec_capacity l.fn.self.sessions ≤ vec_capacity l.self.sessions;

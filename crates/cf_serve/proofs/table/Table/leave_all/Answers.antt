@@ -19,8 +19,8 @@ loop-served-preserved g c =
     let rest = drop_more xs i x h ∙ ap (λ y. y ∷ drop (i + 1) xs) (sym e) in
     let front = take_more xs i x h ∙ ap (λ y. take i xs ++ y ∷ []) (sym e) in
     record {
-      leave = leave_one c.args.self.now.next (g.L.Links.place c.loop-served.links) (g.L.Links.place c.leave.new.self) (phase_of x) (map phase_of (drop (i + 1) xs))
-          (subst (λ ys. MayLeave (LinksPlace.serves (g.L.Links.place c.loop-served.links)) c.args.self.now.next (map phase_of ys)) rest c.loop-served.invariant.leave)
+      leave = leave_one c.args.self.now.lobby.next (g.L.Links.place c.loop-served.links) (g.L.Links.place c.leave.new.self) (phase_of x) (map phase_of (drop (i + 1) xs))
+          (subst (λ ys. MayLeave (LinksPlace.serves (g.L.Links.place c.loop-served.links)) c.args.self.now.lobby.next (map phase_of ys)) rest c.loop-served.invariant.leave)
           c.leave.ensures.place;
       round = c.leave.ensures.place.round ∙ c.loop-served.invariant.round;
       told = left_more (g.L.Links.told c.args.links.now) (g.L.Links.told c.loop-served.links) (g.L.Links.told c.leave.new.self) (take i xs) x c.loop-served.invariant.told c.leave.ensures.entry

@@ -10,9 +10,9 @@ use Rattle.cf_serve.proofs.table.Table.rounds.Given as goal
 abbrev pub invariant-loop-made : goal.invariant-loop-made
 invariant-loop-made g l =
     record {
-      table : IsTable (listenings l.fn.places) l.fn.most (LinksPlace.serves (g.L.Links.place l.links)) l.self.next (map phase_of l.self.sessions.items);
-      does : (past : List TurnOf) → Keeps (listenings l.fn.places) l.fn.most l.fn.self.next past (map phase_of l.fn.self.sessions.items) →
-          RoundsDo (listenings l.fn.places) l.fn.most l.fn.self.next l.self.next l._made past (g.L.Links.told l.fn.links) (g.L.Links.told l.links)
+      table : IsTable (listenings l.fn.places) l.fn.most (LinksPlace.serves (g.L.Links.place l.links)) l.self.lobby.next (map phase_of l.self.sessions.items);
+      does : (past : List TurnOf) → Keeps (listenings l.fn.places) l.fn.most l.fn.self.lobby.next past (map phase_of l.fn.self.sessions.items) →
+          RoundsDo (listenings l.fn.places) l.fn.most l.fn.self.lobby l.self.lobby l._made past (g.L.Links.told l.fn.links) (g.L.Links.told l.links)
           (g.D.Desk.value l.fn.desk).lines (g.D.Desk.value l.desk).lines (map phase_of l.fn.self.sessions.items) (map phase_of l.self.sessions.items);
       round : LinksPlace.round_faults (g.L.Links.place l.links) ≡ LinksPlace.round_faults (g.L.Links.place l.fn.links);
       room : vec_capacity l.fn.self.sessions ≤ vec_capacity l.self.sessions;

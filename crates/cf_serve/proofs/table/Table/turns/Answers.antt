@@ -4,6 +4,7 @@ use Rattle.cf_serve.proofs.Breaking.{turns_missed}
 use Rattle.cf_serve.proofs.Logging.{writes_both, writes_none}
 use Rattle.cf_serve.proofs.Rounding.{no_step, turns_begin, turns_step, within_off, within_on}
 use Rattle.cf_serve.proofs.Stepping.{on_err}
+use Rattle.cf_serve.specs.declared.door.Lobby.{Lobby}
 use Rattle.cf_serve.proofs.table.Table.turns.Goals as goal
 
 pub loop-index-init : goal.loop-index-init
@@ -11,7 +12,7 @@ loop-index-init g c =
     record {
       table = c.requires.table;
       does = λ past keeps. turns_begin _ _ _ past _ _ _ keeps;
-      next = refl;
+      lobby = refl;
       round = refl;
       room = refl;
       within = omega arith;
@@ -25,11 +26,11 @@ pub loop-index-preserved-then-branch : goal.loop-index-preserved-then-branch
 loop-index-preserved-then-branch g c =
     let i = c.loop-index.invariant in
     record {
-      table = rw (c.turn_at.ensures.next ∙ i.next) at c.in_ok-turn_at.ensures.table;
+      table = rw (ap (λ (f : Lobby). f.next) (c.turn_at.ensures.lobby ∙ i.lobby)) at c.in_ok-turn_at.ensures.table;
       does = λ past keeps.
-          turns_step _ _ _ past _ _ _ _ _ _ _ (i.does past keeps) c.loop-index.self.next _ _ _ c.in_ok-turn_at.field-0 _ i.next
+          turns_step _ _ _ past _ _ _ _ _ _ _ (i.does past keeps) c.loop-index.self.lobby.next _ _ _ c.in_ok-turn_at.field-0 _ (ap (λ (f : Lobby). f.next) i.lobby)
           c.in_ok-turn_at.ensures.does (ap (λ (b : Bool). c.loop-index.index + (if b then 1 else 0)) (sym c.if-branch.true));
-      next = c.turn_at.ensures.next ∙ i.next;
+      lobby = c.turn_at.ensures.lobby ∙ i.lobby;
       round = c.turn_at.ensures.round ∙ i.round;
       room = c.turn_at.ensures.room ∙ i.room;
       within = within_on _ _ _ c.in_ok-turn_at.field-0 c.if-branch.true c.in_ok-turn_at.ensures.len (omega (arith, c.loop-index-test.true, c.len.ensures));
@@ -43,11 +44,11 @@ pub loop-index-preserved : goal.loop-index-preserved
 loop-index-preserved g c =
     let i = c.loop-index.invariant in
     record {
-      table = rw (c.turn_at.ensures.next ∙ i.next) at c.in_ok-turn_at.ensures.table;
+      table = rw (ap (λ (f : Lobby). f.next) (c.turn_at.ensures.lobby ∙ i.lobby)) at c.in_ok-turn_at.ensures.table;
       does = λ past keeps.
-          turns_step _ _ _ past _ _ _ _ _ _ _ (i.does past keeps) c.loop-index.self.next _ _ _ c.in_ok-turn_at.field-0 _ i.next
+          turns_step _ _ _ past _ _ _ _ _ _ _ (i.does past keeps) c.loop-index.self.lobby.next _ _ _ c.in_ok-turn_at.field-0 _ (ap (λ (f : Lobby). f.next) i.lobby)
           c.in_ok-turn_at.ensures.does (no_step c.loop-index.index ∙ ap (λ (b : Bool). c.loop-index.index + (if b then 1 else 0)) (sym c.if-branch.false));
-      next = c.turn_at.ensures.next ∙ i.next;
+      lobby = c.turn_at.ensures.lobby ∙ i.lobby;
       round = c.turn_at.ensures.round ∙ i.round;
       room = c.turn_at.ensures.room ∙ i.room;
       within = within_off _ _ _ c.in_ok-turn_at.field-0 c.if-branch.false c.in_ok-turn_at.ensures.len (omega (arith, c.loop-index-test.true, c.len.ensures));
@@ -63,4 +64,4 @@ returns-in_err-turn_at-clause-breaks g c =
     on_err c.from_residual.result _ (λ past keeps.
     let b = i.does past keeps in
     turns_missed _ _ _ past _ _ _ _ _ _ _ b _ _ _ _
-    (c.in_err-turn_at.ensures.breaks (past ++ b.turns) (rw i.next b.keeps)))
+    (c.in_err-turn_at.ensures.breaks (past ++ b.turns) (rw (ap (λ (f : Lobby). f.next) i.lobby) b.keeps)))
