@@ -6,9 +6,11 @@ mod link;
 mod links;
 mod peer;
 mod sink;
+mod standard;
 mod streams;
 
 pub use files::{Fault, Gather, RealFiles, Twins, Withheld};
 pub use link::{LinkFault, LinkPair, Part};
-pub use links::RealLinks;
+pub use links::{Announcement, RealLinks};
 pub use sink::RealSink;
+pub use standard::{fill_descriptors, takes_lines};

@@ -2,6 +2,7 @@
 ghost use Rattle.std.specs.Prelude.{◌≡◌, ◌≤◌, IfOk, IfSome, None, length};
 ghost use Rattle.cf_outside.specs.Faults.{Rose};
 
+use crate::standard::ErrorLines;
 use crate::streams::Streams;
 use cf_outside::{GiveAnswer, MeetAnswer, MomentAnswer, Pair, TakeAnswer, WriteAnswer};
 use cf_view::{Endpoint, Side};
@@ -31,7 +32,7 @@ pub struct LinkFault {
 /// A client that comes to a port of this machine's own address 127.0.0.1, and a controller to which a connection is made.
 /// It tells nothing, and counts failures and answers `Idle`.
 #[derive(Drop)]
-pub struct LinkPair<'a, R: Net + Clock + Eprint + AllocGlobal> {
+pub struct LinkPair<'a, R: Net + Clock + AllocGlobal> {
     rt: &'a R,
     listener: Option<R::Listener>,
     streams: Option<Streams<R::Stream>>,
@@ -40,7 +41,7 @@ pub struct LinkPair<'a, R: Net + Clock + Eprint + AllocGlobal> {
     idles: u64,
 }
 
-impl<'a, R: Net + Clock + Eprint + AllocGlobal> LinkPair<'a, R> {
+impl<'a, R: Net + Clock + AllocGlobal> LinkPair<'a, R> {
     /// A pair that is not connected. Both counts are 0.
     pub fn new(rt: &'a R) -> Self
         ensures { (result.faults ≡ 0) × (result.idles ≡ 0) }
@@ -103,10 +104,8 @@ impl<'a, R: Net + Clock + Eprint + AllocGlobal> LinkPair<'a, R> {
             None => TcpListener::bind(self.rt, address(Ipv4Addr::LOCALHOST, port))?,
         };
         let here = listener.local_addr()?;
-        // A line that cannot be said changes nothing.
-        let _ = eprintln!(self.rt;
-            "cmdwall: listens on {here} for one client, and connects to {peer}"
-        );
+        let mut errors = ErrorLines::new();
+        errors.say(format_args!("listens on {here} for one client, and connects to {peer}"));
         let (stream, from) = listener.accept()?;
         Ok((stream, endpoint_of(from)))
     }
@@ -197,7 +196,7 @@ fn endpoint_of(address: SocketAddr) -> Endpoint {
     }
 }
 
-impl<R: Net + Clock + Eprint + AllocGlobal> Pair for LinkPair<'_, R> {
+impl<R: Net + Clock + AllocGlobal> Pair for LinkPair<'_, R> {
     ghost told = { λ _. None };
 
     ghost faults = { λ p. p.faults };

@@ -2,48 +2,71 @@
 ghost use Rattle.std.specs.Prelude.{◌≡◌, ◌≤◌, false, IfOk, None, ℕ};
 ghost use Rattle.std.specs.BTreeSet.{contains};
 ghost use Rattle.std.specs.Ordering.{nat_cmp};
-ghost use Rattle.cf_outside.specs.Faults.{Rose};
+ghost use Rattle.cf_links.specs.Links.{Gives, Takes};
+ghost use Rattle.cf_machine.specs.Moved.{GotAsMoved, TookAsMoved};
+ghost use Rattle.cf_outside.specs.Faults.{HasCause, Rose};
+ghost use Rattle.cf_outside.specs.Pair.{FaultsBy};
 
 mod place;
 mod session;
+mod sides;
 mod sockets;
+mod watch;
 
+use crate::links::session::Reached;
+use crate::links::sides::Moved;
 use crate::links::sockets::Sockets;
+use crate::standard::ErrorLines;
 use cf_links::{ArriveAnswer, Links, ReachAnswer, Service};
 use cf_outside::{GiveAnswer, MomentAnswer, TakeAnswer, WriteAnswer};
 use cf_view::{Endpoint, Side};
 use std::alloc::Global;
 use std::collections::BTreeSet;
+use std::fmt::Display;
 use std::io;
 use std::net::{IpAddr, Ipv4Addr, Net, SocketAddr};
 use std::time::Clock;
 
+/// What standard error says of a service as it begins.
+#[derive(Drop)]
+pub struct Announcement {
+    /// What each place is for, in their order.
+    pub places: Vec<String>,
+    /// Lines that are said once it listens at all of them.
+    pub rest: Vec<String>,
+}
+
 /// The connections of a service. It tells nothing, and counts failures and answers `Idle`. The address of a place, and what the system
 /// says of a connection that failed, go to standard error.
 #[derive(Drop)]
-pub struct RealLinks<'a, R: Net + Clock + Eprint> {
-    rt: &'a R,
+pub struct RealLinks<'a, R: Net + Clock> {
+    errors: ErrorLines,
+    announced: Announcement,
     sockets: Sockets<'a, R>,
     /// The numbers of the sessions.
     numbers: BTreeSet<u64>,
     faults: u64,
     idles: u64,
     round_faults: u64,
+    /// What the system moved last.
+    moved: Option<Moved>,
 }
 
-impl<'a, R: Net + Clock + Eprint> RealLinks<'a, R> {
+impl<'a, R: Net + Clock> RealLinks<'a, R> {
     /// Of no place and no session. All counts are 0.
-    pub fn new(rt: &'a R, alloc: Global) -> io::Result<Self>
+    pub fn new(rt: &'a R, alloc: Global, announced: Announcement) -> io::Result<Self>
         ensures counts { IfOk result (λ links. (links.faults ≡ 0) × (links.idles ≡ 0) × (links.round_faults ≡ 0)) }
         ensures free { IfOk result (λ links. (session : ℕ) → contains nat_cmp links.numbers session ≡ false) }
     {
         Ok(RealLinks {
-            rt,
+            errors: ErrorLines::new(),
+            announced,
             sockets: Sockets::new(rt, alloc)?,
             numbers: BTreeSet::new(alloc),
             faults: 0,
             idles: 0,
             round_faults: 0,
+            moved: None,
         })
     }
 
@@ -58,13 +81,12 @@ impl<'a, R: Net + Clock + Eprint> RealLinks<'a, R> {
         self.faults = self.faults.saturating_add(1);
         if let Some(client) = self.sockets.client_of(session) {
             let client = address_of(client);
-            // A line that cannot be said changes nothing.
-            let _ = eprintln!(self.rt; "cmdwall: {client}: {whose}: {error}");
+            self.errors.say(format_args!("{client}: {whose}: {error}"));
         }
     }
 
     /// Counts a failure of the service, and says what the system said.
-    fn fail_round(&mut self, error: &io::Error)
+    fn fail_round<D: Display + Drop>(&mut self, line: D)
         ensures later { self.old.round_faults ≤ self.new.round_faults }
         ensures rose { Rose self.old.round_faults self.new.round_faults }
         ensures faults { self.new.faults ≡ self.old.faults }
@@ -72,7 +94,7 @@ impl<'a, R: Net + Clock + Eprint> RealLinks<'a, R> {
         ensures numbers { self.new.numbers ≡ self.old.numbers }
     {
         self.round_faults = self.round_faults.saturating_add(1);
-        let _ = eprintln!(self.rt; "cmdwall: {error}");
+        self.errors.say(line);
     }
 
     fn count_idle(&mut self)
@@ -84,6 +106,22 @@ impl<'a, R: Net + Clock + Eprint> RealLinks<'a, R> {
     {
         self.idles = self.idles.saturating_add(1);
     }
+}
+
+/// Says where a place is, and what it is for.
+fn say_place(errors: &mut ErrorLines, announced: &Announcement, place: u32, here: SocketAddr) {
+    match announced.places.get(place as usize) {
+        Some(what) => errors.say(format_args!("listens on {here} for {what}")),
+        None => errors.say(format_args!("listens on {here}")),
+    }
+}
+
+/// Says what is said once, behind the places.
+fn say_rest(errors: &mut ErrorLines, announced: &mut Announcement) {
+    for line in announced.rest.iter() {
+        errors.say(line.as_str());
+    }
+    announced.rest.clear();
 }
 
 fn side_word(side: Side) -> &'static str {
@@ -98,7 +136,7 @@ fn address_of(endpoint: Endpoint) -> SocketAddr {
     SocketAddr::new(address, endpoint.port)
 }
 
-impl<R: Net + Clock + Eprint> Links for RealLinks<'_, R> {
+impl<R: Net + Clock> Links for RealLinks<'_, R> {
     ghost told = { λ _. None };
 
     ghost faults = { λ links. links.faults };
@@ -113,8 +151,9 @@ impl<R: Net + Clock + Eprint> Links for RealLinks<'_, R> {
 
     fn meet(&mut self, session: u64, _listen: u16, peer: Endpoint) -> ReachAnswer {
         match self.sockets.reach(session, address_of(peer)) {
-            Ok(Some(client)) => ReachAnswer::Met(client),
-            Ok(None) => ReachAnswer::Waiting,
+            Ok(Reached::Met(client)) => ReachAnswer::Met(client),
+            Ok(Reached::Waiting) => ReachAnswer::Waiting,
+            Ok(Reached::Gone) => ReachAnswer::Gone,
             Err(error) => {
                 self.fail(session, "the controller", &error);
                 ReachAnswer::Failed
@@ -122,14 +161,30 @@ impl<R: Net + Clock + Eprint> Links for RealLinks<'_, R> {
         }
     }
 
-    fn moment(&mut self, _session: u64) -> MomentAnswer {
-        MomentAnswer::Told(self.sockets.moment())
+    fn moment(&mut self, session: u64) -> MomentAnswer {
+        match self.sockets.failure(session) {
+            Some((side, error)) => {
+                self.fail(session, side_word(side), &error);
+                MomentAnswer::Failed
+            }
+            None => MomentAnswer::Told(self.sockets.moment()),
+        }
     }
 
-    fn take(&mut self, session: u64, side: Side, buf: &mut [u8]) -> TakeAnswer {
+    fn take(&mut self, session: u64, side: Side, buf: &mut [u8]) -> TakeAnswer
+        ensures place { ⟦<Self as Links>⟧.place self.new ≡ ⟦<Self as Links>⟧.place self.old }
+        ensures entry { Takes side buf.new (record { session = session; list = ⟦<Self as Links>⟧.told self.old })
+            (record { session = session; list = ⟦<Self as Links>⟧.told self.new }) result }
+        ensures cause { FaultsBy (⟦<Self as Links>⟧.faults self.old) (⟦<Self as Links>⟧.faults self.new) (result ≡ TakeAnswer.Failed) }
+        ensures idle { HasCause (⟦<Self as Links>⟧.idles self.old) (⟦<Self as Links>⟧.idles self.new) (result ≡ TakeAnswer.Idle) }
+        ensures moved { GotAsMoved session side self.new.moved result }
+    {
         match self.sockets.read(session, side, buf) {
-            Ok(Some(0)) => TakeAnswer::End,
-            Ok(Some(count)) => TakeAnswer::Got(count),
+            Ok(Some(moved)) if moved.count > 0 => {
+                self.moved = Some(moved);
+                TakeAnswer::Got(moved.count)
+            }
+            Ok(Some(_)) => TakeAnswer::End,
             Ok(None) => {
                 self.count_idle();
                 TakeAnswer::Idle
@@ -141,9 +196,19 @@ impl<R: Net + Clock + Eprint> Links for RealLinks<'_, R> {
         }
     }
 
-    fn give(&mut self, session: u64, side: Side, bytes: &[u8]) -> GiveAnswer {
+    fn give(&mut self, session: u64, side: Side, bytes: &[u8]) -> GiveAnswer
+        ensures place { ⟦<Self as Links>⟧.place self.new ≡ ⟦<Self as Links>⟧.place self.old }
+        ensures entry { Gives side bytes.now (record { session = session; list = ⟦<Self as Links>⟧.told self.old })
+            (record { session = session; list = ⟦<Self as Links>⟧.told self.new }) result }
+        ensures cause { FaultsBy (⟦<Self as Links>⟧.faults self.old) (⟦<Self as Links>⟧.faults self.new) (result ≡ GiveAnswer.Failed) }
+        ensures idle { HasCause (⟦<Self as Links>⟧.idles self.old) (⟦<Self as Links>⟧.idles self.new) (result ≡ GiveAnswer.Idle) }
+        ensures moved { TookAsMoved session side self.new.moved result }
+    {
         match self.sockets.write(session, side, bytes) {
-            Ok(Some(count)) if count > 0 => GiveAnswer::Took(count),
+            Ok(Some(moved)) if moved.count > 0 => {
+                self.moved = Some(moved);
+                GiveAnswer::Took(moved.count)
+            }
             Ok(_) => {
                 self.count_idle();
                 GiveAnswer::Idle
@@ -166,22 +231,27 @@ impl<R: Net + Clock + Eprint> Links for RealLinks<'_, R> {
     }
 }
 
-impl<R: Net + Clock + Eprint> Service for RealLinks<'_, R> {
-    fn listen(&mut self, _place: u32, at: Endpoint) -> MomentAnswer {
-        match self.sockets.open(address_of(at)) {
-            Ok(moment) => MomentAnswer::Told(moment),
+impl<R: Net + Clock> Service for RealLinks<'_, R> {
+    fn listen(&mut self, place: u32, at: Endpoint) -> MomentAnswer {
+        let at = address_of(at);
+        match self.sockets.open(at) {
+            Ok((here, moment)) => {
+                say_place(&mut self.errors, &self.announced, place, here);
+                MomentAnswer::Told(moment)
+            }
             Err(error) => {
-                self.fail_round(&error);
+                self.fail_round(format_args!("{at}: {error}"));
                 MomentAnswer::Failed
             }
         }
     }
 
     fn wait(&mut self) -> MomentAnswer {
+        say_rest(&mut self.errors, &mut self.announced);
         match self.sockets.wait_for_news() {
             Ok(moment) => MomentAnswer::Told(moment),
             Err(error) => {
-                self.fail_round(&error);
+                self.fail_round(error);
                 MomentAnswer::Failed
             }
         }

@@ -23,6 +23,10 @@ pub struct Peer<S: Read + Write + OpenStream + AsRawFd + Drop> {
     may_read: bool,
     /// What comes has ended or failed, be it after bytes that were not read.
     is_ending: bool,
+    /// The connection has failed.
+    has_failed: bool,
+    /// It has failed, and nothing was asked of it in a turn that moved nothing: no other call tells.
+    is_lost: bool,
     /// It was asked for bytes in this turn.
     is_asked: bool,
     /// What comes is waited for.
@@ -45,6 +49,8 @@ impl<S: Read + Write + OpenStream + AsRawFd + Drop> Peer<S> {
             stream,
             may_read: false,
             is_ending: false,
+            has_failed: false,
+            is_lost: false,
             is_asked: false,
             is_watched: false,
             is_full: false,
@@ -54,14 +60,15 @@ impl<S: Read + Write + OpenStream + AsRawFd + Drop> Peer<S> {
 
     /// Begins a turn. Where the turn before moved nothing, one that was not asked in it will not be in this one.
     pub fn begin_turn(&mut self, moved: bool) {
+        self.is_lost = self.has_failed && !moved && !self.is_asked;
         self.is_watched = moved || self.is_asked;
         self.is_asked = false;
         self.takes_again = false;
     }
 
-    /// Whether a turn can move something that begins behind one that moved something or nothing.
+    /// Whether a turn can move something, or tell of a failure, that begins behind one that moved something or nothing.
     pub fn has_news_behind(&self, moved: bool) -> bool {
-        ((moved || self.is_asked) && self.may_read) || self.takes_again
+        ((moved || self.is_asked) && self.may_read) || self.takes_again || self.has_failed
     }
 
     /// Whether the turn can move something.
@@ -71,11 +78,28 @@ impl<S: Read + Write + OpenStream + AsRawFd + Drop> Peer<S> {
 
     /// Notes what the system says of it.
     pub fn note(&mut self, event: &Event) {
+        self.has_failed = self.has_failed || event.is_error();
         self.is_ending = self.is_ending || event.is_read_closed() || event.is_error();
         self.may_read = self.may_read || event.is_readable() || self.is_ending;
         if self.is_full && event.is_writable() {
             self.is_full = false;
             self.takes_again = true;
+        }
+    }
+
+    /// Whether the system has said that what comes from it has ended or failed.
+    pub fn is_gone(&self) -> bool {
+        self.is_ending
+    }
+
+    /// What the system says of a connection that has failed, where no other call of the turn tells of it.
+    pub fn failure(&self) -> Option<io::Error> {
+        if !self.is_lost {
+            return None;
+        }
+        match self.stream.take_error() {
+            Ok(Some(error)) | Err(error) => Some(error),
+            Ok(None) => Some(io::Error::from(io::ErrorKind::ConnectionReset)),
         }
     }
 

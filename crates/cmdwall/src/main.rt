@@ -6,7 +6,7 @@ mod service;
 use crate::service::{is_service, serve};
 use cf_box::box_main;
 use cf_help::{Asked, expect_files, explain, print_help, print_topic, print_version, question_of};
-use cf_machine::{Gather, LinkPair, RealFiles, RealSink};
+use cf_machine::{Gather, LinkPair, RealFiles, RealSink, fill_descriptors};
 use cf_words::status::{NO_MEMORY, WRITE_FAULT};
 use cf_words::{Command, read_words};
 use std::env::Env;
@@ -14,6 +14,7 @@ use std::process::ExitCode;
 use std::{env, io};
 
 fn main(rt: HostRuntime) -> ExitCode {
+    fill_descriptors();
     match words_of(&rt) {
         Ok(words) => answer(&rt, &words),
         Err(error) if matches!(error.kind(), io::ErrorKind::OutOfMemory) => {

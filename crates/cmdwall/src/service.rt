@@ -1,8 +1,8 @@
 //! `serve`: the words of a service, over the files and the network of the machine.
 
 use cf_box::serve_main;
-use cf_help::{expect_service_files, explain_service};
-use cf_machine::{Gather, RealFiles, RealLinks, RealSink};
+use cf_help::{announce_service, expect_service_files, explain_service};
+use cf_machine::{Gather, RealFiles, RealLinks, RealSink, takes_lines};
 use cf_words::status::{LINK_FAULT, NO_MEMORY};
 use std::io;
 use std::process::ExitCode;
@@ -25,18 +25,29 @@ pub fn serve(rt: &HostRuntime, words: &[String]) -> ExitCode {
     ExitCode::from(status)
 }
 
-/// Serves with these files.
+/// Serves with these files. Nothing waits for standard error, also where the service ends.
 fn serve_files(rt: &HostRuntime, words: &[String], files: &mut RealFiles<'_, HostRuntime>) -> u8 {
-    match RealLinks::new(rt, rt.alloc()) {
+    let announced = match announce_service(rt, words, files) {
+        Ok(announced) => announced,
+        Err(error) => return not_begun(rt, &error),
+    };
+    match RealLinks::new(rt, rt.alloc(), announced) {
         Ok(mut links) => {
             let mut out = RealSink::new(io::writer(rt));
             let status = serve_main(rt.alloc(), words, files, &mut out, &mut links);
-            let _ = explain_service(rt, words, status, files);
+            if takes_lines() {
+                let _ = explain_service(rt, words, status, files);
+            }
             status
         }
-        Err(error) => {
-            let _ = eprintln!(rt; "cmdwall: {error}");
-            LINK_FAULT
-        }
+        Err(error) => not_begun(rt, &error),
     }
+}
+
+/// Says why a service cannot begin.
+fn not_begun(rt: &HostRuntime, error: &io::Error) -> u8 {
+    if takes_lines() {
+        let _ = eprintln!(rt; "cmdwall: {error}");
+    }
+    LINK_FAULT
 }

@@ -7,9 +7,19 @@ use std::{fs, io};
 
 /// A file or folder of the machine, whatever its names are.
 #[derive(Clone, Copy, PartialEq, Eq)]
-struct Node {
+pub(crate) struct Node {
     device: u64,
     number: u64,
+}
+
+impl Node {
+    /// That of which this is known.
+    pub(crate) fn of(known: &impl MetadataExt) -> Self {
+        Node {
+            device: known.dev(),
+            number: known.ino(),
+        }
+    }
 }
 
 /// Where a name leads: to a file that is there, or to a name in a folder that is there.
@@ -89,12 +99,9 @@ pub(crate) fn is_printed<R: FileSystem>(rt: &R, name: &str) -> bool {
 }
 
 /// What a name leads to, if something is there.
-fn node_of<R: FileSystem>(rt: &R, name: &str) -> Option<Node> {
+pub(crate) fn node_of<R: FileSystem>(rt: &R, name: &str) -> Option<Node> {
     let known = fs::metadata(rt, name).ok()?;
-    Some(Node {
-        device: known.dev(),
-        number: known.ino(),
-    })
+    Some(Node::of(&known))
 }
 
 /// The names of a file and of another place that leads to the same one. What is no file or folder, as a terminal or a pipe, is
@@ -130,10 +137,7 @@ fn is_same(place: &Place, leads: Leads, name: &str) -> bool {
 
 fn leads_of<R: FileSystem>(rt: &R, name: &str) -> Leads {
     match fs::metadata(rt, name) {
-        Ok(known) if known.is_file() => Leads::File(Node {
-            device: known.dev(),
-            number: known.ino(),
-        }),
+        Ok(known) if known.is_file() => Leads::File(Node::of(&known)),
         Ok(_) => Leads::Nowhere,
         Err(_) => folder_of(rt, folder_part(name)),
     }
@@ -141,10 +145,7 @@ fn leads_of<R: FileSystem>(rt: &R, name: &str) -> Leads {
 
 fn folder_of<R: FileSystem>(rt: &R, folder: &str) -> Leads {
     match fs::metadata(rt, folder) {
-        Ok(known) => Leads::Folder(Node {
-            device: known.dev(),
-            number: known.ino(),
-        }),
+        Ok(known) => Leads::Folder(Node::of(&known)),
         Err(_) => Leads::Nowhere,
     }
 }

@@ -1,11 +1,14 @@
 //! Files that are written.
 ghost use Rattle.std.specs.Prelude.{◌<◌, IfSome, length};
 
+use crate::files::same::{Node, node_of};
 use crate::files::{Fault, Gather, fault_of};
+use libc::types::timespec;
 use std::alloc::Global;
 use std::fs::{OpenFile, OpenOptions};
 use std::io;
 use std::io::{Read, Seek, SeekFrom, Write};
+use std::os::unix::fs::MetadataExt;
 use std::rt::Files as FileSystem;
 
 /// How many files are kept open for writing.
@@ -20,6 +23,8 @@ pub(crate) struct Writer<F: Drop> {
     name: String,
     file: F,
     held: Vec<u8>,
+    /// The second in which it was last seen that the name leads to the file.
+    seen: i64,
 }
 
 impl<F: Write + Drop> Writer<F> {
@@ -82,11 +87,46 @@ pub(crate) fn open_at_end<R: FileSystem>(
     if let Some(place) = find_writer(writers, name) {
         writers.remove(place);
     }
+    let file = opened_at_end(rt, name)?;
+    keep_open(alloc, writers, name, file)
+}
+
+/// Opens a file at its end, made where it is not there, and gives its last line the line feed that it may lack.
+fn opened_at_end<R: FileSystem>(rt: &R, name: &str) -> io::Result<R::File> {
     let mut file = OpenOptions::new().append(true).create(true).open(rt, name)?;
     if file.metadata()?.is_file() && lacks_feed(rt, name)? {
         file.write_all(b"\n")?;
     }
-    keep_open(alloc, writers, name, file)
+    Ok(file)
+}
+
+/// Goes on with the file that a name leads to now, where that is not the open one: a log that is renamed away is begun anew. It looks
+/// once a second at most. Where no file can be opened, it goes on with the open one for as long as that has a name.
+fn follow<R: FileSystem>(rt: &R, writer: &mut Writer<R::File>) -> io::Result<()> {
+    let now = second();
+    if writer.seen == now {
+        return Ok(());
+    }
+    let open = writer.file.metadata()?;
+    if node_of(rt, writer.name.as_str()) != Some(Node::of(&open)) {
+        match opened_at_end(rt, writer.name.as_str()) {
+            Ok(file) => writer.file = file,
+            Err(error) if open.nlink() == 0 => return Err(error),
+            Err(_) => {}
+        }
+    }
+    writer.seen = now;
+    Ok(())
+}
+
+/// The second, by a clock that only goes forward.
+fn second() -> i64 {
+    let mut now = timespec {
+        tv_sec: 0,
+        tv_nsec: 0,
+    };
+    libc::clock_gettime(libc::CLOCK_MONOTONIC, &mut now);
+    now.tv_sec
 }
 
 /// Whether a file has octets, and the last of them is no line feed.
@@ -114,7 +154,7 @@ pub(crate) fn append_to<R: FileSystem>(
 ) -> io::Result<()> {
     if let Some(writer) = writers.get_mut(*latest) {
         if writer.name.as_str() == name {
-            return writer.append(gather, bytes);
+            return append_followed(rt, gather, writer, bytes);
         }
     }
     if find_writer(writers, name).is_none() {
@@ -124,10 +164,23 @@ pub(crate) fn append_to<R: FileSystem>(
     match find_writer(writers, name) {
         Some(place) => {
             *latest = place;
-            writers[place].append(gather, bytes)
+            append_followed(rt, gather, &mut writers[place], bytes)
         }
         None => Err(io::Error::from(io::ErrorKind::NotFound)),
     }
+}
+
+/// Puts bytes at the end of a file that is open; of one that people follow, to which its name leads.
+fn append_followed<R: FileSystem>(
+    rt: &R,
+    gather: Gather,
+    writer: &mut Writer<R::File>,
+    bytes: &[u8],
+) -> io::Result<()> {
+    if gather == Gather::Nothing {
+        follow(rt, writer)?;
+    }
+    writer.append(gather, bytes)
 }
 
 /// Writes what is held of one file, if it is open.
@@ -177,6 +230,12 @@ fn keep_open<F: Write + Drop>(
     }
     let name = String::from_str(alloc, name)?;
     let held = Vec::with_capacity(alloc, PIECE)?;
-    writers.push(Writer { name, file, held })?;
+    let seen = second();
+    writers.push(Writer {
+        name,
+        file,
+        held,
+        seen,
+    })?;
     Ok(())
 }

@@ -1,6 +1,10 @@
 //! The two connections of a session of a service.
-ghost use Rattle.std.specs.Prelude.{◌<◌, ◌≤◌, IfOk, IfSome, length};
+ghost use Rattle.std.specs.List.{HoldsAt};
+ghost use Rattle.std.specs.Prelude.{◌≡◌, ◌<◌, IfOk, IfSome, length};
+ghost use Rattle.cf_machine.specs.Moved.{IsOn};
 
+use crate::links::sides::{ClientStream, ControllerStream, Moved};
+use crate::links::watch::watch_over;
 use crate::peer::Peer;
 use cf_view::{Endpoint, Side};
 use mio::event::Event;
@@ -8,13 +12,17 @@ use mio::net::TcpStream as Begun;
 use mio::{Interest, Registry, Token};
 use std::io;
 use std::net::{Net, SocketAddr, TcpStream};
-use std::os::fd::OwnedFd;
+use std::os::fd::{AsRawFd, OwnedFd};
 
 /// How long the controller has to take the connection, in milliseconds.
 const CONNECT_MILLIS: u64 = 10_000;
 
-/// How long a session in which nothing moves waits for its turn, in milliseconds.
+/// How long a session in which nothing moves waits for its turn, in milliseconds, where nothing was asked in the last one.
 const TURN_MILLIS: u64 = 1000;
+
+/// How long it waits for each answer in the last one that nothing came, or that nothing was taken, in milliseconds. The service ends a
+/// session after twice SECONDS such answers in a row, so each of them stands for half a second.
+const IDLE_MILLIS: u64 = 500;
 
 /// How long a connection that is left is read, in milliseconds.
 const LEAVE_MILLIS: u64 = 2000;
@@ -22,15 +30,26 @@ const LEAVE_MILLIS: u64 = 2000;
 /// The connection with the controller.
 #[derive(Drop)]
 enum Reach {
-    /// It was not begun.
-    Wanted,
+    /// It was not begun: before the client's own turn to be heard of, or behind it.
+    Wanted {
+        is_seen: bool,
+    },
     /// It was begun, and has until this moment; the system has said something of it.
     Begun {
         stream: Begun,
         until: u64,
         is_told: bool,
     },
-    Reached(Peer<TcpStream>),
+    Reached(ControllerStream),
+}
+
+/// What came of asking for a controller.
+#[derive(Clone, Copy)]
+pub(crate) enum Reached {
+    Waiting,
+    /// The client has gone before.
+    Gone,
+    Met(Endpoint),
 }
 
 /// A client and its controller.
@@ -38,14 +57,16 @@ enum Reach {
 pub(crate) struct Session {
     pub number: u64,
     pub client_at: Endpoint,
-    client: Peer<TcpStream>,
+    client: ClientStream,
     controller: Reach,
     /// A stream was asked or given something in this turn.
     is_used: bool,
     /// Something came or went in this turn.
     has_moved: bool,
-    /// The latest moment of its next turn, in milliseconds.
-    turn_by: u64,
+    /// When its last turn began, in milliseconds.
+    turn_at: u64,
+    /// How often something was asked or given in this turn that did not move.
+    idles: u64,
 }
 
 /// The tokens of a session's sides. A number is never used again, so what is told late of a connection that is gone is told of no
@@ -59,11 +80,17 @@ pub(crate) fn token_of(number: u64, side: Side) -> Token {
 
 /// The place of a session among these, which stand in the order of their numbers.
 pub(crate) fn session_of(sessions: &[Session], number: u64) -> Option<usize>
-    ensures { IfSome result (λ at. at < length sessions.now) }
+    ensures inside { IfSome result (λ at. at < length sessions.now) }
+    ensures own { IfSome result (HoldsAt (λ found. found.number ≡ number) sessions.now) }
 {
-    sessions
+    let at = sessions
         .binary_search_by_key(&number, |session| session.number)
-        .ok()
+        .ok()?;
+    if sessions[at].number == number {
+        Some(at)
+    } else {
+        None
+    }
 }
 
 impl Session {
@@ -77,24 +104,32 @@ impl Session {
         Ok(Session {
             number,
             client_at,
-            client: peer_of(stream, registry, token_of(number, Side::Client))?,
-            controller: Reach::Wanted,
+            client: ClientStream {
+                peer: peer_of(stream, registry, token_of(number, Side::Client))?,
+            },
+            controller: Reach::Wanted { is_seen: false },
             is_used: false,
             has_moved: false,
-            turn_by: 0,
+            turn_at: 0,
+            idles: 0,
         })
     }
 
-    /// Begins to connect, and then says whether the controller took the connection. Nothing where that is not known yet.
+    /// Begins to connect, once the system has had a round to say that the client has gone, and then says whether the controller took the
+    /// connection. A client that has gone before is not connected, and what it sent is read by nobody.
     pub fn reach(
         &mut self,
         net: &impl Net,
         registry: &Registry,
         now: u64,
         controller: SocketAddr,
-    ) -> io::Result<Option<Endpoint>> {
-        match std::mem::replace(&mut self.controller, Reach::Wanted) {
-            Reach::Wanted => {
+    ) -> io::Result<Reached> {
+        if self.client.peer.is_gone() && !self.is_reached() {
+            return Ok(Reached::Gone);
+        }
+        match std::mem::replace(&mut self.controller, Reach::Wanted { is_seen: true }) {
+            Reach::Wanted { is_seen: false } => Ok(Reached::Waiting),
+            Reach::Wanted { is_seen: true } => {
                 let mut stream = Begun::connect(net, controller)?;
                 let both = Interest::READABLE | Interest::WRITABLE;
                 registry.register(&mut stream, token_of(self.number, Side::Controller), both)?;
@@ -104,17 +139,24 @@ impl Session {
                     until,
                     is_told: false,
                 };
-                Ok(None)
+                Ok(Reached::Waiting)
             }
             Reach::Begun {
                 stream,
                 until,
                 is_told,
             } => self.look_at(registry, now, stream, until, is_told),
-            Reach::Reached(peer) => {
-                self.controller = Reach::Reached(peer);
-                Ok(Some(self.client_at))
+            Reach::Reached(stream) => {
+                self.controller = Reach::Reached(stream);
+                Ok(Reached::Met(self.client_at))
             }
+        }
+    }
+
+    fn is_reached(&self) -> bool {
+        match &self.controller {
+            Reach::Reached(_) => true,
+            _ => false,
         }
     }
 
@@ -126,7 +168,7 @@ impl Session {
         mut stream: Begun,
         until: u64,
         is_told: bool,
-    ) -> io::Result<Option<Endpoint>> {
+    ) -> io::Result<Reached> {
         if is_told {
             if let Some(error) = stream.take_error()? {
                 return Err(error);
@@ -134,8 +176,9 @@ impl Session {
             if stream.peer_addr().is_ok() {
                 registry.deregister(&mut stream)?;
                 let token = token_of(self.number, Side::Controller);
-                self.controller = Reach::Reached(peer_of(stream, registry, token)?);
-                return Ok(Some(self.client_at));
+                let peer = peer_of(stream, registry, token)?;
+                self.controller = Reach::Reached(ControllerStream { peer });
+                return Ok(Reached::Met(self.client_at));
             }
         }
         if now >= until {
@@ -146,17 +189,28 @@ impl Session {
             until,
             is_told: false,
         };
-        Ok(None)
+        Ok(Reached::Waiting)
+    }
+
+    /// A side whose connection has failed where no other call of the turn tells of it, and what the system says.
+    pub fn failure(&self) -> Option<(Side, io::Error)> {
+        if let Some(error) = self.client.peer.failure() {
+            return Some((Side::Client, error));
+        }
+        match &self.controller {
+            Reach::Reached(stream) => Some((Side::Controller, stream.peer.failure()?)),
+            _ => None,
+        }
     }
 
     /// Notes what the system says of a side.
     pub fn note(&mut self, side: Side, event: &Event) {
         match side {
-            Side::Client => self.client.note(event),
+            Side::Client => self.client.peer.note(event),
             Side::Controller => match &mut self.controller {
-                Reach::Wanted => {}
+                Reach::Wanted { .. } => {}
                 Reach::Begun { is_told, .. } => *is_told = true,
-                Reach::Reached(peer) => peer.note(event),
+                Reach::Reached(stream) => stream.peer.note(event),
             },
         }
     }
@@ -164,10 +218,10 @@ impl Session {
     fn has_news(&self) -> bool {
         let moved = self.has_moved || !self.is_used;
         match &self.controller {
-            Reach::Wanted => true,
-            Reach::Begun { is_told, .. } => *is_told,
+            Reach::Wanted { .. } => true,
+            Reach::Begun { is_told, .. } => *is_told || self.client.peer.is_gone(),
             Reach::Reached(controller) => {
-                self.client.has_news_behind(moved) || controller.has_news_behind(moved)
+                self.client.peer.has_news_behind(moved) || controller.peer.has_news_behind(moved)
             }
         }
     }
@@ -181,77 +235,87 @@ impl Session {
         }
     }
 
+    /// The latest moment of its next turn, in milliseconds.
     fn next_turn(&self) -> u64 {
+        let pause = match self.idles {
+            0 => TURN_MILLIS,
+            idles => idles.saturating_mul(IDLE_MILLIS),
+        };
+        let turn_by = self.turn_at.saturating_add(pause);
         match &self.controller {
-            Reach::Begun { until, .. } => self.turn_by.min(*until),
-            _ => self.turn_by,
+            Reach::Begun { until, .. } => turn_by.min(*until),
+            _ => turn_by,
         }
     }
 
-    /// Whether it has a turn now: something can move, or it had none for a second. The turn begins with this.
+    /// Whether it has a turn now: something can move, or its time has come. The turn begins with this.
     pub fn begin_turn(&mut self, now: u64) -> bool {
         let has_news = self.has_news();
         if !has_news && now < self.next_turn() {
             return false;
         }
         let moved = self.has_moved || !self.is_used;
-        self.client.begin_turn(moved);
+        self.client.peer.begin_turn(moved);
         if !has_news {
-            self.client.look_again();
+            self.client.peer.look_again();
         }
         if let Reach::Reached(controller) = &mut self.controller {
-            controller.begin_turn(moved);
+            controller.peer.begin_turn(moved);
             if !has_news {
-                controller.look_again();
+                controller.peer.look_again();
             }
         }
         self.is_used = false;
         self.has_moved = false;
-        self.turn_by = now.saturating_add(TURN_MILLIS);
+        self.turn_at = now;
+        self.idles = 0;
         true
     }
 
-    /// Reads what came from a side; 0 at its end, nothing where none came.
-    pub fn read(&mut self, side: Side, buf: &mut [u8]) -> io::Result<Option<usize>>
-        ensures { IfOk result (λ count. IfSome count (λ n. n ≤ length buf.new)) }
+    /// Reads what came from a side; no octets at its end, nothing where none came.
+    pub fn read(&mut self, side: Side, buf: &mut [u8]) -> io::Result<Option<Moved>>
+        ensures { IfOk result (λ moved. IfSome moved (IsOn self.old.number side (length buf.new))) }
     {
-        let count = match side {
-            Side::Client => self.client.read(buf)?,
+        let moved = match side {
+            Side::Client => self.client.read(self.number, buf)?,
             Side::Controller => match &mut self.controller {
-                Reach::Reached(peer) => peer.read(buf)?,
+                Reach::Reached(stream) => stream.read(self.number, buf)?,
                 _ => return Err(not_connected()),
             },
         };
-        self.note_move(count.is_some());
-        Ok(count)
+        self.note_move(moved.is_some());
+        Ok(moved)
     }
 
     /// Writes to a side what it takes now; nothing where it takes none.
-    pub fn write(&mut self, side: Side, bytes: &[u8]) -> io::Result<Option<usize>>
-        ensures { IfOk result (λ count. IfSome count (λ n. n ≤ length bytes.now)) }
+    pub fn write(&mut self, side: Side, bytes: &[u8]) -> io::Result<Option<Moved>>
+        ensures { IfOk result (λ moved. IfSome moved (IsOn self.old.number side (length bytes.now))) }
     {
-        let count = match side {
-            Side::Client => self.client.write(bytes)?,
+        let moved = match side {
+            Side::Client => self.client.write(self.number, bytes)?,
             Side::Controller => match &mut self.controller {
-                Reach::Reached(peer) => peer.write(bytes)?,
+                Reach::Reached(stream) => stream.write(self.number, bytes)?,
                 _ => return Err(not_connected()),
             },
         };
-        self.note_move(count.is_some());
-        Ok(count)
+        self.note_move(moved.is_some());
+        Ok(moved)
     }
 
     fn note_move(&mut self, moved: bool) {
         self.is_used = true;
         self.has_moved = self.has_moved || moved;
+        if !moved {
+            self.idles = self.idles.saturating_add(1);
+        }
     }
 
     /// Ends what is sent to a side, which may send on.
     pub fn close(&self, side: Side) -> io::Result<()> {
         match side {
-            Side::Client => self.client.close(),
+            Side::Client => self.client.peer.close(),
             Side::Controller => match &self.controller {
-                Reach::Reached(peer) => peer.close(),
+                Reach::Reached(stream) => stream.peer.close(),
                 _ => Err(not_connected()),
             },
         }
@@ -259,16 +323,16 @@ impl Session {
 
     /// Ends what is sent to both sides; what was given to them gets there.
     pub fn leave(self, now: u64) -> Leaving {
-        let _ = self.client.close();
+        let _ = self.client.peer.close();
         let controller = match self.controller {
-            Reach::Reached(peer) => {
-                let _ = peer.close();
-                Some(peer)
+            Reach::Reached(stream) => {
+                let _ = stream.peer.close();
+                Some(stream.peer)
             }
             _ => None,
         };
         Leaving {
-            client: Some(self.client),
+            client: Some(self.client.peer),
             controller,
             until: now.saturating_add(LEAVE_MILLIS),
         }
@@ -310,7 +374,9 @@ fn is_over(peer: &mut Option<Peer<TcpStream>>) -> bool {
 }
 
 fn peer_of(stream: Begun, registry: &Registry, token: Token) -> io::Result<Peer<TcpStream>> {
-    Peer::new(TcpStream::from(OwnedFd::from(stream)), registry, token)
+    let stream = TcpStream::from(OwnedFd::from(stream));
+    watch_over(stream.as_raw_fd());
+    Peer::new(stream, registry, token)
 }
 
 fn not_connected() -> io::Error {

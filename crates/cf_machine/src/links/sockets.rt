@@ -1,8 +1,10 @@
 //! The sockets of a service, and its clock.
-ghost use Rattle.std.specs.Prelude.{◌≤◌, IfOk, IfSome, length};
+ghost use Rattle.std.specs.Prelude.{IfOk, IfSome, length};
+ghost use Rattle.cf_machine.specs.Moved.{IsOn};
 
 use crate::links::place::Place;
-use crate::links::session::{Leaving, Session, session_of};
+use crate::links::session::{Leaving, Reached, Session, session_of};
+use crate::links::sides::Moved;
 use cf_view::{Endpoint, Side};
 use mio::{Events, Poll, Token};
 use std::alloc::Global;
@@ -21,7 +23,7 @@ const LEAVING: usize = 256;
 
 /// The places, the sessions, and those that were left.
 #[derive(Drop)]
-pub(crate) struct Sockets<'a, R: Net + Clock + Eprint> {
+pub(crate) struct Sockets<'a, R: Net + Clock> {
     rt: &'a R,
     poll: Poll,
     events: Events,
@@ -30,15 +32,18 @@ pub(crate) struct Sockets<'a, R: Net + Clock + Eprint> {
     sessions: Vec<Session>,
     leaving: Vec<Leaving>,
     begun: Instant,
+    /// The moment at which it began, in microseconds since 1970, by the clock that may be set.
+    begun_at: u64,
     /// Milliseconds since it began, as the round began.
     now: u64,
-    /// Microseconds since 1970, as the round began.
+    /// The moment at which the round began, in microseconds since 1970: since it began the clock that only goes forward counts.
     moment: u64,
 }
 
-impl<'a, R: Net + Clock + Eprint> Sockets<'a, R> {
+impl<'a, R: Net + Clock> Sockets<'a, R> {
     /// Of no place and no session.
     pub fn new(rt: &'a R, alloc: Global) -> io::Result<Self> {
+        let begun_at = wall_moment(rt)?;
         Ok(Sockets {
             rt,
             poll: Poll::new(rt)?,
@@ -47,14 +52,21 @@ impl<'a, R: Net + Clock + Eprint> Sockets<'a, R> {
             sessions: Vec::with_capacity(alloc, SESSIONS)?,
             leaving: Vec::with_capacity(alloc, LEAVING)?,
             begun: Instant::now(rt)?,
+            begun_at,
             now: 0,
-            moment: 0,
+            moment: begun_at,
         })
     }
 
     /// The moment at which the round began, in microseconds since 1970.
     pub fn moment(&self) -> u64 {
         self.moment
+    }
+
+    /// A side of a session whose connection has failed where no other call of its turn tells of it, and what the system says.
+    pub fn failure(&self, session: u64) -> Option<(Side, io::Error)> {
+        let at = session_of(&self.sessions, session)?;
+        self.sessions[at].failure()
     }
 
     /// Where the client of a session came from.
@@ -71,15 +83,14 @@ impl<'a, R: Net + Clock + Eprint> Sockets<'a, R> {
         }
     }
 
-    /// Listens at an address, and says so on standard error.
-    pub fn open(&mut self, at: SocketAddr) -> io::Result<u64> {
+    /// Listens at an address; tells where that is, and the moment.
+    pub fn open(&mut self, at: SocketAddr) -> io::Result<(SocketAddr, u64)> {
         let token = place_token(self.places.len());
         let place = Place::new(self.rt, at, self.poll.registry(), token)?;
         let here = place.address()?;
         self.places.push(place)?;
-        let _ = eprintln!(self.rt; "cmdwall: listens on {here}");
         self.read_clock()?;
-        Ok(self.moment)
+        Ok((here, self.moment))
     }
 
     /// Waits for what a round can move, and reads the clock.
@@ -114,14 +125,8 @@ impl<'a, R: Net + Clock + Eprint> Sockets<'a, R> {
     fn read_clock(&mut self) -> io::Result<()> {
         let passed = self.begun.elapsed(self.rt)?;
         self.now = u64::try_from(passed.as_millis()).unwrap_or(u64::MAX);
-        let since = SystemTime::now(self.rt)?.duration_since(SystemTime::UNIX_EPOCH);
-        match since {
-            Ok(since) => {
-                self.moment = u64::try_from(since.as_micros()).unwrap_or(u64::MAX);
-                Ok(())
-            }
-            Err(_) => Err(io::Error::from(io::ErrorKind::InvalidData)),
-        }
+        self.moment = self.begun_at.saturating_add(micros_of(passed));
+        Ok(())
     }
 
     /// Hands what the system says to the places and sessions. What it says late of a session that is gone is no one's.
@@ -158,7 +163,7 @@ impl<'a, R: Net + Clock + Eprint> Sockets<'a, R> {
     }
 
     /// Asks whether the controller of a session took the connection.
-    pub fn reach(&mut self, session: u64, controller: SocketAddr) -> io::Result<Option<Endpoint>> {
+    pub fn reach(&mut self, session: u64, controller: SocketAddr) -> io::Result<Reached> {
         match session_of(&self.sessions, session) {
             Some(at) => {
                 self.sessions[at].reach(self.rt, self.poll.registry(), self.now, controller)
@@ -167,9 +172,9 @@ impl<'a, R: Net + Clock + Eprint> Sockets<'a, R> {
         }
     }
 
-    /// Reads what came from a side of a session; 0 at its end, nothing where none came.
-    pub fn read(&mut self, session: u64, side: Side, buf: &mut [u8]) -> io::Result<Option<usize>>
-        ensures inside { IfOk result (λ count. IfSome count (λ n. n ≤ length buf.new)) }
+    /// Reads what came from a side of a session; no octets at its end, nothing where none came.
+    pub fn read(&mut self, session: u64, side: Side, buf: &mut [u8]) -> io::Result<Option<Moved>>
+        ensures { IfOk result (λ moved. IfSome moved (IsOn session side (length buf.new))) }
     {
         match session_of(&self.sessions, session) {
             Some(at) => self.sessions[at].read(side, buf),
@@ -178,8 +183,8 @@ impl<'a, R: Net + Clock + Eprint> Sockets<'a, R> {
     }
 
     /// Writes to a side of a session what it takes now; nothing where it takes none.
-    pub fn write(&mut self, session: u64, side: Side, bytes: &[u8]) -> io::Result<Option<usize>>
-        ensures inside { IfOk result (λ count. IfSome count (λ n. n ≤ length bytes.now)) }
+    pub fn write(&mut self, session: u64, side: Side, bytes: &[u8]) -> io::Result<Option<Moved>>
+        ensures { IfOk result (λ moved. IfSome moved (IsOn session side (length bytes.now))) }
     {
         match session_of(&self.sessions, session) {
             Some(at) => self.sessions[at].write(side, bytes),
@@ -208,6 +213,18 @@ impl<'a, R: Net + Clock + Eprint> Sockets<'a, R> {
             }
         }
     }
+}
+
+/// The moment by the clock that may be set, in microseconds since 1970.
+fn wall_moment(clock: &impl Clock) -> io::Result<u64> {
+    match SystemTime::now(clock)?.duration_since(SystemTime::UNIX_EPOCH) {
+        Ok(since) => Ok(micros_of(since)),
+        Err(_) => Err(io::Error::from(io::ErrorKind::InvalidData)),
+    }
+}
+
+fn micros_of(duration: Duration) -> u64 {
+    u64::try_from(duration.as_micros()).unwrap_or(u64::MAX)
 }
 
 /// The shorter of two waits, of which one that is nothing has no end.
