@@ -25,6 +25,7 @@ use Rattle.cf_policy.specs.Verdict.{verdict_of}
 use Rattle.cf_policy.specs.declared.Asset.{Asset}
 use Rattle.cf_lane.specs.declared.fate.Fate.{Fate}
 use Rattle.cf_dnptrans.specs.declared.assembly.SegmentAnswer.TheVariants as answers
+use Rattle.cf_lane.specs.declared.fate.Admission.{Admission}
 use Rattle.cf_lane.specs.declared.fate.Fate.TheVariants as fate
 use Rattle.cf_audit.specs.declared.line.Why.TheVariants as why
 use Rattle.cf_view.specs.declared.Side.TheVariants as side
@@ -94,7 +95,7 @@ module _ (asset : Asset) (client : ℕ) (back : (user : List ℕ) → user_of (b
 
   -- frames are served
   abbrev pub IsServed : UnitValue → Type 0
-  IsServed (Adu a) = (used : List Bool) × HasCommandFate asset (verdict_of asset client) a (fate.Admitted used)
+  IsServed (Adu a) = (used : Admission) × HasCommandFate asset (verdict_of asset client) a (fate.Admitted used)
   IsServed (Apdu a) = goes_on (fate_by_asdu asset client a) ≡ true
   IsServed (Frame x) = stray_of asset side.Client x ≡ None
 

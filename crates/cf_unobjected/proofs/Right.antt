@@ -15,8 +15,8 @@ use Rattle.cf_decode.specs.Units.{Fragment, Passed, Whole}
 use Rattle.cf_dnplink.specs.LinkFrame.{FrameValue}
 use Rattle.cf_dnptrans.specs.Passing.{completed}
 use Rattle.cf_dnptrans.specs.declared.assembly.SegmentAnswer.{SegmentAnswer}
-use Rattle.cf_lane.specs.Acts.{by_refusal, fate_of_acts, first_refusal, refusal_or, used_by}
-use Rattle.cf_lane.specs.Rates.{Says, is_spent, rated, said, says_at, unless_spent}
+use Rattle.cf_lane.specs.Acts.{admission, by_refusal, fate_of_acts, first_refusal, refusal_or}
+use Rattle.cf_lane.specs.Rates.{Says, is_spent, said, says_at, unless_spent}
 use Rattle.cf_dnplink.specs.UserOctets.{user_of}
 use Rattle.cf_dnptrans.specs.Transport.{fitting, is_linked, last_fragment, octets_of, since_first}
 use Rattle.cf_lane.specs.Dnp3.{answer_now, segments_of, fate_of_fragment, fate_of_frame, fate_of_read, fate_of_segment, fate_of_whole, is_data, stray_of}
@@ -47,6 +47,7 @@ use Rattle.cf_policy.specs.declared.Verdict.TheVariants as verdict
 use Rattle.cf_view.specs.declared.Reason.TheVariants as reason
 use Rattle.cf_lane.specs.declared.fate.Fate.{Fate}
 use Rattle.cf_dnptrans.specs.declared.assembly.SegmentAnswer.TheVariants as answers
+use Rattle.cf_lane.specs.declared.fate.Admission.{Admission}
 use Rattle.cf_lane.specs.declared.fate.Fate.TheVariants as fate
 use Rattle.cf_audit.specs.declared.line.Why.TheVariants as why
 use Rattle.cf_view.specs.declared.Side.TheVariants as side
@@ -88,21 +89,21 @@ says_allows asset client earlier moment (act ∷ acts) h =
     by_verdict (is_spent asset earlier moment) act (verdict_of asset client act) (first_refusal (says_at asset client earlier moment) acts) (first_refusal (verdict_of asset client) acts)
     (says_allows asset client earlier moment acts) h
 
-goes_by : (used : List Bool) (o : Option Refusal) → goes_on (by_refusal used o) ≡ true → o ≡ None
+goes_by : (used : Admission) (o : Option Refusal) → goes_on (by_refusal used o) ≡ true → o ≡ None
 goes_by used None e = refl
 goes_by used (Some refusal) e = absurd (false≢true e)
 
-by_none : (used : List Bool) (o : Option Refusal) → o ≡ None → by_refusal used o ≡ fate.Admitted used
+by_none : (used : Admission) (o : Option Refusal) → o ≡ None → by_refusal used o ≡ fate.Admitted used
 by_none used None e = refl
 by_none used (Some refusal) e = absurd (none-some refusal (sym e))
 
 module _ (asset : Asset) (client : ℕ) (says : Says) (allows : Allows says (verdict_of asset client)) where
-  abbrev plain : List Act → List Bool
-  plain acts = used_by (rated asset.rules) (verdict_of asset client) acts
+  abbrev plain : List Act → Admission
+  plain acts = admission asset (verdict_of asset client) acts
 
   acts_admitted : (acts : List Act) → goes_on (fate_of_acts asset says acts) ≡ true → fate_of_acts asset (verdict_of asset client) acts ≡ fate.Admitted (plain acts)
   acts_admitted acts e =
-      by_none (plain acts) (first_refusal (verdict_of asset client) acts) (allows acts (goes_by (used_by (rated asset.rules) says acts) (first_refusal says acts) e))
+      by_none (plain acts) (first_refusal (verdict_of asset client) acts) (allows acts (goes_by (admission asset says acts) (first_refusal says acts) e))
 
   acts_go : (acts : List Act) → goes_on (fate_of_acts asset says acts) ≡ true → goes_on (fate_of_acts asset (verdict_of asset client) acts) ≡ true
   acts_go acts e = ap goes_on (acts_admitted acts e)
@@ -139,7 +140,7 @@ module _ (asset : Asset) (client : ℕ) (says : Says) (allows : Allows says (ver
 
   -- ---- Modbus
 
-  admitted_plainly : (a : AduValue) (f : Fate) → goes_on f ≡ true → HasCommandFate asset says a f → (used : List Bool) × HasCommandFate asset (verdict_of asset client) a (fate.Admitted used)
+  admitted_plainly : (a : AduValue) (f : Fate) → goes_on f ≡ true → HasCommandFate asset says a f → (used : Admission) × HasCommandFate asset (verdict_of asset client) a (fate.Admitted used)
   admitted_plainly a f g (of_other_station d e) = absurd (false≢true (sym (ap goes_on e) ∙ g))
   admitted_plainly a f g (of_no_form s refusal r e) = absurd (false≢true (sym (ap goes_on e) ∙ g))
   admitted_plainly a f g (of_its_acts s r p e) =

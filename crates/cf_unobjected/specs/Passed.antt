@@ -1,5 +1,5 @@
 -- Steps of the proof: what is let through to a controller is nothing that a judge would object to: `PassedAreRight`.
-use Rattle.std.specs.Prelude.{◌≡◌, ◌≤◌, Bool, ℕ, List, true, false, None, length}
+use Rattle.std.specs.Prelude.{◌≡◌, ◌≤◌, ℕ, List, true, false, None, length}
 use Rattle.std.specs.List.{AllByRecursion}
 use Rattle.cf_decode.specs.Passed.{passed}
 use Rattle.cf_decode.specs.Units.{Fragment, Passed, Whole}
@@ -12,6 +12,7 @@ use Rattle.cf_lane.specs.Modbus.{HasCommandFate}
 use Rattle.cf_lane.specs.Unit.{Adu, Apdu, Frame}
 use Rattle.cf_policy.specs.Verdict.{verdict_of}
 use Rattle.cf_policy.specs.declared.Asset.{Asset}
+use Rattle.cf_lane.specs.declared.fate.Admission.{Admission}
 use Rattle.cf_lane.specs.declared.fate.Fate.TheVariants as fate
 use Rattle.cf_view.specs.declared.Side.TheVariants as side
 
@@ -19,7 +20,7 @@ use Rattle.cf_view.specs.declared.Side.TheVariants as side
 -- whatever its numbers, is carried or an admitted command; a fragment has two octets or more, at most 2,048, and is a confirmation or an
 -- admitted command
 abbrev pub IsRightlyPassed : Asset → (client : ℕ) → Passed → Type 0
-IsRightlyPassed asset client (Whole (Adu a)) = (used : List Bool) × HasCommandFate asset (verdict_of asset client) a (fate.Admitted used)
+IsRightlyPassed asset client (Whole (Adu a)) = (used : Admission) × HasCommandFate asset (verdict_of asset client) a (fate.Admitted used)
 IsRightlyPassed asset client (Whole (Frame x)) = (stray_of asset side.Client x ≡ None) × (is_data x ≡ false)
 IsRightlyPassed asset client (Whole (Apdu a)) = goes_on (fate_by_asdu asset client a) ≡ true
 IsRightlyPassed asset client (Fragment octets) =

@@ -1,11 +1,17 @@
-//! Laws of what goes to a controller: each is the contract of a function that does nothing.
+//! Laws of judgements, and of what goes to a controller: each is the contract of a function that does nothing.
+ghost use Rattle.cf_unobjected.specs.Allowed.{FlowsGoOn, UnobjectedAreAllowed};
+ghost use Rattle.cf_unobjected.specs.OneJudgement.{FlowsAreJudged, FlowsAreOne, JudgementsAreOne, RecordsHaveOneJudgement};
 ghost use Rattle.cf_unobjected.specs.OneReading.{ReadingsAreOne};
 ghost use Rattle.cf_unobjected.specs.Passed.{PassedAreRight};
+ghost use Rattle.cf_unobjected.specs.Rows.{RowsHold};
+ghost use Rattle.cf_unobjected.specs.ShortestFront.{FrontsAreJudged, ObjectionsAreOfShortestFronts};
 ghost use Rattle.cf_unobjected.specs.Unobjected.{BeginningsAreUnobjected};
 
 use cf_decode::stream_decodes;
 use cf_dnplink::user_octets_come_back;
 use cf_dnptrans::first_segments_make_the_first_fragments;
+use cf_modbus::each_pdu_has_an_answer;
+use cf_stream::{letters_stand_in_order, taken_letters_are_copies};
 
 /// Nothing is let through that a judge would object to: what a lane admits, with its rates, the verdict on each act allows.
 pub fn passed_are_right()
@@ -25,4 +31,45 @@ pub fn beginnings_are_unobjected()
 /// The octets of a flow are read in one way.
 pub fn readings_are_one()
     ensures { ReadingsAreOne }
+{}
+
+/// What is watched in the records of a capture is one list of flows, and these have one judgement: one number of commands, and one
+/// objection, or none.
+pub fn judgements_are_one()
+    ensures flows { FlowsAreOne }
+    ensures judgements { JudgementsAreOne }
+    ensures records { RecordsHaveOneJudgement }
+{}
+
+/// Flows to assets of a policy, whose bytes are octets, have a judgement.
+pub fn flows_are_judged()
+    ensures { FlowsAreJudged }
+{
+    each_pdu_has_an_answer();
+}
+
+/// The flows of a capture stay in their places, whatever records follow, and each goes on.
+pub fn flows_go_on()
+    ensures { FlowsGoOn }
+{}
+
+/// Where a judge objects to nothing in a capture, all that a receiver may put together of a flow, after whichever record and of
+/// whichever copies, is a beginning of one stream, and that stream is units which the policy lets through, and then a proper prefix of
+/// another.
+pub fn unobjected_are_allowed()
+    ensures { UnobjectedAreAllowed }
+{
+    letters_stand_in_order();
+    taken_letters_are_copies();
+}
+
+/// The objection of a capture is that of its shortest front of records that has one.
+pub fn objections_are_of_shortest_fronts()
+    ensures fronts { FrontsAreJudged }
+    ensures shortest { ObjectionsAreOfShortestFronts }
+{}
+
+/// Two flows worked by hand: of one with a conflict a receiver may have taken either octet, and of one out of order both.
+pub fn rows_hold()
+    ensures { RowsHold }
 {}

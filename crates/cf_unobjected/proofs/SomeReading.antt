@@ -1,0 +1,81 @@
+-- Flows to assets of a policy have a judgement.
+use Rattle.std.proofs.Common.{◌≡◌, ◌<◌, ◌-◌, ◌+◌, ℕ, zero, suc, List, [], ◌∷◌, ◌++◌, length, map, take, drop, slice_index, None, Result, Ok, Err, refl, sym, ap, subst, inl, inr, arith, length-drop}
+use Rattle.std.specs.List.{AllByRecursion}
+use Rattle.std.proofs.lemmas.Bool.{cases_eq}
+use Rattle.std.proofs.lemmas.List.{get_or-drop}
+use Rattle.std.proofs.lemmas.Option.{slice_get_cases}
+use Rattle.cf_judge.specs.Objections.{AreReadBy, IsReadBy, Reading, commands_in, objection_to}
+use Rattle.cf_judge.specs.Plain.{AreRead, Breaks, Ending, HasPlainFate, Whole, completed_in, fate_by_asdu, frame_fate}
+use Rattle.cf_lane.proofs.Units.{front_unit}
+use Rattle.cf_lane.specs.Judged.{Judged}
+use Rattle.cf_lane.specs.Modbus.{HasCommandFate, of_its_acts, of_no_form, of_other_station}
+use Rattle.cf_lane.specs.Unit.{Adu, Apdu, Frame, SpellsUnit, UnitValue, unit_break}
+use Rattle.cf_lane.specs.declared.Fate.{Fate}
+use Rattle.cf_modbus.specs.Adu.{AduValue}
+use Rattle.cf_modbus.specs.Request.{Reads, RequestValue}
+use Rattle.cf_modbus.specs.declared.RequestRefusal.{RequestRefusal}
+use Rattle.cf_policy.specs.Verdict.{verdict_of}
+use Rattle.cf_policy.specs.declared.Asset.{Asset}
+use Rattle.cf_policy.specs.declared.Protocol.{Protocol}
+use Rattle.cf_policy.specs.declared.Protocol.TheVariants as protocol
+use Rattle.cf_view.specs.Octets.{IsOctets}
+use Rattle.cf_watch.specs.FlowValue.{FlowValue, IsForAsset}
+use Rattle.cf_unobjected.specs.OneJudgement.{FlowsAreJudged}
+
+pdu_octets : (p : Protocol) (a : AduValue) (xs : List ℕ) → SpellsUnit p (Adu a) xs → IsOctets a.pdu
+pdu_octets protocol.Modbus a xs s = s.pdu
+pdu_octets protocol.Dnp3 a xs s = absurd s
+pdu_octets protocol.Iec104 a xs s = absurd s
+
+module _ (each : (pdu : List ℕ) → IsOctets pdu → (answer : Result RequestValue RequestRefusal) × Reads answer pdu) where
+  module _ (asset : Asset) (client : ℕ) where
+    read_fate : (a : AduValue) → a.unit ≡ asset.station → (answer : Result RequestValue RequestRefusal) → Reads answer a.pdu → (f : Fate) × HasCommandFate asset (verdict_of asset client) a f
+    read_fate a same (Ok r) h = (_, of_its_acts same r h refl)
+    read_fate a same (Err refusal) h = (_, of_no_form same refusal h refl)
+
+    adu_fate : (a : AduValue) → IsOctets a.pdu → (f : Fate) × HasCommandFate asset (verdict_of asset client) a f
+    adu_fate a octets =
+        elim (cases_eq a.unit asset.station) [
+          | inl same ↦ (let x = each a.pdu octets in read_fate a same x.0 x.1)
+          | inr other ↦ (_, of_other_station other refl)
+        ]
+
+    some_fate : (earlier : List Judged) (u : UnitValue) (xs : List ℕ) → SpellsUnit asset.protocol u xs → (f : Fate) × HasPlainFate asset client earlier u f
+    some_fate earlier (Adu a) xs s = adu_fate a (pdu_octets asset.protocol a xs s)
+    some_fate earlier (Frame x) xs s = (frame_fate asset client earlier x, refl)
+    some_fate earlier (Apdu a) xs s = (fate_by_asdu asset client a, refl)
+
+    some_reading : (most : ℕ) (earlier : List Judged) (bytes born : List ℕ) → length bytes < most → IsOctets bytes → (js : List Judged) × (x : Ending) × AreRead asset client earlier bytes born js x
+    some_reading zero earlier bytes born h o = absurd (omega (arith, h))
+    some_reading (suc most) earlier bytes born h o =
+        elim (front_unit asset.protocol bytes o) [
+          | inl (u, n, begins, some) ↦
+              (let f = some_fate earlier u (take n bytes) begins.spells in
+              let j = completed_in (slice_index born (n - 1)) u f.0 in
+              let left = length-drop n bytes in
+              let within = begins.inside in
+              let later = some_reading most (earlier ++ j ∷ []) (drop n bytes) (drop n born) (omega (arith, left, within, some, h)) (λ i. subst (λ y. y < 256) (sym (get_or-drop n bytes i 0)) (o (n + i))) in
+              (j ∷ later.0, later.1, (u, n, begins, some, refl, f.1, later.2)))
+          | inr (inl partial) ↦ ([], Whole, partial)
+          | inr (inr (place, breaks)) ↦ ([], Breaks (slice_index born place) (unit_break asset.protocol place), (place, breaks, refl, refl))
+        ]
+
+  module _ (assets : List Asset) where
+    some_readings : (flows : List FlowValue) → AllByRecursion (λ f. IsForAsset assets f × IsOctets f.bytes) flows → (rs : List Reading) × (map (λ r. r.flow) rs ≡ flows) × AreReadBy assets rs
+    some_readings [] h = ([], refl, tt)
+    some_readings (f ∷ flows) (first, rest) =
+        let later = some_readings flows rest in
+        elim (slice_get_cases assets f.asset).1 [
+          | inl (asset, inside, is, same) ↦
+              (let read = some_reading asset f.client.address (suc (length f.bytes)) [] f.bytes f.born (omega arith) first.1 in
+              let r : Reading = record { flow = f; judged = read.0; ending = read.1 } in
+              (r ∷ later.0, ap (λ fs. f ∷ fs) later.1, (subst (λ o. IsReadBy o r) (sym is) read.2, later.2)))
+          | inr (past, none) ↦ (let inside = first.0.asset in absurd (omega (arith, inside, past)))
+        ]
+
+  pub flows_judged : FlowsAreJudged
+  flows_judged assets flows h =
+      let read = some_readings assets flows h in (
+        record { flows = length flows; commands = commands_in 0 read.0; objection = objection_to None read.0 },
+        record { readings = read.0; of_flows = read.1; are_read = read.2; counts = refl; commands = refl; objection = refl },
+      )

@@ -1,0 +1,5 @@
+use Rattle.cf_unobjected.proofs.Rows.{rows_hold}
+use Rattle.cf_unobjected.proofs.laws.rows_hold.Goals as goal
+
+pub returns : goal.returns
+returns c = rows_hold
