@@ -29,6 +29,7 @@ use Rattle.cf_box.specs.Review.{DoesReview, HoldsReview, NothingRemarked}
 use Rattle.cf_review.specs.declared.Counts.{Counts}
 use Rattle.cf_box.specs.Sift.{TakesStream, TellsCutStream}
 use Rattle.cf_box.specs.Status.{IsExact, TellsCut, TellsDenial, TellsIdle, TellsNoAsset, TellsNoPolicy, TellsObjection, TellsRemark, TellsRemarks}
+use Rattle.cf_box.specs.Status.{TellsTooManyRules, TellsTooMuch}
 use Rattle.cf_ending.specs.declared.Done.{Done}
 use Rattle.cf_ending.specs.declared.Done.TheVariants as done
 use Rattle.cf_ending.specs.declared.Stop.{Stop}
@@ -307,6 +308,24 @@ module _ (failed : Type 0) (status : ℕ) (before after : Outside) where
   remarked_from (Review policy capture log) t r meets h = remark_from policy capture log t r meets h
   remarked_from c t r meets h = absurd t
 
+  module _ (policy capture out : List ℕ) (t : TellsTooMuch policy capture before) where
+    rules_from : (r : Result Done Stop) → Meets (Learn policy capture out) before after r → IsOf r failed status → Due 16
+    rules_from (Ok d) meets h = absurd (t.none_learned meets.holds.learned meets.holds.learns)
+    rules_from (Err stop.ReadFault) meets h = inr (inl (stop_is failed status stop.ReadFault h, meets.0))
+    rules_from (Err stop.NoMemory) meets h = inr (inr (stop_is failed status stop.NoMemory h))
+    rules_from (Err (stop.PolicyRefused r)) meets h =
+        absurd (known_unrefused (Learn policy capture out) before policy t.known.bytes t.known.policy r refl t.known.told t.known.means (λ second e. cc e) meets.0)
+    rules_from (Err stop.UnknownAsset) meets h = let cause : LacksAsset (Learn policy capture out) before = meets.0 in absurd (cc (cause.3))
+    rules_from (Err stop.WriteFault) meets h = absurd (t.none_learned meets.1.learned meets.1.learns)
+    rules_from (Err (stop.CaptureRefused r)) meets h = absurd (not_refused_watch t.bytes (t.ends, t.short) _ t.told r meets.0.0)
+    rules_from (Err (stop.CaptureCut place)) meets h = absurd (not_cut_watch t.bytes (t.ends, t.short) _ t.told place meets.0.0)
+    rules_from (Err (stop.TooManyRules name)) meets h = inl (stop_is failed status (stop.TooManyRules name) h)
+    rules_from (Err _) meets h = absurd meets.0.0
+
+  too_many_from : (c : Command) → TellsTooManyRules c before → (r : Result Done Stop) → Meets c before after r → IsOf r failed status → Due 16
+  too_many_from (Learn policy capture out) t r meets h = rules_from policy capture out t r meets h
+  too_many_from c t r meets h = absurd t
+
   -- what is asked and is not so: a line a command that asks
   asked_from : (c : Command) → TellsDenial c before → (r : Result Done Stop) → Meets c before after r → IsOf r failed status → DueDenied
   asked_from (Compare policy second) t r meets h = denied_from policy second t r meets h
@@ -346,4 +365,6 @@ exact_told one law {c = c} {before = before} {after = after} {status = status} e
       (remarked_from (Unprinted e) status before e.middle c t e.r e.meets (explained e));
   denied = λ t. later ((status ≡ 15) ⊎ (status ≡ 17)) status before e.middle after (read_failed e)
       (asked_from (Unprinted e) status before e.middle c t e.r e.meets (explained e));
+  rules = λ t. later (status ≡ 16) status before e.middle after (read_failed e)
+      (too_many_from (Unprinted e) status before e.middle c t e.r e.meets (explained e));
 }

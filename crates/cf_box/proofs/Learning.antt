@@ -84,6 +84,7 @@ module _ (policy capture out : List ℕ) (before : Outside) (p : Policy) (has : 
           learns = learns;
           holds_text = record {
             text = w.1.text;
+            is_document = w.1.is_document;
             means = w.1.means;
             in_file = w.1.in_file ∙ ap (λ f. content_after_write (f out) w.1.text) only.content;
           };
@@ -100,6 +101,7 @@ module _ (policy capture out : List ℕ) (before : Outside) (p : Policy) (has : 
           learns = learns;
           part = record {
             text = w.text;
+            is_document = w.is_document;
             means = w.means;
             in_file = subst (λ f. IsPartly w.text (f out) (after.files.content out)) only.content w.in_file;
           };

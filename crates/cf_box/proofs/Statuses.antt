@@ -20,6 +20,7 @@ use Rattle.cf_ending.specs.Outside.{Outside, ReadFailed, SinkValue, WriteFailed}
 use Rattle.cf_box.specs.Packets.{Lists, ListsFile}
 use Rattle.cf_box.specs.Review.{HoldsReview, ReviewHolds, WritesReview}
 use Rattle.cf_review.specs.declared.Counts.{Counts}
+use Rattle.cf_unobjected.specs.Allowed.{UnobjectedAreAllowed}
 use Rattle.cf_box.specs.Status.{Includes, JudgedClean, SiftPassesAllowed}
 use Rattle.cf_ending.specs.declared.Denial.{Denial}
 use Rattle.cf_ending.specs.declared.Denial.TheVariants as denial
@@ -135,10 +136,13 @@ module _ (failed : Type 0) (status : ℕ) where
   includes_from before middle policy second (Err s) m h is = absurd (not_done s h is)
 
   -- nothing that was judged is objected to
-  judged_from : (before middle : Outside) (policy capture : List ℕ) (r : Result Done Stop) → Meets (Judge policy capture) before middle r → IsOf r failed status →
-      status ≡ 0 → JudgedClean policy capture before
-  judged_from before middle policy capture (Ok d) m h is = (d, m.keeps)
-  judged_from before middle policy capture (Err s) m h is = absurd (not_done s h is)
+  judged_from : UnobjectedAreAllowed → (before middle : Outside) (policy capture : List ℕ) (r : Result Done Stop) → Meets (Judge policy capture) before middle r →
+      IsOf r failed status → status ≡ 0 → JudgedClean policy capture before
+  judged_from law before middle policy capture (Ok d) m h is =
+      let k = m.keeps in
+      let watched = k.2.has_flows in
+      (d, k, law k.0.assets watched.newest k.3.judged (record { flows = k.1; are_flows = watched.are_flows; judges = k.3.judges }) k.3.clean)
+  judged_from law before middle policy capture (Err s) m h is = absurd (not_done s h is)
 
   -- a policy that was written anew means what it meant
   migrates_from : (before middle after : Outside) (policy out : List ℕ) → after.files ≡ middle.files → (r : Result Done Stop) →
@@ -146,7 +150,7 @@ module _ (failed : Type 0) (status : ℕ) where
   migrates_from before middle after policy out same (Ok d) m h is =
       let k = m.keeps in
       let t = k.holds_text in
-      record { meaning = k.meaning; has = k.has; holds_text = record { text = t.text; means = t.means; in_file = ap (λ f. f.content out) same ∙ t.in_file } }
+      record { meaning = k.meaning; has = k.has; holds_text = record { text = t.text; is_document = t.is_document; means = t.means; in_file = ap (λ f. f.content out) same ∙ t.in_file } }
   migrates_from before middle after policy out same (Err s) m h is = absurd (not_done s h is)
 
   -- a policy that was learned is written
@@ -155,7 +159,7 @@ module _ (failed : Type 0) (status : ℕ) where
   learns_from before middle after policy capture out same (Ok d) m h is =
       let k = m.holds in
       let t = k.holds_text in
-      record { learned = k.learned; learns = k.learns; holds_text = record { text = t.text; means = t.means; in_file = ap (λ f. f.content out) same ∙ t.in_file } }
+      record { learned = k.learned; learns = k.learns; holds_text = record { text = t.text; is_document = t.is_document; means = t.means; in_file = ap (λ f. f.content out) same ∙ t.in_file } }
   learns_from before middle after policy capture out same (Err s) m h is = absurd (not_done s h is)
 
   -- a review is written where it has a remark, and where it has none
@@ -277,9 +281,9 @@ module _ {c : Command} {before after : Outside} {status : ℕ} (e : Explains c b
   includes_told policy second is =
       includes_from Unprinted status before e.middle policy second e.r (subst (λ k. Meets k before e.middle e.r) is e.meets) explained
 
-  pub judged_told : (policy capture : List ℕ) → c ≡ Judge policy capture → status ≡ 0 → JudgedClean policy capture before
-  judged_told policy capture is =
-      judged_from Unprinted status before e.middle policy capture e.r (subst (λ k. Meets k before e.middle e.r) is e.meets) explained
+  pub judged_told : UnobjectedAreAllowed → (policy capture : List ℕ) → c ≡ Judge policy capture → status ≡ 0 → JudgedClean policy capture before
+  judged_told law policy capture is =
+      judged_from Unprinted status law before e.middle policy capture e.r (subst (λ k. Meets k before e.middle e.r) is e.meets) explained
 
   pub migrates_told : (policy out : List ℕ) → c ≡ Migrate policy out → status ≡ 0 → KeepsMeaning policy out before after
   migrates_told policy out is =

@@ -1,10 +1,11 @@
 -- Laws over every run and every capture: HasLaws.
+use Rattle.cf_decode.specs.Commands.{AdmitsWhatIsAllowed}
 use Rattle.cf_isolation.specs.Isolated.{CapturesAreIsolated, CapturesHoldSessions, CapturesHoldToTheNext}
-use Rattle.cf_isolation.specs.Lives.{AlikeInLines, AlikeInRecords, EachHasRecords, EachLogged}
+use Rattle.cf_isolation.specs.Lives.{AlikeInLines, AlikeInRecords, EachHasALife, EachHasRecords, EachLogged}
 use Rattle.cf_isolation.specs.Logged.{LogsAreIsolated, LogsHoldSessions, LogsHoldToTheNext}
 use Rattle.cf_pcapng.specs.Calls.{GiveBlocks, HaveOneListOfBlocks}
 use Rattle.cf_readback.specs.ReadBack.{RunsAreReadBack}
-use Rattle.cf_refusals.specs.Told.{RefusedAreTold}
+use Rattle.cf_refusals.specs.Told.{RefusedAreTold, ShownAreTold}
 use Rattle.cf_review.specs.First.{BytesComeInOrder, JudgeTellsTheFirst}
 use Rattle.cf_review.specs.Fronts.{RecordsComeFirst}
 use Rattle.cf_review.specs.SynFlows.{SynFlowsAreWatched}
@@ -12,6 +13,11 @@ use Rattle.cf_run.specs.Fixed.{RecordsFixRuns}
 use Rattle.cf_run.specs.Isolation.{RunsIsolateSessions}
 use Rattle.cf_records.specs.Records.{HaveOneTimedList}
 use Rattle.cf_selfjudged.specs.SelfJudged.{RunsAreUnobjected, WatchedRunsAreUnobjected}
+use Rattle.cf_session.specs.Laws.{FewerPartsAreEnough}
+use Rattle.cf_unobjected.specs.Allowed.{FlowsGoOn, UnobjectedAreAllowed}
+use Rattle.cf_unobjected.specs.OneJudgement.{FlowsAreJudged, FlowsAreOne, JudgementsAreOne, RecordsHaveOneJudgement}
+use Rattle.cf_unobjected.specs.OneReading.{ReadingsAreOne}
+use Rattle.cf_unobjected.specs.ShortestFront.{FrontsAreJudged, ObjectionsAreOfShortestFronts}
 
 -- all laws over runs, captures and policies of which the program says something
 pub record HasLaws : Type 0 where
@@ -28,16 +34,35 @@ pub record HasLaws : Type 0 where
   pub lines_held : LogsHoldSessions
   pub lines_to_the_next : LogsHoldToTheNext
   pub lines_isolated : LogsAreIsolated
-  -- over the whole life of each session, the records and the lines are those of its own events; and a session of another run with the
+  -- each session has a life; over all of it the records and the lines are those of its own events; and a session of another run with the
   -- same flow that is given the same packets at the same moments has the same
+  pub lives : EachHasALife
   pub records_owned : EachHasRecords
   pub lines_owned : EachLogged
   pub records_alike : AlikeInRecords
   pub lines_alike : AlikeInLines
+  -- what a peer puts together of some segments it also puts together of these and more: so amid an event, at every moment, it has no more
+  -- than what the headline says of all that the event sends
+  pub fewer_segments : FewerPartsAreEnough
   -- whatever a run sends, no judgement of the flows of its output capture under the run's own policy has an objection; so it is of the
   -- flows that a watcher tells of the file
   pub unobjected : RunsAreUnobjected
   pub watched_unobjected : WatchedRunsAreUnobjected
+  -- the bytes of a flow are read in one way: so a judgement of them is one
+  pub one_reading : ReadingsAreOne
+  -- what is watched in the records of a capture is one list of flows, and these have one judgement: so a judge has an objection to a
+  -- capture or none, and shows that one
+  pub judged : FlowsAreJudged
+  pub flows_one : FlowsAreOne
+  pub judgements_one : JudgementsAreOne
+  pub judged_once : RecordsHaveOneJudgement
+  -- the objection of a capture is that of its shortest front of records that has one
+  pub fronts_judged : FrontsAreJudged
+  pub shortest : ObjectionsAreOfShortestFronts
+  -- where it has none, whatever is put together of the packets of a flow, after each record, is a beginning of one stream, and that
+  -- stream decodes to what the policy lets through
+  pub flows_stay : FlowsGoOn
+  pub allowed : UnobjectedAreAllowed
   -- the bytes of each flow of a capture come in the order of its records; of such flows that begin with a SYN the judge's objection is the
   -- first of a review; and in a capture without tags these are the flows of the judge
   pub in_order : BytesComeInOrder
@@ -45,8 +70,13 @@ pub record HasLaws : Type 0 where
   pub syn_flows : SynFlowsAreWatched
   -- the record of each unit of a flow is the first with which the bytes of the flow reached its end
   pub fronts : RecordsComeFirst
-  -- each refused command has its line and, but in three cases, its reply
+  -- a command is admitted exactly where its station is the asset's, its form is read, and each of its acts is allowed by a rule that is not
+  -- spent; else it is refused
+  pub admits : AdmitsWhatIsAllowed
+  -- each refused command has its line and, but in three cases, its reply; and each admitted one its line where a rule with a log allowed
+  -- one of its acts
   pub told : RefusedAreTold
+  pub shown : ShownAreTold
   -- two runs of one policy over the same records have the same outputs and counts
   pub fixed : RecordsFixRuns
   -- the octets of a capture have one list of records with moments

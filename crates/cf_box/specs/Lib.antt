@@ -6,6 +6,7 @@ pub mod Laws
 pub mod Learn
 pub mod Limits
 pub mod Migrate
+pub mod Numbers
 pub mod Packets
 pub mod PolicyFile
 pub mod Relay

@@ -1,4 +1,4 @@
--- `migrate POLICY OUT`: a policy is written as a document of version 2 that means the same: `KeepsMeaning`.
+-- `migrate POLICY OUT`: a policy is written as a document of version 2, or 3, that means the same: `KeepsMeaning`.
 use Rattle.std.specs.Prelude.{◌≡◌, ℕ, List, [], ◌∷◌}
 use Rattle.cf_outside.specs.Frames.{KeepsOtherFiles}
 use Rattle.cf_policy.specs.declared.Policy.{Policy}

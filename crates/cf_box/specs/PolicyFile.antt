@@ -1,10 +1,12 @@
 -- The policy that a file holds, `HasPolicy`, and the asset of a name, `FindsAsset`.
-use Rattle.std.specs.Prelude.{◌≡◌, ℕ, List, Option, Some, Result, Ok, Err, length, bytes_eq, find}
+use Rattle.std.specs.Prelude.{◌≡◌, ℕ, false, List, Option, Some, Result, Ok, Err, length, bytes_eq, find}
 use Rattle.std.specs.List.{sum_by}
+use Rattle.toml.specs.Text.{IsDocumentText}
 use Rattle.cf_outside.specs.Files.{Content, untold, absent, holds, IsPartly, IsWhole, content_after_write}
 use Rattle.cf_policy.specs.declared.Asset.{Asset}
 use Rattle.cf_policy.specs.declared.Policy.{Policy}
 use Rattle.cf_policylang.specs.Documents.{policy_meaning, text_meaning}
+use Rattle.cf_policylang.specs.Migrating.{migrated}
 use Rattle.cf_policylang.specs.declared.PolicyRefusal.{PolicyRefusal}
 use Rattle.cf_ending.specs.declared.Done.{Done}
 use Rattle.cf_ending.specs.declared.Done.TheVariants as done
@@ -64,15 +66,18 @@ rule_count assets = sum_by (λ a. length a.rules) assets
 abbrev pub counted : Policy → Done
 counted p = done.Checked (length p.assets) (rule_count p.assets)
 
--- the file was created and holds a text that means exactly this policy, its size left aside
+-- the file was created and holds a text that means exactly this policy, its size left aside. It is a document of the least version, 2 or 3,
+-- that can state the policy, with a set for each list of points that two rules state
 pub record HoldsPolicyText (p : Policy) (before after : Content) : Type 0 where
   pub text : List ℕ
+  pub is_document : IsDocumentText false (migrated p) text
   pub means : text_meaning text ≡ Ok p
   pub in_file : after ≡ content_after_write before text
 
 -- it is as it was, or was created and holds a beginning of such a text
 pub record HoldsPolicyPart (p : Policy) (before after : Content) : Type 0 where
   pub text : List ℕ
+  pub is_document : IsDocumentText false (migrated p) text
   pub means : text_meaning text ≡ Ok p
   pub in_file : IsPartly text before after
 

@@ -23,7 +23,7 @@ use Rattle.cf_box.specs.Ends.{CutsCapture, CutsStream, Denies, EndsIdle, Exceeds
 use Rattle.cf_box.specs.Ends.{ExceedsRules}
 use Rattle.cf_box.specs.Judge.{KeepsPolicy, NeverObjects}
 use Rattle.cf_box.specs.Watching.{WatchCuts, WatchRefuses}
-use Rattle.cf_box.specs.Learn.{NeverTooMuch}
+use Rattle.cf_box.specs.Learn.{Learns, NeverTooMuch}
 use Rattle.cf_ending.specs.Outside.{Outside, ReadFailed, WriteFailed}
 use Rattle.cf_box.specs.Packets.{ListingCuts, ListingRefuses}
 use Rattle.cf_box.specs.PolicyFile.{FindsAsset, TellsPolicy, asset_named}
@@ -37,6 +37,7 @@ use Rattle.cf_ending.specs.declared.Done.{Done}
 use Rattle.cf_watch.specs.declared.fault.TheConstants.{CAPTURE_LIMIT}
 use Rattle.cf_sift.specs.Names.{SiftNamesValue}
 use Rattle.cf_sift.specs.Stored.{stored_history}
+use Rattle.cf_unobjected.specs.Allowed.{AreAllowedFlows}
 
 -- the words are a command of which this is so
 abbrev pub OfCommand : Option Command → (Command → Type 0) → Type 0
@@ -87,9 +88,11 @@ AsksItsPair words = OfCommand words AsksPair
 abbrev pub Includes : (policy other : List ℕ) → Outside → Type 0
 Includes policy other before = OfPolicies policy other before IsIncluded
 
--- nothing that clients sent in a capture is objected to
+-- nothing that clients sent in a capture is objected to; and whatever is put together of the packets of a flow is a beginning of one
+-- stream, which decodes to what the policy lets through
 abbrev pub JudgedClean : (policy capture : List ℕ) → Outside → Type 0
-JudgedClean policy capture before = (d : Done) × KeepsPolicy policy capture before d
+JudgedClean policy capture before =
+    (d : Done) × (keeps : KeepsPolicy policy capture before d) × AreAllowedFlows keeps.0.assets keeps.2.has_flows.newest
 
 -- of the commands in the stream exactly those went to the output that the bytes of the policy allow, in their spelling
 -- and at their place; and no rule let more of them through than its rate
@@ -243,6 +246,20 @@ abbrev pub TellsRemarks : Command → Outside → Type 0
 TellsRemarks (Review policy capture log) before = TellsRemark policy capture before
 TellsRemarks _ before = ⊥
 
+-- the policy and the capture are told and in form, and no policy is learned of them: some asset would have too many rules
+pub record TellsTooMuch (policy capture : List ℕ) (before : Outside) : Type 0 where
+  pub known : TellsPolicy (before.files.content policy)
+  pub bytes : List ℕ
+  pub told : before.files.content capture ≡ holds bytes
+  pub ends : HasRecordsToItsEnd bytes
+  pub short : length bytes ≤ CAPTURE_LIMIT
+  pub none_learned : (learned : Policy) → Learns policy capture before learned → ⊥
+
+-- the command is to learn of files that are told and in form and of which none is learned
+abbrev pub TellsTooManyRules : Command → Outside → Type 0
+TellsTooManyRules (Learn policy capture out) before = TellsTooMuch policy capture before
+TellsTooManyRules _ before = ⊥
+
 -- a file is told, and is refused as a capture so
 pub record TellsRefusal (Refused : Content → CaptureRefusal → Type 0) (file : Content) : Type 0 where
   pub bytes : List ℕ
@@ -298,6 +315,7 @@ pub record IsExact (c : Command) (before after : Outside) (status : ℕ) : Type 
   pub cut : TellsCut c before after.pair → (status ≡ 12) ⊎ YieldsWritten before after status
   pub idle : TellsIdle c before after.pair → (status ≡ 9) ⊎ YieldsWritten before after status
   pub denied : TellsDenial c before → ((status ≡ 15) ⊎ (status ≡ 17)) ⊎ Yields before after status
+  pub rules : TellsTooManyRules c before → (status ≡ 16) ⊎ Yields before after status
   pub remarked : TellsRemarks c before → (status ≡ 15) ⊎ YieldsWritten before after status
 
 -- the status is exact for the command that the words are, if they are one

@@ -8,6 +8,7 @@ mod laws;
 mod learn;
 mod limits;
 mod migrate;
+mod numbers;
 mod packets;
 mod policy_file;
 mod relay;

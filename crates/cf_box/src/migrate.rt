@@ -1,4 +1,4 @@
-//! `migrate POLICY OUT`: a policy is written as a document of version 2 that means the same.
+//! `migrate POLICY OUT`: a policy is written as a document of version 2, or 3, that means the same.
 ghost use Rattle.cf_words.specs.Command.{Migrate};
 ghost use Rattle.cf_box.specs.Ends.{Meets};
 ghost use Rattle.cf_ending.specs.Outside.{FilesNeverFall, SinkValue, files_value, outside};

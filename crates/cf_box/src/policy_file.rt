@@ -82,7 +82,8 @@ pub(crate) fn name_at(policy: &Policy, place: u32) -> AssetName
     text
 }
 
-/// Writes a policy to a file, which is created after all else, as a document of version 2 that means exactly the policy.
+/// Writes a policy to a file, which is created after all else, as a document of version 2, or 3, that means exactly the
+/// policy.
 pub(crate) fn write_policy<F: Files>(
     alloc: Global,
     policy: &Policy,

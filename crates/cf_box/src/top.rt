@@ -6,6 +6,7 @@ ghost use Rattle.cf_box.specs.Laws.{HasLaws};
 ghost use Rattle.cf_box.specs.Learn.{HoldsLearned};
 ghost use Rattle.cf_box.specs.Limits.{HasLimits};
 ghost use Rattle.cf_box.specs.Migrate.{KeepsMeaning};
+ghost use Rattle.cf_box.specs.Numbers.{HasNumbers};
 ghost use Rattle.cf_ending.specs.Outside.{FilesNeverFall, files_value, outside_value};
 ghost use Rattle.cf_box.specs.Packets.{Lists};
 ghost use Rattle.cf_box.specs.Review.{ReviewHolds};
@@ -28,6 +29,7 @@ use crate::laws::laws_hold;
 use crate::learn::learn_capture;
 use crate::limits::limits_are;
 use crate::migrate::migrate;
+use crate::numbers::numbers_are;
 use crate::packets::packets;
 use crate::relay::relay;
 use crate::review::review_capture;
@@ -210,13 +212,15 @@ pub fn box_main<F: Files, O: Sink, P: Pair>(
         F.content files.new ≡ F.content files.old }
     ensures pair { AsksItsPair (command_of (map string_bytes words.now)) ⊎ (pair.new ≡ pair.old) }
 
-    // The numbers of the limits that the definitions of these clauses cite by name.
+    // The limits and the other numbers that the definitions of these clauses cite by name.
     ensures limits { HasLimits }
+    ensures numbers { HasNumbers }
 
     // What is so of every run and of every capture.
     ensures laws { HasLaws }
 {
     limits_are();
+    numbers_are();
     laws_hold();
     lane_passes_allowed();
     rates_hold();

@@ -73,7 +73,7 @@ pub returns-in-Some-clause-cells : goal.returns-in-Some-clause-cells
 returns-in-Some-clause-cells g c = λ is. subst (λ words. ExceedsItsCells words (before g c)) c.in-Some.ensures.command (cells_told (explains g c) is)
 
 pub returns-in-Some-clause-judged : goal.returns-in-Some-clause-judged
-returns-in-Some-clause-judged g c = λ policy capture is. judged_told (explains g c) policy capture (let known = c.in-Some.ensures.command in cc)
+returns-in-Some-clause-judged g c = λ policy capture is. judged_told (explains g c) c.laws_hold.ensures.allowed policy capture (let known = c.in-Some.ensures.command in cc)
 
 pub returns-in-Some-clause-includes : goal.returns-in-Some-clause-includes
 returns-in-Some-clause-includes g c = λ policy other is. includes_told (explains g c) policy other (let known = c.in-Some.ensures.command in cc)

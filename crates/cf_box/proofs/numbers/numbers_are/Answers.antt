@@ -1,0 +1,18 @@
+use Rattle.std.proofs.Common.{refl}
+use Rattle.cf_box.proofs.numbers.numbers_are.Goals as goal
+
+pub returns : goal.returns
+returns c = record {
+  magics = record { microseconds = refl; nanoseconds = refl };
+  blocks = record { section = refl; byte_order = refl; interface = refl; packet = refl };
+  refusals = record { length = refl; block = refl; section = refl; interface = refl; resolution = refl };
+  cells = record { most = refl; cells = λ ours other. refl };
+  learned = record {
+    runs = λ part next full. full;
+    more = λ seen many. many.many;
+    too_many = λ seen sorted same ascends many. record { sorted = sorted; same = same; ascends = ascends; many = many };
+  };
+  bytes = refl;
+  shown = refl;
+  name = refl;
+}
