@@ -1,14 +1,16 @@
 //! What is allowed at a key.
+use crate::naming::Scope;
 use crate::unknown::Level;
+use cf_policy::Protocol;
 use cf_policylang::Key;
 use toml::{Table, Value};
 
 /// What is allowed at a key, as a policy's text writes it. Ranges stand as `docs/POLICY.md` has them.
-pub(crate) fn allowed(key: Key, table: &Table) -> &'static str {
+pub(crate) fn allowed(key: Key, scope: &Scope, table: &Table) -> &'static str {
     match key {
         Key::Nothing => "keys are in docs/POLICY.md",
         Key::Version =>
-            "write version = 1 above the first table, or version = 2 where rules name sets of points",
+            "write version = 1 above the first table, version = 2 where rules name sets of points, or version = 3 where rules have a log or names of codes and groups",
         Key::Set => "each set of points is a table [[set]] with a name and points, at most 64",
         Key::Asset =>
             "each controller is a table [[asset]], at most 256; a policy of none has asset = []",
@@ -27,9 +29,8 @@ pub(crate) fn allowed(key: Key, table: &Table) -> &'static str {
         Key::Clients => {
             "clients are 1 to 64 addresses or ranges, as clients = [\"10.0.0.5\", \"10.0.0.8..10.0.0.9\"]"
         }
-        Key::Codes => "codes are 1 to 64 whole numbers from 0 to 255, as codes = [3, 16]",
-        Key::Groups =>
-            "groups are 1 to 64 numbers or ranges from 0 to 65535, as groups = [\"1\", \"3..5\"]",
+        Key::Codes => codes(scope),
+        Key::Groups => groups(scope),
         Key::Points => {
             "points are 1 to 64 numbers or ranges from 0 to 4294967295, as points = [\"7\", \"40..49\"]"
         }
@@ -38,6 +39,8 @@ pub(crate) fn allowed(key: Key, table: &Table) -> &'static str {
         }
         Key::Seconds =>
             "the time of a rate is 1 to 86400 seconds, as seconds = 60, beside most = 2",
+        Key::Log =>
+            "a rule that allows may have log = true, by which each command that it lets through has a line in the log",
         Key::Values => {
             "values are 1 to 64 numbers or ranges from -2147483648 to 4294967295, as values = [\"-5..5\"]"
         }
@@ -52,6 +55,35 @@ pub(crate) fn apart(key: Key, level: Level) -> &'static str {
         (_, Level::Rule) =>
             "no two rules of an asset have the same name, and none has the name default, station or form",
         _ => "no two assets have the same name",
+    }
+}
+
+/// The codes of a rule, with names where its version reads them.
+fn codes(scope: &Scope) -> &'static str {
+    match (scope.names_codes, scope.protocol) {
+        (true, Some(Protocol::Modbus)) => {
+            "codes are 1 to 64 whole numbers from 0 to 255 or names of functions, as codes = [3, \"write single register\"]"
+        }
+        (true, Some(Protocol::Dnp3)) => {
+            "codes are 1 to 64 whole numbers from 0 to 255 or names of functions, as codes = [1, \"direct operate\"]"
+        }
+        (true, Some(Protocol::Iec104)) => {
+            "codes are 1 to 64 whole numbers from 0 to 255 or names of types, as codes = [100, \"C_SC_NA_1\"]"
+        }
+        _ => "codes are 1 to 64 whole numbers from 0 to 255, as codes = [3, 16]",
+    }
+}
+
+/// The groups of a rule, with names where its version reads them.
+fn groups(scope: &Scope) -> &'static str {
+    match (scope.names_codes, scope.protocol) {
+        (true, Some(Protocol::Dnp3)) => {
+            "groups are 1 to 64 numbers or ranges from 0 to 65535 or names, as groups = [\"3073\", \"g60v1..g60v4\"]"
+        }
+        (true, Some(Protocol::Iec104)) => {
+            "groups are 1 to 64 numbers or ranges from 0 to 65535 or names, as groups = [\"6\", \"deactivation\"]"
+        }
+        _ => "groups are 1 to 64 numbers or ranges from 0 to 65535, as groups = [\"1\", \"3..5\"]",
     }
 }
 

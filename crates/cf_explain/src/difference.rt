@@ -1,7 +1,8 @@
 //! Why one policy is not included in another: which rule of the first allows an act, and why the second refuses it.
 ghost use Rattle.cf_policy.specs.Within.{IsWithin};
 
-use crate::code_names::code_name;
+use crate::code_words::code_words;
+use crate::commands::{Found, Shown, first_of_commands};
 use crate::page::Page;
 use crate::policy::push_rule_place;
 use crate::quote::{push_quoted, push_titled};
@@ -17,13 +18,6 @@ pub struct PolicyFile<'a> {
     pub name: &'a str,
     pub text: &'a [u8],
     pub policy: &'a Policy,
-}
-
-/// An act of a client: its address of 32 bits, the first octet the highest.
-#[derive(Clone, Copy)]
-struct Shown {
-    client: u32,
-    act: Act,
 }
 
 /// Why the first policy is not included in the second, in two lines: of the first act that only the first allows, the rule that
@@ -140,7 +134,8 @@ fn push_cells(out: &mut Page, ours: &PolicyFile<'_>, other: &PolicyFile<'_>, pla
     out.push(" cells\n  fewer entries in the rules of one code make fewer");
 }
 
-/// Which rule of the first policy allows an act, and what of the second refuses it.
+/// Which rule of the first policy allows an act, and what of the second refuses it. Where no command has the act, that is said, and
+/// the first that a command has.
 fn push_difference(
     out: &mut Page,
     ours: &PolicyFile<'_>,
@@ -151,17 +146,63 @@ fn push_difference(
     let Some(asset) = asset_at(ours.policy, place) else {
         return;
     };
+    let partner = asset_named(other.policy, asset.name.as_str());
+    push_shown(out, ours, other, (place, asset), partner, shown);
+    if let Some((there, partner)) = partner {
+        if !is_of_command(asset.protocol, &shown.act) {
+            out.push(
+                "\n  no command has this act: a comparison goes over all numbers that rules can name",
+            );
+            push_of_commands(out, ours, other, (place, asset), (there, partner));
+        }
+    }
+}
+
+/// An act, the rule that allows it there, and what refuses it here.
+fn push_shown(
+    out: &mut Page,
+    ours: &PolicyFile<'_>,
+    other: &PolicyFile<'_>,
+    (place, asset): (u32, &Asset),
+    partner: Option<(u32, &Asset)>,
+    shown: &Shown,
+) {
     push_decider(out, ours, place, asset, shown);
     push_act(out, asset.protocol, shown);
     out.push("\n  ");
-    if let Some((there, partner)) = asset_named(other.policy, asset.name.as_str()) {
+    if let Some((there, partner)) = partner {
         push_decider(out, other, there, partner, shown);
         out.push("it");
     }
-    if !is_of_command(asset.protocol, &shown.act) {
-        out.push(
-            "\n  no command has this act: a comparison goes over all numbers that rules can name",
-        );
+}
+
+/// The first act of a command that is allowed there and refused here, or that this asset has none.
+fn push_of_commands(
+    out: &mut Page,
+    ours: &PolicyFile<'_>,
+    other: &PolicyFile<'_>,
+    (place, asset): (u32, &Asset),
+    (there, partner): (u32, &Asset),
+) {
+    match first_of_commands(out.alloc, asset, partner) {
+        Ok(Found::Beyond(shown)) => {
+            out.push("\n  the first that a command has:\n");
+            push_shown(
+                out,
+                ours,
+                other,
+                (place, asset),
+                Some((there, partner)),
+                &shown,
+            );
+        }
+        Ok(Found::Nothing) => {
+            out.push("\n  of the acts that commands have, this asset allows none beyond");
+        }
+        Ok(Found::TooMany) => {
+            out.push("\n  the acts that commands have are too many to look at: some may differ");
+        }
+        Err(_) => out.run_out(),
     }
 }
 
@@ -220,7 +261,7 @@ fn lacking(reason: Reason) -> &'static str {
 fn push_act(out: &mut Page, protocol: Protocol, shown: &Shown) {
     let act = &shown.act;
     out.push_number_after("code ", u64::from(act.code));
-    if let Some(name) = code_name(protocol, act.code) {
+    if let Some(name) = code_words(protocol, act.code) {
         out.push_all(&[" (", name, ")"]);
     }
     out.push_number_after(", group ", u64::from(act.group));

@@ -1,8 +1,9 @@
 //! What is wrong with an entry of a list, or with a name.
+use crate::naming::{Scope, code_fault, group_fault, is_group_name};
 use cf_policy::{
     HIGHEST_CODE, HIGHEST_GROUP, HIGHEST_POINT, HIGHEST_VALUE, LONGEST_NAME, LOWEST_VALUE,
 };
-use cf_policylang::{Key, address};
+use cf_policylang::{Key, address, group_named};
 use toml::Value;
 
 /// Why a text is no number from `low` to `high` as it is printed, if it is none.
@@ -51,7 +52,7 @@ fn misread(key: Key, text: &str) -> &'static str {
     } else if text.contains(".") {
         "numbers have no point"
     } else if text.starts_with("@") {
-        "sets are named in the points of rules alone, and in version 2"
+        "sets are named in the points of rules alone, and in versions 2 and 3"
     } else if text.contains("-") {
         "a range has two points between its numbers, as 40..49"
     } else if text.contains(" ") {
@@ -87,6 +88,36 @@ fn span_fault(key: Key, low: i64, high: i64, text: &str) -> Option<&'static str>
     }
 }
 
+/// Why a text is no group and no range of groups, by numbers or by names, if it is neither.
+fn groups_fault(scope: &Scope, text: &str) -> Option<&'static str> {
+    let (first, last) = text.split_once("..").unwrap_or((text, text));
+    let fault = group_end_fault(scope, first).or(group_end_fault(scope, last));
+    if fault.is_some() {
+        return fault;
+    }
+    match (group_number(scope, first), group_number(scope, last)) {
+        (Some(first), Some(last)) if first > last => Some("the first number is above the second"),
+        _ => None,
+    }
+}
+
+/// Why a text is no group, if it is none.
+fn group_end_fault(scope: &Scope, text: &str) -> Option<&'static str> {
+    if is_group_name(scope, text) {
+        return None;
+    }
+    let fault = number_fault(Key::Groups, 0, HIGHEST_GROUP, text)?;
+    Some(group_fault(scope, text).unwrap_or(fault))
+}
+
+/// The number of a group.
+fn group_number(scope: &Scope, text: &str) -> Option<i64> {
+    match text.parse::<i64>() {
+        Ok(number) => Some(number),
+        Err(_) => Some(i64::from(group_named(scope.protocol?, text)?)),
+    }
+}
+
 /// Why a text is no address and no range of addresses, if it is neither.
 fn client_fault(text: &str) -> Option<&'static str> {
     if text.contains("/") {
@@ -119,13 +150,14 @@ fn point_fault(names_sets: bool, text: &str) -> Option<&'static str> {
     }
 }
 
-/// Why an entry of the kind of a key's list is refused, if it is; in the points of some rules sets may be named.
-fn entry_fault(key: Key, names_sets: bool, value: &Value) -> Option<&'static str> {
+/// Why an entry of the kind of a key's list is refused, if it is.
+fn entry_fault(key: Key, scope: &Scope, value: &Value) -> Option<&'static str> {
     match (key, value) {
         (Key::Codes, Value::Integer(code)) => outside(0, HIGHEST_CODE, *code),
+        (Key::Codes, Value::String(text)) => code_fault(scope, text.as_str()),
         (Key::Clients, Value::String(text)) => client_fault(text.as_str()),
-        (Key::Groups, Value::String(text)) => span_fault(key, 0, HIGHEST_GROUP, text.as_str()),
-        (Key::Points, Value::String(text)) => point_fault(names_sets, text.as_str()),
+        (Key::Groups, Value::String(text)) => groups_fault(scope, text.as_str()),
+        (Key::Points, Value::String(text)) => point_fault(scope.names_sets, text.as_str()),
         (Key::Values, Value::String(text)) => span_fault(
             key,
             LOWEST_VALUE,
@@ -137,15 +169,15 @@ fn entry_fault(key: Key, names_sets: bool, value: &Value) -> Option<&'static str
 }
 
 /// The first entry of a list that is refused: its number from 1, and why.
-pub(crate) fn first_fault(
+pub(crate) fn first_fault<'a>(
     key: Key,
-    names_sets: bool,
-    entries: &[Value],
-) -> Option<(usize, &Value, &'static str)> {
+    scope: &Scope,
+    entries: &'a [Value],
+) -> Option<(usize, &'a Value, &'static str)> {
     let mut number = 0usize;
     for entry in entries {
         number = number.saturating_add(1);
-        if let Some(fault) = entry_fault(key, names_sets, entry) {
+        if let Some(fault) = entry_fault(key, scope, entry) {
             return Some((number, entry, fault));
         }
     }

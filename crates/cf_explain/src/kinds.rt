@@ -1,12 +1,14 @@
 //! A value of another kind than its key's.
+use crate::naming::{Scope, name_hint};
 use crate::page::Page;
 use crate::quote::push_value;
 use cf_policylang::Key;
 use toml::Value;
 
 /// What a key's value is.
-fn wanted(key: Key) -> &'static str {
+fn wanted(key: Key, scope: &Scope) -> &'static str {
     match key {
+        Key::Codes if scope.names_codes => "a list of whole numbers and names",
         Key::Nothing => "a table",
         Key::Version | Key::Port | Key::Station | Key::Master | Key::Most | Key::Seconds =>
             "a whole number",
@@ -14,12 +16,14 @@ fn wanted(key: Key) -> &'static str {
         Key::Set | Key::Asset | Key::Rule => "a list of tables",
         Key::Clients | Key::Groups | Key::Points | Key::Values => "a list of texts",
         Key::Codes => "a list of whole numbers",
+        Key::Log => "true or false",
     }
 }
 
 /// What an entry of a key's list is.
-fn wanted_entry(key: Key) -> &'static str {
+fn wanted_entry(key: Key, scope: &Scope) -> &'static str {
     match key {
+        Key::Codes if scope.names_codes => "a whole number, or a name between quotation marks",
         Key::Codes => "a whole number",
         Key::Set | Key::Asset | Key::Rule => "a table",
         _ => "a text between quotation marks",
@@ -27,20 +31,24 @@ fn wanted_entry(key: Key) -> &'static str {
 }
 
 /// Whether a value is of the kind that an entry of a key's list has.
-fn is_entry(key: Key, value: &Value) -> bool {
+fn is_entry(key: Key, scope: &Scope, value: &Value) -> bool {
     match key {
-        Key::Codes => matches!(value, Value::Integer(_)),
+        Key::Codes => match value {
+            Value::Integer(_) => true,
+            Value::String(_) => scope.names_codes,
+            _ => false,
+        },
         Key::Set | Key::Asset | Key::Rule => matches!(value, Value::Table(_)),
         _ => matches!(value, Value::String(_)),
     }
 }
 
 /// The first entry of another kind, with its number from 1.
-fn first_other(key: Key, entries: &[Value]) -> Option<(usize, &Value)> {
+fn first_other<'a>(key: Key, scope: &Scope, entries: &'a [Value]) -> Option<(usize, &'a Value)> {
     let mut number = 0usize;
     for entry in entries {
         number = number.saturating_add(1);
-        if !is_entry(key, entry) {
+        if !is_entry(key, scope, entry) {
             return Some((number, entry));
         }
     }
@@ -71,16 +79,27 @@ fn list_for(key: Key, value: &Value) -> &[Value] {
 }
 
 /// What is wrong with the kind of a value.
-pub(crate) fn push_wrong_kind(out: &mut Page, key: Key, value: &Value) {
-    match first_other(key, list_for(key, value)) {
+pub(crate) fn push_wrong_kind(out: &mut Page, key: Key, scope: &Scope, value: &Value) {
+    match first_other(key, scope, list_for(key, value)) {
         Some((number, entry)) => {
             push_entry(out, key, number, entry);
-            out.push_all(&[", and has to be ", wanted_entry(key)]);
+            out.push_all(&[", and has to be ", wanted_entry(key, scope)]);
+            push_hint(out, key, scope, entry);
         }
         None => {
             push_keyed(out, key.as_str(), value);
-            out.push_all(&[", and has to be ", wanted(key), brackets(key, value)]);
+            out.push_all(&[", and has to be ", wanted(key, scope), brackets(key, value)]);
         }
+    }
+}
+
+/// What is said of an entry that is a name which this version or this protocol does not read.
+fn push_hint(out: &mut Page, key: Key, scope: &Scope, entry: &Value) {
+    let Value::String(text) = entry else {
+        return;
+    };
+    if let Some(hint) = name_hint(key, scope, text.as_str()) {
+        out.push_all(&["; ", hint]);
     }
 }
 

@@ -6,13 +6,15 @@
 mod allowed;
 mod block;
 mod capture;
-mod code_names;
+mod code_words;
+mod commands;
 mod difference;
 mod entries;
 mod found;
 mod gathered;
 mod kinds;
 mod link;
+mod naming;
 mod nearest;
 mod outputs;
 mod page;

@@ -4,7 +4,7 @@ use crate::page::Page;
 use crate::place::{Target, TextPlace, find_place, is_line_end, table_at};
 use crate::quote::push_shown;
 use crate::unknown::{Level, unknown_key};
-use crate::wrong::{Case, cause_of, push_where, push_wrong};
+use crate::wrong::{Case, cause_of, push_where, push_wrong, scope_of};
 use cf_policylang::{Cause, Key, LONGEST_TEXT, PolicyRefusal};
 use std::alloc::{AllocError, Global};
 use toml::Table;
@@ -154,7 +154,7 @@ fn allowed_at(case: &Case<'_>) -> &'static str {
         Cause::Duplicate => apart(case.key, Level::of(case.asset, case.rule)),
         Cause::UnknownSet =>
             "a set of points is a table [[set]] with a name and points, and a rule names it as points = [\"@low\"]",
-        _ => allowed(case.key, case.table),
+        _ => allowed(case.key, &scope_of(case), case.table),
     }
 }
 

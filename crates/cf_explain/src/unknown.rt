@@ -13,8 +13,8 @@ const ASSET_KEYS: [&str; 7] = [
     "name", "address", "port", "protocol", "station", "master", "rule",
 ];
 
-const RULE_KEYS: [&str; 9] = [
-    "name", "action", "clients", "codes", "groups", "points", "values", "most", "seconds",
+const RULE_KEYS: [&str; 10] = [
+    "name", "action", "clients", "codes", "groups", "points", "values", "most", "seconds", "log",
 ];
 
 /// What a key stands in.
@@ -59,13 +59,13 @@ impl Level {
     pub(crate) fn allowed(self) -> &'static str {
         match self {
             Level::Document =>
-                "above the first table the document has version = 1, and then tables [[asset]]; version = 2 has tables [[set]] too",
+                "above the first table the document has version = 1, and then tables [[asset]]; versions 2 and 3 have tables [[set]] too",
             Level::Set => "a set of points has a name and points, and no other keys",
             Level::Asset => {
                 "an asset has name, address, port, protocol, station, for DNP3 master, and tables [[asset.rule]]"
             }
             Level::Rule =>
-                "a rule has name, action, codes, and may have clients, groups, points, values, most and seconds",
+                "a rule has name, action, codes, and may have clients, groups, points, values, most and seconds, and in version 3 log",
         }
     }
 }
@@ -80,7 +80,11 @@ pub(crate) fn unknown_key(level: Level, table: &Table) -> &str {
     }
     match level {
         Level::Document => "set",
-        Level::Rule => "most",
+        Level::Rule => if table.contains_key("log") {
+            "log"
+        } else {
+            "most"
+        },
         Level::Set | Level::Asset => "master",
     }
 }
@@ -88,7 +92,10 @@ pub(crate) fn unknown_key(level: Level, table: &Table) -> &str {
 /// What is wrong with a key that only some tables of a level have.
 fn not_here(level: Level, key: &str) -> Option<&'static str> {
     match (level, key) {
-        (Level::Document, "set") => Some("`set` is a key of version 2 alone"),
+        (Level::Document, "set") => Some("`set` is a key of versions 2 and 3 alone"),
+        (Level::Rule, "log") => Some(
+            "`log` is a key of version 3 alone, and there of rules that allow",
+        ),
         (Level::Asset, "master") => Some("`master` is a key of DNP3 assets alone: leave it out"),
         (Level::Rule, "most") => Some(
             "`most` is a key of rules that allow alone: leave it and `seconds` out",

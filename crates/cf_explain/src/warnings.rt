@@ -15,6 +15,9 @@ use toml::{Table, Value};
 /// How many warnings are written out.
 const MOST: u32 = 20;
 
+/// That a rule whose rate is spent decides all the same: it refuses, and no later rule is asked.
+const SPENT: &str = ", also while its rate is spent";
+
 /// The key of a document's sets.
 const SETS: &[u8] = b"set";
 
@@ -252,7 +255,12 @@ fn push_silence(out: &mut Page, subject: &Subject<'_>, silence: Silence) {
             number,
             ", but for what still earlier rules refuse",
         ),
-        Silence::All => out.push("the rules before it together allow all that it names"),
+        Silence::All => {
+            out.push("the rules before it together allow all that it names");
+            if some_rated(subject) {
+                out.push(", as often as their rates let");
+            }
+        }
         Silence::Part => out.push(
             "the rules before it together decide all that it names, and not all of them refuse",
         ),
@@ -285,7 +293,21 @@ fn push_told(out: &mut Page, subject: &Subject<'_>, told: Warning) {
 /// That earlier rules together have all that this one has.
 fn push_together(out: &mut Page, subject: &Subject<'_>) {
     out.push("it decides nothing: the rules before it together have all that it has");
+    if some_rated(subject) {
+        out.push(SPENT);
+    }
     push_unrated(out, subject);
+}
+
+/// Whether some rule before this one has a rate.
+fn some_rated(subject: &Subject<'_>) -> bool {
+    subject
+        .asset
+        .rules
+        .as_slice()
+        .iter()
+        .take((subject.rule_number as usize).saturating_sub(1))
+        .any(|rule| rule.rate.is_some())
 }
 
 /// The points of a rule that never come with a code, and those that do.
@@ -355,7 +377,7 @@ fn push_what(out: &mut Page, subject: &Subject<'_>, what: What) {
             push_reason(out, subject, code, why);
         }
         What::Reads => out.push(
-            "the reads of code 23 have no value, so it has the writes alone; without values it has both",
+            "the reads of code 23 have no value, so a rule that states values has none of them",
         ),
         What::Covered(earlier) => push_covered(out, subject, earlier),
     }
@@ -366,7 +388,10 @@ fn push_covered(out: &mut Page, subject: &Subject<'_>, earlier: usize) {
     out.push("it decides nothing: ");
     if let Some(first) = subject.asset.rules.as_slice().get(earlier) {
         push_earlier(out, earlier, first);
-        out.push(before_it(first.action, subject.rule.action));
+        out.push(before_it(earlier, first.action, subject.rule.action));
+        if first.rate.is_some() {
+            out.push(SPENT);
+        }
     }
     push_unrated(out, subject);
 }
@@ -378,10 +403,15 @@ fn push_unrated(out: &mut Page, subject: &Subject<'_>) {
     }
 }
 
-/// What an earlier rule does of all that a later one has.
-fn before_it(first: Action, later: Action) -> &'static str {
-    match (first, later) {
-        (Action::Refuse, Action::Allow) => " stands before it and refuses all that it would allow",
+/// What the rule of a number, from 0, does of all that a later one has. Rules before it may have decided some of that.
+fn before_it(number: usize, first: Action, later: Action) -> &'static str {
+    match (number, first, later) {
+        (0, Action::Refuse, Action::Allow) => {
+            " stands before it and refuses all that it would allow"
+        }
+        (_, Action::Refuse, Action::Allow) => {
+            " stands before it and refuses all that it has, but for what still earlier rules decide"
+        }
         _ => " stands before it and has all that it has",
     }
 }

@@ -1,6 +1,7 @@
 //! What is wrong with a policy that is TOML, by the cause of its refusal.
 use crate::entries::{address_fault, first_fault, name_fault};
 use crate::kinds::{entries_of, push_entry, push_keyed, push_wrong_kind};
+use crate::naming::{Scope, push_near_name};
 use crate::nearest::{is_near, push_meant};
 use crate::page::Page;
 use crate::place::table_at;
@@ -61,7 +62,7 @@ pub(crate) fn push_wrong(out: &mut Page, case: &Case<'_>) {
 /// What is wrong with the value of the key.
 fn push_wrong_value(out: &mut Page, case: &Case<'_>, value: &Value) {
     match case.cause {
-        Cause::WrongKind => push_wrong_kind(out, case.key, value),
+        Cause::WrongKind => push_wrong_kind(out, case.key, &scope_of(case), value),
         Cause::BadAddress | Cause::BadRange => push_bad(out, case, value),
         Cause::Duplicate => push_duplicate(out, case, value),
         Cause::TooMany => push_too_many(out, case.name, value),
@@ -108,18 +109,20 @@ fn push_bad_list(out: &mut Page, case: &Case<'_>, entries: &[Value]) {
         out.push_all(&["`", case.name, "` is an empty list"]);
         return;
     }
-    match first_fault(case.key, names_sets(case), entries) {
+    let scope = scope_of(case);
+    match first_fault(case.key, &scope, entries) {
         Some((number, entry, fault)) => {
             push_entry(out, case.key, number, entry);
             out.push_all(&[": ", fault]);
+            push_near_name(out, case.key, &scope, entry);
         }
         None => out.push_all(&["an entry of `", case.name, "` is out of its range"]),
     }
 }
 
-/// Whether the points of the table may name sets: those of a rule of version 2.
-fn names_sets(case: &Case<'_>) -> bool {
-    case.asset != 0 && matches!(case.document.get("version"), Some(Value::Integer(2)))
+/// What the entries of the table's lists may name.
+pub(crate) fn scope_of(case: &Case<'_>) -> Scope {
+    Scope::of(case.document, case.asset)
 }
 
 /// The first entry that names no set of the document, and a set that may be meant.

@@ -1,9 +1,11 @@
 //! What `--help` and `--version` print.
 
+use crate::source::{DATE, SOURCE};
+use std::alloc::Global;
 use std::io;
 
 /// The program's version, by Cargo's rules.
-const VERSION: &str = "0.1.0";
+const VERSION: &str = "0.2.0";
 
 const HELP: &str = "\
 cmdwall: a firewall for the commands of Modbus TCP, DNP3 and IEC 60870-5-104
@@ -11,17 +13,18 @@ cmdwall: a firewall for the commands of Modbus TCP, DNP3 and IEC 60870-5-104
 usage:
   cmdwall sift POLICY ASSET CLIENT STREAM OUT REPLIES LOG
       filters a stored stream of one client: OUT gets what the controller of ASSET would
-      get, REPLIES what the client would get, LOG a line for each refused command
+      get, REPLIES what the client would get, LOG a line for each refused command, and for
+      each admitted one that a rule with a log allows
   cmdwall run POLICY CAPTURE OUT LOG
       runs a policy over a capture of what reached the box: OUT gets the packets that the
-      box sends, LOG a line for each session that begins, ends or is cut, and for each
-      refused command
+      box sends, LOG a line for each session that begins, ends or is cut, for each refused
+      command, and for each admitted one that a rule with a log allows
   cmdwall relay POLICY ASSET PORT IDLES LOG
       stands between one client, which comes to PORT of this machine, and the controller of
       ASSET: what the policy refuses is answered and does not go on
   cmdwall serve POLICY SECONDS LOG NAME=A.B.C.D:PORT..
       serves the clients that come to each place, until it is ended: each is a relay to the
-      controller of the asset NAME
+      controller of the asset NAME; a client that no rule of it allows is closed at once
   cmdwall world SEED SESSIONS POLICY CAPTURE OUT LOG
       makes a policy and a capture of many sessions from a number, and runs the one over the
       other
@@ -34,8 +37,9 @@ usage:
       writes a policy with the assets of POLICY that allows exactly what clients sent them in
       a capture; read it before use
   cmdwall migrate POLICY OUT
-      writes a policy as a document of version 2, in which lists of points that several rules
-      have stand once, as sets: OUT means exactly what POLICY means
+      writes a policy as a document of version 2, or of version 3 where a rule has a log, in
+      which lists of points that several rules have stand once, as sets: OUT means exactly
+      what POLICY means
   cmdwall packets CAPTURE
       prints a line for each record of a capture: the fields of its TCP segment over IPv4,
       or why it has none
@@ -75,6 +79,8 @@ status:
   13  memory ran out
   15  POLICY allows what OTHER does not: the asset that OTHER lacks or the act is printed;
       or CAPTURE does not keep POLICY: judge prints the first objection, review counts them
+  16  CAPTURE of learn shows so much of the printed asset that it would have more than 1,024
+      rules
   17  the rules of the printed asset are too many to compare
 ";
 
@@ -163,9 +169,10 @@ example:
 const MIGRATE: &str = "\
 cmdwall migrate POLICY OUT
 
-writes a policy as a document of version 2 that means exactly the same
+writes a policy as a document of version 2, or of version 3 where a rule has a log, that means
+exactly the same
 
-  POLICY   a text in the policy language (docs/POLICY.md), of either version
+  POLICY   a text in the policy language (docs/POLICY.md), of any version
   OUT      is created behind all else, and gets the document: each list of points that two
            rules have at least is a set, the first 64 of them, named set1, set2 and so on
 
@@ -306,18 +313,20 @@ serves clients until it is ended: each that comes to a place gets a session of i
 controller of the asset, as in relay (docs/SERVE.md)
 
   POLICY   a text in the policy language (docs/POLICY.md)
-  SECONDS  after about how long a session in which nothing moves ends, 1 to 1000000; it takes
-           twice as long once one side has ended
-  LOG      is gone on with, and made where it is not there; it gets a line as each session
-           begins and ends, and for each refused command (docs/LOG.md)
+  SECONDS  after about how long a session in which nothing moves ends, 1 to 1000000
+  LOG      is gone on with, and made where it is not there, also once it is renamed away; it
+           gets a line as each session begins and ends, for each refused command, and before it
+           goes out for each admitted one that a rule with a log allows (docs/LOG.md)
   NAME=A.B.C.D:PORT
            an asset of the policy, and an address and a port of this machine at which its
            clients come; 0.0.0.0 is every address. One to 256 such words, no asset and no place
            twice
 
-At most 256 sessions stand at a time, and 32 of one asset; further clients wait. A line that
-cannot be appended ends the service, so that no command passes without its line. Standard error
-has where it listens, and what the system said of each connection that failed.
+At most 256 sessions stand at a time, and 32 of one asset; further clients wait. A client that
+no rule of the asset allows anything is closed as it comes. A line that cannot be appended ends
+the service: no command goes out behind a line that could not be written. Standard error
+has where it listens, and what the system said of each connection that failed; a line that it
+does not take at once is dropped and counted, so that no session waits for it.
 
 example:
   cmdwall serve examples/pump.toml 60 log.txt pump=127.0.0.1:5020
@@ -452,7 +461,12 @@ pub fn print_topic(rt: &impl Print, topic: Topic) -> io::Result<()> {
     print!(rt; "{text}")
 }
 
-/// Prints the program's name and version.
+/// Prints the program's name and version, the day of its source and the first digits of that source's sum.
 pub fn print_version(rt: &impl Print) -> io::Result<()> {
-    println!(rt; "cmdwall {VERSION}")
+    println!(rt; "cmdwall {VERSION} ({DATE}, source {SOURCE})")
+}
+
+/// The same, as a service says it.
+pub(crate) fn version_text(alloc: Global) -> io::Result<String> {
+    Ok(format!(in alloc; "version {VERSION} ({DATE}, source {SOURCE})")?)
 }

@@ -5,8 +5,9 @@ mod help;
 mod remark;
 mod say;
 mod service;
+mod source;
 mod why;
 
 pub use help::{Asked, print_help, print_topic, print_version, question_of};
-pub use service::{expect_service_files, explain_service};
+pub use service::{announce_service, expect_service_files, explain_service};
 pub use why::{expect_files, explain};

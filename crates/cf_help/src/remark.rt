@@ -5,8 +5,8 @@ use crate::why::policy_again;
 use cf_machine::{Gather, RealFiles};
 use cf_policy::Asset;
 use cf_remarks::{
-    Frames, Look, dropped_alone, dropped_text, has_gaps, learned_text, left_open, look_again,
-    read_summary, run_text,
+    Look, Reading, has_gaps, learned_text, left_open, look_again, read_summary, run_text,
+    survey_capture, survey_text,
 };
 use cf_run::{RunNames, Summary};
 use std::rt::Files as FileSystem;
@@ -76,7 +76,7 @@ fn look_beside<R: FileSystem + AllocGlobal>(
     look_again(rt.alloc(), assets, names, files, &mut others)
 }
 
-/// Says why no record is a packet, where a listing has a record that was dropped and that is so.
+/// Says why records were dropped, where the end of a listing has one.
 pub(crate) fn remark_on_listed<R: FileSystem + Eprint + AllocGlobal>(
     rt: &R,
     capture: &str,
@@ -86,60 +86,78 @@ pub(crate) fn remark_on_listed<R: FileSystem + Eprint + AllocGlobal>(
     if !printed.contains(" dropped ") {
         return Ok(());
     }
-    remark_on_dropped(rt, capture, Frames::AsTheyStand, files)
+    remark_on_unread(rt, &[], capture, Reading::FromSyn, files)
 }
 
-/// Says why no record of a capture is a packet, where that is so.
-fn remark_on_dropped<R: FileSystem + Eprint + AllocGlobal>(
+/// Says what of a capture is not read, of connections to these assets.
+fn remark_on_unread<R: FileSystem + Eprint + AllocGlobal>(
     rt: &R,
+    assets: &[Asset],
     capture: &str,
-    frames: Frames,
+    reading: Reading,
     files: &mut RealFiles<'_, R>,
 ) -> io::Result<()> {
     if !is_file(rt, capture) {
         return Ok(());
     }
-    match dropped_alone(rt.alloc(), capture, frames, files) {
-        Some(dropped) => say_lines(rt, dropped_text(rt.alloc(), &dropped)),
+    match survey_capture(rt.alloc(), assets, capture, reading, files) {
+        Some(found) => say_lines(rt, survey_text(rt.alloc(), &found, reading)),
         None => Ok(()),
     }
 }
 
-/// Where nothing was judged, says that a capture has no connection to an asset from its beginning on; and why no record is a packet,
-/// where that is so.
+/// The same, of connections to the assets of a policy's file.
+fn remark_on_capture<R: FileSystem + Eprint + AllocGlobal>(
+    rt: &R,
+    policy: &str,
+    capture: &str,
+    reading: Reading,
+    files: &mut RealFiles<'_, R>,
+) -> io::Result<()> {
+    if !is_file(rt, policy) {
+        return Ok(());
+    }
+    match policy_again(rt, policy, files) {
+        Some((read, _)) => remark_on_unread(rt, read.assets.as_slice(), capture, reading, files),
+        None => Ok(()),
+    }
+}
+
+/// Says first, where nothing was judged, that a capture has no connection to an asset from its beginning on; then what of it is not
+/// read.
 pub(crate) fn remark_on_judged<R: FileSystem + Eprint + AllocGlobal>(
     rt: &R,
+    policy: &str,
     capture: &str,
     printed: &str,
     files: &mut RealFiles<'_, R>,
 ) -> io::Result<()> {
-    if printed != "yes flows 0 commands 0\n" {
-        return Ok(());
+    if printed == "yes flows 0 commands 0\n" {
+        eprintln!(rt;
+            "cmdwall: note: no connection to an asset of POLICY begins in CAPTURE: no SYN goes to an asset's address and port"
+        )?;
     }
-    eprintln!(rt;
-        "cmdwall: note: no connection to an asset of POLICY begins in CAPTURE: no SYN goes to an asset's address and port"
-    )?;
-    remark_on_dropped(rt, capture, Frames::AsTheyStand, files)
+    remark_on_capture(rt, policy, capture, Reading::FromSyn, files)
 }
 
-/// Where nothing was reviewed, says that a capture has no connection to an asset at all; and why no record is a packet, where that is
-/// so.
+/// Says first, where nothing was reviewed, that a capture has no connection to an asset at all; then what of it is not read.
 pub(crate) fn remark_on_reviewed<R: FileSystem + Eprint + AllocGlobal>(
     rt: &R,
+    policy: &str,
     capture: &str,
     printed: &str,
     files: &mut RealFiles<'_, R>,
 ) -> io::Result<()> {
-    if !printed.starts_with("flows 0\n") {
-        return Ok(());
+    if printed.starts_with("flows 0\n") {
+        eprintln!(rt;
+            "cmdwall: note: no connection to an asset of POLICY is in CAPTURE: neither a SYN nor data goes to an asset's address and port"
+        )?;
     }
-    eprintln!(rt;
-        "cmdwall: note: no connection to an asset of POLICY is in CAPTURE: neither a SYN nor data goes to an asset's address and port"
-    )?;
-    remark_on_dropped(rt, capture, Frames::WithoutTags, files)
+    remark_on_capture(rt, policy, capture, Reading::Amid, files)
 }
 
-/// Says what each client sent in a capture that a policy was learned from, and what was left out; or why no record is a packet.
+/// Says first, where nothing was learned, that a capture has no connection to an asset from its beginning on; then what of it is not
+/// read, and what each client sent.
 pub(crate) fn remark_on_learned<R: FileSystem + Eprint + AllocGlobal>(
     rt: &R,
     policy: &str,
@@ -148,8 +166,11 @@ pub(crate) fn remark_on_learned<R: FileSystem + Eprint + AllocGlobal>(
     files: &mut RealFiles<'_, R>,
 ) -> io::Result<()> {
     if printed.ends_with(" 0\n") {
-        remark_on_dropped(rt, capture, Frames::AsTheyStand, files)?;
+        eprintln!(rt;
+            "cmdwall: note: nothing is learned: no command that can be read goes to an asset of POLICY in a connection that begins in CAPTURE"
+        )?;
     }
+    remark_on_capture(rt, policy, capture, Reading::FromSyn, files)?;
     if !is_file(rt, policy) || !is_file(rt, capture) {
         return Ok(());
     }

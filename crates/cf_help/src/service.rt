@@ -1,13 +1,16 @@
-//! What standard error says of a service that ended.
+//! What standard error says of a service as it begins, and as it ended.
 
+use crate::help::version_text;
 use crate::say::say;
 use crate::why::{explain_fault, explain_policy, explain_words, policy_again};
 use cf_explain::asset_message;
-use cf_machine::RealFiles;
-use cf_policy::Policy;
+use cf_machine::{Announcement, RealFiles};
+use cf_policy::{Asset, Policy};
 use cf_words::status::{NO_MEMORY, POLICY_REFUSED, READ_FAULT, UNKNOWN_ASSET, USAGE, WRITE_FAULT};
-use std::io;
+use std::alloc::Global;
+use std::net::Ipv4Addr;
 use std::rt::Files as FileSystem;
+use std::{fs, io};
 
 /// Notes which files the names of a service's policy and log stand for.
 pub fn expect_service_files<R: FileSystem>(
@@ -19,6 +22,96 @@ pub fn expect_service_files<R: FileSystem>(
         files.expect_output(log.as_str())?;
     }
     Ok(())
+}
+
+/// What is said of a service as it begins: the asset and the controller of each place, the program's version, and which assets of the
+/// policy have none. A policy that can be read but once, as from a pipe, is left to the service: then the names of the assets alone are
+/// said.
+pub fn announce_service<R: FileSystem + AllocGlobal>(
+    rt: &R,
+    words: &[String],
+    files: &mut RealFiles<'_, R>,
+) -> io::Result<Announcement> {
+    let alloc = rt.alloc();
+    let mut announced = Announcement {
+        places: Vec::new(alloc),
+        rest: Vec::new(alloc),
+    };
+    announced.rest.push(version_text(alloc)?)?;
+    if let [_, name, _, _, places @ ..] = words {
+        let policy = policy_before(rt, name.as_str(), files);
+        announce_places(alloc, &policy, places, &mut announced.places)?;
+        announce_unserved(alloc, name.as_str(), &policy, places, &mut announced.rest)?;
+    }
+    Ok(announced)
+}
+
+/// The policy, where it can be read now and again.
+fn policy_before<R: FileSystem + AllocGlobal>(
+    rt: &R,
+    name: &str,
+    files: &mut RealFiles<'_, R>,
+) -> Option<Policy> {
+    if !fs::metadata(rt, name).ok()?.is_file() {
+        return None;
+    }
+    let (policy, _) = policy_again(rt, name, files)?;
+    Some(policy)
+}
+
+/// What each place is for.
+fn announce_places(
+    alloc: Global,
+    policy: &Option<Policy>,
+    places: &[String],
+    out: &mut Vec<String>,
+) -> io::Result<()> {
+    for place in places {
+        let name = asset_of(place.as_str());
+        let line = match asset_named(policy, name) {
+            Some(asset) => {
+                let address = Ipv4Addr::from_bits(asset.endpoint.address);
+                let port = asset.endpoint.port;
+                format!(in alloc; "{name}, whose controller is {address}:{port}")?
+            }
+            None => String::from_str(alloc, name)?,
+        };
+        out.push(line)?;
+    }
+    Ok(())
+}
+
+/// Which assets of the policy no place is for.
+fn announce_unserved(
+    alloc: Global,
+    file: &str,
+    policy: &Option<Policy>,
+    places: &[String],
+    out: &mut Vec<String>,
+) -> io::Result<()> {
+    let Some(policy) = policy else {
+        return Ok(());
+    };
+    for asset in policy.assets.as_slice() {
+        let name = asset.name.as_str();
+        if !places.iter().any(|place| asset_of(place.as_str()) == name) {
+            out.push(format!(in alloc;
+                "{file}: asset \"{name}\" has no place, and is not served"
+            )?)?;
+        }
+    }
+    Ok(())
+}
+
+fn asset_named<'a>(policy: &'a Option<Policy>, name: &str) -> Option<&'a Asset> {
+    match policy {
+        Some(policy) => policy
+            .assets
+            .as_slice()
+            .iter()
+            .find(|asset| asset.name.as_str() == name),
+        None => None,
+    }
 }
 
 /// Says why a service ended with this status. What the links met was said as they met it.

@@ -102,10 +102,17 @@ pub fn explain<R: FileSystem + Eprint + AllocGlobal>(
 ) {
     let _ = match read_words(words) {
         Some(_) if status == LINK_FAULT => explain_link(rt, link),
-        Some(command) if status == DONE => remark(rt, &command, printed, files),
+        Some(command) if status == DONE || is_objection(&command, status) => {
+            remark(rt, &command, printed, files)
+        }
         Some(command) => explain_command(rt, &command, status, files),
         None => explain_words(rt, words),
     };
+}
+
+/// Whether a judge or a review was done and objects to something.
+fn is_objection(command: &Command<'_>, status: u8) -> bool {
+    status == DENIED && matches!(command, Command::Judge { .. } | Command::Review { .. })
 }
 
 /// Which word is wrong, and how the words have to be.
@@ -130,8 +137,14 @@ fn remark<R: FileSystem + Eprint + AllocGlobal>(
             remark_on_learned(rt, policy, capture, printed, files)?;
             warn_of_learned(rt, out)
         }
-        Command::Judge { capture, .. } => remark_on_judged(rt, capture, printed, files),
-        Command::Review { capture, .. } => remark_on_reviewed(rt, capture, printed, files),
+        Command::Judge { policy, capture } => {
+            remark_on_judged(rt, policy, capture, printed, files)
+        }
+        Command::Review {
+            policy,
+            capture,
+            ..
+        } => remark_on_reviewed(rt, policy, capture, printed, files),
         Command::Packets { capture } => remark_on_listed(rt, capture, printed, files),
         Command::Run { policy, names } => remark_on_run(rt, policy, names, printed, files),
         _ => Ok(()),

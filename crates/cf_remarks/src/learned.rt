@@ -2,7 +2,6 @@
 ghost use Rattle.cf_outside.specs.Frames.{OnlyReads};
 ghost use Rattle.cf_policy.specs.Within.{IsWithin};
 
-use crate::amid::amid_in;
 use crate::heard::{SenderCounts, heard_in};
 use crate::text::{Lines, Piece};
 use Piece::{Number, Words};
@@ -14,8 +13,7 @@ use std::alloc::{AllocError, Global};
 const MOST: usize = 100;
 
 /// A line for each client of each asset with the commands that it sent and what was left out, in the order of the assets and of the
-/// addresses, at most 100 of them; and how many packets have no connection's SYN before them. The text is empty where the capture
-/// cannot be read a second time. Changes no file.
+/// addresses, at most 100 of them. The text is empty where the capture cannot be read a second time. Changes no file.
 pub fn learned_text<F: Files>(
     alloc: Global,
     policy: &Policy,
@@ -38,29 +36,14 @@ pub fn learned_text<F: Files>(
             lines.put(&[Words("and "), Number(more), Words(" clients more")]);
         }
     }
-    if let Some(amid) = amid_in(alloc, assets, capture, files) {
-        if amid > 0 {
-            lines.put(&[Number(amid), Words(AMID)]);
-        }
-    }
     lines.finish()
 }
 
-const AMID: &str =
-    " packets came without the SYN of their connection, and nothing is learned of them: \
-    record from before it begins";
-
 /// What a client sent to an asset.
 fn put_heard(lines: &mut Lines, asset: &str, address: u32, heard: &SenderCounts) {
-    let octets = address.to_be_bytes();
     lines.begin();
     lines.push_all(&[Words(asset), Words(": ")]);
-    for (place, octet) in octets.iter().enumerate() {
-        lines.push_all(&[
-            Words(if place == 0 { "" } else { "." }),
-            Number(u64::from(*octet)),
-        ]);
-    }
+    lines.push_address(address);
     lines.push_all(&[
         Words(" sent "),
         Number(heard.commands),
@@ -82,17 +65,28 @@ fn put_heard(lines: &mut Lines, asset: &str, address: u32, heard: &SenderCounts)
 
 /// What was left out of it.
 fn put_left(lines: &mut Lines, heard: &SenderCounts) {
-    let parts = [
-        (heard.stations, " for another station"),
-        (heard.forms, " whose form is not read"),
-        (heard.strays, " frames that belong to nothing"),
-        (heard.broken, " connections from where their bytes break"),
-    ];
+    let counts = [heard.stations, heard.forms, heard.strays, heard.broken];
     let mut between = "; left out: ";
-    for (count, words) in parts {
-        if count > 0 {
-            lines.push_all(&[Words(between), Number(count), Words(words)]);
+    for (place, count) in counts.iter().enumerate() {
+        if *count > 0 {
+            lines.push_all(&[
+                Words(between),
+                Number(*count),
+                Words(left_words(place, *count)),
+            ]);
             between = ", ";
         }
+    }
+}
+
+/// What was left out so often, by its place among the counts.
+fn left_words(place: usize, count: u64) -> &'static str {
+    match (place, count) {
+        (0, _) => " for another station",
+        (1, _) => " whose form is not read",
+        (2, 1) => " frame that belongs to nothing",
+        (2, _) => " frames that belong to nothing",
+        (_, 1) => " connection from where its bytes break",
+        _ => " connections from where their bytes break",
     }
 }

@@ -9,30 +9,36 @@
 //!   acknowledgment and window together there. Numbers are told apart as if they lay less than 2^31 apart.
 //! - A segment of a session acknowledges what was not sent where its acknowledgment is above that, or where nothing was sent to its
 //!   side. It stands beyond the window where it ends above the edge; one letter right at the edge is a probe, and is not counted.
-//!   Segments with RST are neither.
+//!   Segments with RST are neither, and a SYN that opens is not: where a session had closed it begins the next one.
 //! - A packet belongs to a connection whose SYN is not there where it comes before any SYN of its pair. A packet is of no asset where
 //!   not exactly one of its endpoints is an asset's. Both counts are exact: each such packet is of no session.
+//! - A gap of a connection is before data at which no packet of the capture has the octets that come first: what stands behind it is not
+//!   read. A wrong TCP sum is partial where its field is the folded sum of the pseudo header alone.
 //! - After `learn` the commands of each client to each asset are those with the asset's station whose form is read, up to where its
 //!   connection breaks; what is left out beside them is counted by why.
 //! - How many sessions never closed is what the summary counts without those that were cut and those that LOG says closed.
 #![tactic(auto)]
 
-mod amid;
 mod closes;
 mod counts;
 mod dropped;
+mod gaps;
 mod heard;
 mod learned;
 mod look;
 mod pair;
+mod partial;
 mod reason;
+mod survey;
 mod text;
 mod way;
 
 pub use closes::left_open;
 pub use counts::{has_gaps, read_summary};
-pub use dropped::{Dropped, Frames, dropped_alone};
+pub use dropped::Dropped;
+pub use gaps::{Gap, Gaps};
 pub use learned::learned_text;
 pub use look::{Look, Misfits, look_again};
 pub use reason::DropReason;
-pub use text::{dropped_text, run_text};
+pub use survey::{Reading, Survey, survey_capture};
+pub use text::{run_text, survey_text};

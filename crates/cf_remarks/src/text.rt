@@ -1,18 +1,21 @@
 //! The remarks in words.
 
 use crate::dropped::Dropped;
+use crate::gaps::Gaps;
 use crate::look::{Look, Misfits};
+use crate::survey::{Reading, Survey};
 use cf_run::Summary;
+use cf_view::Endpoint;
 use std::alloc::{AllocError, Global};
 use std::fmt::Write;
 
 const ABOVE: &str =
     " acknowledged what the box had not sent: the capture was not recorded at the box, \
-    but at a span port or on a host, where both hosts answer each other";
+    but at a span port or on a host, where both hosts answer each other, or a packet is missing in it";
 
 const BEYOND: &str =
     " stood beyond the window that the box had told: the hosts agreed on window scaling, \
-    which the box does not, or the capture was not recorded at the box";
+    which the box does not, or the capture was not recorded at the box, or a packet is missing in it";
 
 const LEFT_OPEN: &str =
     " sessions never closed: the capture ends before they do, or has not all of their packets";
@@ -28,6 +31,13 @@ const REST: &str = " came behind a cut, long behind a closing, or for a session 
 const REVIEW: &str =
     "for a recording from a span port or a host use 'cmdwall review POLICY CAPTURE LOG' \
     (docs/REVIEW.md)";
+
+const UNREAD: &str = " packets came without the SYN of their connection, and are not read: \
+    record from before it begins";
+
+const PARTIAL: &str =
+    " that of the pseudo header alone, which a sending host's own recorder leaves: \
+    such packets were right on the wire";
 
 const FULL: &str = " would have begun a session while 256 others were open, and began none";
 
@@ -89,16 +99,70 @@ impl Lines {
         }
     }
 
+    /// A dotted address and a port.
+    fn push_endpoint(&mut self, endpoint: &Endpoint) {
+        self.push_address(endpoint.address);
+        self.push_all(&[Words(":"), Number(u64::from(endpoint.port))]);
+    }
+
+    /// A dotted address.
+    pub(crate) fn push_address(&mut self, address: u32) {
+        for (place, octet) in address.to_be_bytes().iter().enumerate() {
+            self.push_all(&[
+                Words(if place == 0 { "" } else { "." }),
+                Number(u64::from(*octet)),
+            ]);
+        }
+    }
+
     fn push(&mut self, words: &str) {
         self.is_whole = self.is_whole && self.text.push_str(words).is_ok();
     }
 }
 
-/// A line for each reason for which records were dropped.
-pub fn dropped_text(alloc: Global, dropped: &Dropped) -> Result<String, AllocError> {
+/// A line for each reason for which records were dropped, how many packets came amid connections of which nothing is read, and what
+/// stands behind gaps: nothing where all of a capture is read.
+pub fn survey_text(alloc: Global, survey: &Survey, reading: Reading) -> Result<String, AllocError> {
     let mut lines = Lines::new(alloc);
-    put_dropped(&mut lines, dropped);
+    put_dropped(&mut lines, &survey.dropped);
+    if survey.amid > 0 && reading == Reading::FromSyn {
+        lines.put(&[Number(survey.amid), Words(UNREAD)]);
+    }
+    put_gaps(&mut lines, &survey.gaps);
     lines.finish()
+}
+
+/// How many connections have a gap, the first of them, and what stands behind.
+fn put_gaps(lines: &mut Lines, gaps: &Gaps) {
+    let Some(first) = gaps.first else {
+        return;
+    };
+    lines.begin();
+    lines.push_all(&[
+        Number(gaps.broken),
+        Words(" of "),
+        Number(gaps.flows),
+        Words(" connections "),
+        Words(if gaps.broken == 1 { "has" } else { "have" }),
+        Words(" a gap, as where a packet was not recorded; the first: that of "),
+    ]);
+    lines.push_endpoint(&first.client);
+    lines.push_all(&[
+        Words(" at position "),
+        Number(first.position),
+        Words(", before record "),
+        Number(first.record),
+        Words("; "),
+        Number(gaps.octets),
+        Words(" octets stand behind gaps and are not read, in "),
+        Number(gaps.packets),
+        Words(if gaps.packets == 1 {
+            " packet"
+        } else {
+            " packets"
+        }),
+    ]);
+    lines.end();
 }
 
 /// What a run cannot know of its capture, a line each: nothing where there is nothing to say. `left` sessions never closed.
@@ -181,8 +245,21 @@ fn put_dropped(lines: &mut Lines, dropped: &Dropped) {
                 Number(dropped.records),
                 Words(" records dropped: "),
                 Words(reason_words(place)),
+                Words("; the first is record "),
+                Number(dropped.firsts[place]),
             ]);
         }
+    }
+    if dropped.partial > 0 {
+        lines.put(&[
+            Number(dropped.partial),
+            Words(if dropped.partial == 1 {
+                " wrong TCP sum is"
+            } else {
+                " wrong TCP sums are"
+            }),
+            Words(PARTIAL),
+        ]);
     }
 }
 

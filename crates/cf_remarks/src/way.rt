@@ -39,10 +39,10 @@ impl Way {
         }
     }
 
-    /// What does not fit in a packet that came from this side.
+    /// What does not fit in a packet that came from this side. A SYN that opens may begin a session anew, with numbers of its own.
     pub(crate) fn misfit(&self, packet: &Packet<'_>) -> Misfit {
         let is_probe = letters_of(packet) == 1 && self.edge == Some(packet.seq);
-        if has(packet, RST) {
+        if has(packet, RST) || is_opening(packet) {
             Misfit::Nothing
         } else if has(packet, ACK) && is_past(packet.ack, self.reached, true) {
             Misfit::Above

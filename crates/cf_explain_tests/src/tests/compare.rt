@@ -132,6 +132,15 @@ values: ; -
 p:14:1: asset 1 "pump", rule 2 "set" allows code 6 (write single register), group 0, point 40, without a value from 0.0.0.0
   q: asset 1 "pump": no allow rule with its client, code, group and point has the value, so default refuses it
   no command has this act: a comparison goes over all numbers that rules can name
+  the first that a command has:
+p:14:1: asset 1 "pump", rule 2 "set" allows code 6 (write single register), group 0, point 40, value 501 from 0.0.0.0
+  q: asset 1 "pump": no allow rule with its client, code, group and point has the value, so default refuses it
+
+poll: [[asset.rule]] / name = "a" / action = "allow" / codes = [3] / values = ["0..9"] ; poll:
+p:10:1: asset 1 "pump", rule 1 "a" allows code 3 (read holding registers), group 0, point 0, value 0 from 0.0.0.0
+  q: asset 1 "pump": no allow rule has its client, code and group, so default refuses it
+  no command has this act: a comparison goes over all numbers that rules can name
+  of the acts that commands have, this asset allows none beyond
 
 protocol: protocol = "iec104" | poll: [[asset.rule]] / name = "sp" / action = "allow" / codes = [49] / groups = ["6"] / points = ["7"] / values = ["-5"] ; protocol: protocol = "iec104" | poll:
 p:10:1: asset 1 "pump", rule 1 "sp" allows code 49 (set-point command, scaled value), group 6, point 7, value -5 from 0.0.0.0

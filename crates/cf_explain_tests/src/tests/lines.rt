@@ -125,7 +125,7 @@ fn small(given: &str, place: usize) -> u16 {
 pub(super) fn line(alloc: Global, given: &str) -> Result<String, Fail> {
     let unit = octets(alloc, word(given, 5))?;
     let what = what(given, &unit);
-    if let What::Refuse { rule, .. } = &what {
+    if let What::Refuse { rule, .. } | What::Admit { rule, .. } = &what {
         if rule.len() > NAME_LIMIT {
             return Err("the name is too long".into());
         }

@@ -45,14 +45,15 @@ text: version = 1 / version = 1 / asset = [] => 1 - asset 0 rule 0
 text: version = 9223372036854775808 / asset = [] => 1 - asset 0 rule 0
 text: version = 9223372036854775807 / asset = [] => 9 version asset 0 rule 0
 text: version = 0 / asset = [] => 9 version asset 0 rule 0
-text: version = 3 / asset = [] => 9 version asset 0 rule 0
+text: version = 4 / asset = [] => 9 version asset 0 rule 0
 text: version = 2 / asset = [] => ok
+text: version = 3 / asset = [] => ok
 text: version = -1 / asset = [] => 9 version asset 0 rule 0
 text: version = "1" / asset = [] => 4 version asset 0 rule 0
 text: version = 1.0 / asset = [] => 4 version asset 0 rule 0
 text: version = true / asset = [] => 4 version asset 0 rule 0
 text: version = "1" / set = [] => 4 version asset 0 rule 0
-text: version = 3 / set = [] => 9 version asset 0 rule 0
+text: version = 4 / set = [] => 9 version asset 0 rule 0
 text: version = 2 / set = [] => 3 asset asset 0 rule 0
 text: version = 1 / set = [] => 2 - asset 0 rule 0
 text: version = 1 / set = [] / asset = 1 => 2 - asset 0 rule 0
@@ -358,7 +359,7 @@ rtu.master: master = 1 / rule = [] / rule = [] => 1 - asset 0 rule 0"#;
 
 /// Two faults, of which the first test decides; and lines that only change together.
 pub(super) const ORDER: &str =
-    r#"version: version = 3 | master: colour = 1 => 9 version asset 0 rule 0
+    r#"version: version = 4 | master: colour = 1 => 9 version asset 0 rule 0
 version: version = 1 / colour = 1 | name: => 2 - asset 0 rule 0
 master: colour = 1 | name: => 2 - asset 1 rule 0
 name: name = "" | address: => 6 name asset 1 rule 0

@@ -43,21 +43,25 @@ p:6:12: this is no TOML: invalid value, expected a string, number, boolean, date
     quotation marks, as "allow"
   in the line: protocol = modbus
 
-1: version = 3
-p:1:1: `version` is the number 3
-  write version = 1 above the first table, or version = 2 where rules name sets of points
+1: version = 4
+p:1:1: `version` is the number 4
+  write version = 1 above the first table, version = 2 where rules name sets of points, or version = 3 where rules have a log or names
+    of codes and groups
 
 1:
 p: `version` is missing
-  write version = 1 above the first table, or version = 2 where rules name sets of points
+  write version = 1 above the first table, version = 2 where rules name sets of points, or version = 3 where rules have a log or names
+    of codes and groups
 
 1: versoin = 1
 p: `version` is missing; did you write "versoin" for it?
-  write version = 1 above the first table, or version = 2 where rules name sets of points
+  write version = 1 above the first table, version = 2 where rules name sets of points, or version = 3 where rules have a log or names
+    of codes and groups
 
 1: version = "1"
 p:1:1: `version` is the text "1", and has to be a whole number
-  write version = 1 above the first table, or version = 2 where rules name sets of points
+  write version = 1 above the first table, version = 2 where rules name sets of points, or version = 3 where rules have a log or names
+    of codes and groups
 
 2: [asset]
 p:20:1: this is no TOML: duplicate key; write [[asset]] and [[asset.rule]] with two brackets each time
@@ -65,11 +69,11 @@ p:20:1: this is no TOML: duplicate key; write [[asset]] and [[asset.rule]] with 
 
 20: [[assets]]
 p:20:1: "assets" is no key of the document; did you mean `asset`?
-  above the first table the document has version = 1, and then tables [[asset]]; version = 2 has tables [[set]] too
+  above the first table the document has version = 1, and then tables [[asset]]; versions 2 and 3 have tables [[set]] too
 
 12: [[rule]]
 p:12:1: "rule" is no key of the document: a rule is a table [[asset.rule]]
-  above the first table the document has version = 1, and then tables [[asset]]; version = 2 has tables [[set]] too
+  above the first table the document has version = 1, and then tables [[asset]]; versions 2 and 3 have tables [[set]] too
 
 8: [asset.rule]
 p:12:1: this is no TOML: duplicate key; write [[asset]] and [[asset.rule]] with two brackets each time
@@ -89,7 +93,7 @@ p:4:1: asset 1 "pump": "adress" is no key of an asset; did you mean `address`?
 
 11: code = [3]
 p:11:1: asset 1 "pump", rule 1 "poll": "code" is no key of a rule; did you mean `codes`?
-  a rule has name, action, codes, and may have clients, groups, points, values, most and seconds
+  a rule has name, action, codes, and may have clients, groups, points, values, most and seconds, and in version 3 log
 
 11:
 p:8:1: asset 1 "pump", rule 1 "poll": `codes` is missing
@@ -106,7 +110,7 @@ p:8:1: asset 1 "pump": `master` is a key of DNP3 assets alone: leave it out
 10: action = "allow" / station = 1
 p:11:1: asset 1 "pump", rule 1 "poll": "station" is no key of a rule: it stands in an asset, below [[asset]] and above its first
     [[asset.rule]]
-  a rule has name, action, codes, and may have clients, groups, points, values, most and seconds
+  a rule has name, action, codes, and may have clients, groups, points, values, most and seconds, and in version 3 log
 
 7: station = 1 / codes = [3]
 p:8:1: asset 1 "pump": "codes" is no key of an asset: it stands in a rule, below [[asset.rule]]
@@ -226,7 +230,8 @@ p:18:1: asset 1 "pump", rule 2 "set": entry 1 of `points` is the text "999999999
   points are 1 to 64 numbers or ranges from 0 to 4294967295, as points = ["7", "40..49"]
 
 18: points = ["@set"]
-p:18:1: asset 1 "pump", rule 2 "set": entry 1 of `points` is the text "@set": sets are named in the points of rules alone, and in version 2
+p:18:1: asset 1 "pump", rule 2 "set": entry 1 of `points` is the text "@set": sets are named in the points of rules alone, and in
+    versions 2 and 3
   points are 1 to 64 numbers or ranges from 0 to 4294967295, as points = ["7", "40..49"]
 
 18: points = ["40,41"]
@@ -343,7 +348,7 @@ p:12:1: asset 1 "pump", rule 1 "poll": `values` is the text "[[asset.rule]]\ncod
 
 10: action = "refuse" / most = 2 / seconds = 60
 p:11:1: asset 1 "pump", rule 1 "poll": `most` is a key of rules that allow alone: leave it and `seconds` out
-  a rule has name, action, codes, and may have clients, groups, points, values, most and seconds
+  a rule has name, action, codes, and may have clients, groups, points, values, most and seconds, and in version 3 log
 
 19: most = 2
 p:12:1: asset 1 "pump", rule 2 "set": `seconds` is missing
@@ -370,8 +375,8 @@ p: asset 1 "A": `name` is "A": it has capital letters
   a name has 1 to 32 of the letters a to z, the digits, _ and -, as name = "pump"
 
 1: version = 1 / [[set]] / name = "low" / points = ["1"]
-p:2:1: `set` is a key of version 2 alone
-  above the first table the document has version = 1, and then tables [[asset]]; version = 2 has tables [[set]] too
+p:2:1: `set` is a key of versions 2 and 3 alone
+  above the first table the document has version = 1, and then tables [[asset]]; versions 2 and 3 have tables [[set]] too
 
 1: version = 2 / set = 1
 p:2:1: `set` is the number 1, and has to be a list of tables
@@ -390,7 +395,8 @@ p:6:1: set 2 "low": `name` is the text "low", which set 1 has
   no two sets have the same name
 
 1: version = 2 / [[set]] / name = "low" / points = ["1", "@low"]
-p:4:1: set 1 "low": entry 2 of `points` is the text "@low": sets are named in the points of rules alone, and in version 2
+p:4:1: set 1 "low": entry 2 of `points` is the text "@low": sets are named in the points of rules alone, and in
+    versions 2 and 3
   points are 1 to 64 numbers or ranges from 0 to 4294967295, as points = ["7", "40..49"]
 
 1: version = 2 / [[set]] / name = "low" / points = ["1"] | 18: points = ["7", "@low", "@lwo"]
@@ -417,9 +423,75 @@ p:18:1: asset 1 "pump", rule 2 "set": entry 1 of `points` is the text "@": behin
 p:21:1: asset 1 "pump", rule 2 "set": `points` has 33 entries, and with the points of the sets that they name more than 64
   points are 1 to 64 numbers or ranges from 0 to 4294967295, as points = ["7", "40..49"]
 
+1: version = 3 | 16: codes = ["Write Single Register"]
+p:16:1: asset 1 "pump", rule 2 "set": entry 1 of `codes` is the text "Write Single Register": no code of the protocol has this name;
+    did you mean "write single register"?
+  codes are 1 to 64 whole numbers from 0 to 255 or names of functions, as codes = [3, "write single register"]
+
+1: version = 3 | 16: codes = [6, "write singel coil"]
+p:16:1: asset 1 "pump", rule 2 "set": entry 2 of `codes` is the text "write singel coil": no code of the protocol has this name; did
+    you mean "write single coil"?
+  codes are 1 to 64 whole numbers from 0 to 255 or names of functions, as codes = [3, "write single register"]
+
+1: version = 3 | 16: codes = ["diagnostics"]
+p:16:1: asset 1 "pump", rule 2 "set": entry 1 of `codes` is the text "diagnostics": no code of the protocol has this name
+  codes are 1 to 64 whole numbers from 0 to 255 or names of functions, as codes = [3, "write single register"]
+
+1: version = 3 | 16: codes = ["C_SC_NA_1"]
+p:16:1: asset 1 "pump", rule 2 "set": entry 1 of `codes` is the text "C_SC_NA_1": it is a name of IEC 60870-5-104, which is not the
+    protocol of the asset
+  codes are 1 to 64 whole numbers from 0 to 255 or names of functions, as codes = [3, "write single register"]
+
+1: version = 3 | 16: codes = ["6"]
+p:16:1: asset 1 "pump", rule 2 "set": entry 1 of `codes` is the text "6": a number among codes stands without quotation marks
+  codes are 1 to 64 whole numbers from 0 to 255 or names of functions, as codes = [3, "write single register"]
+
+1: version = 3 | 16: codes = [true]
+p:16:1: asset 1 "pump", rule 2 "set": entry 1 of `codes` is the boolean true, and has to be a whole number, or a name between quotation
+    marks
+  codes are 1 to 64 whole numbers from 0 to 255 or names of functions, as codes = [3, "write single register"]
+
+16: codes = ["write single register"]
+p:16:1: asset 1 "pump", rule 2 "set": entry 1 of `codes` is the text "write single register", and has to be a whole number; names of
+    codes and groups are read in version 3: write version = 3
+  codes are 1 to 64 whole numbers from 0 to 255, as codes = [3, 16]
+
+1: version = 2 | 16: codes = ["read"]
+p:16:1: asset 1 "pump", rule 2 "set": entry 1 of `codes` is the text "read", and has to be a whole number; it is a name of DNP3, which
+    is not the protocol of the asset
+  codes are 1 to 64 whole numbers from 0 to 255, as codes = [3, 16]
+
+1: version = 3 | 17: groups = ["g12v1"]
+p:17:1: asset 1 "pump", rule 2 "set": entry 1 of `groups` is the text "g12v1": it is a name of DNP3, which is not the protocol of the
+    asset
+  groups are 1 to 64 numbers or ranges from 0 to 65535, as groups = ["1", "3..5"]
+
+1: version = 3 | 6: protocol = "dnp3" | 7: station = 1 / master = 1 | 17: groups = ["g12v01"]
+p:18:1: asset 1 "pump", rule 2 "set": entry 1 of `groups` is the text "g12v01": a group by its name is an object group and a variation
+    from 0 to 255, without leading zeros, as g12v1
+  groups are 1 to 64 numbers or ranges from 0 to 65535 or names, as groups = ["3073", "g60v1..g60v4"]
+
+1: version = 3 | 6: protocol = "dnp3" | 7: station = 1 / master = 1 | 17: groups = ["g60v1..15364", "g60v4..g60v1"]
+p:18:1: asset 1 "pump", rule 2 "set": entry 2 of `groups` is the text "g60v4..g60v1": the first number is above the second
+  groups are 1 to 64 numbers or ranges from 0 to 65535 or names, as groups = ["3073", "g60v1..g60v4"]
+
+1: version = 2 | 6: protocol = "dnp3" | 7: station = 1 / master = 1 | 17: groups = ["g12v1"]
+p:18:1: asset 1 "pump", rule 2 "set": entry 1 of `groups` is the text "g12v1": names of codes and groups are read in version 3: write
+    version = 3
+  groups are 1 to 64 numbers or ranges from 0 to 65535, as groups = ["1", "3..5"]
+
+1: version = 3 | 6: protocol = "iec104" | 17: groups = ["activatoin"]
+p:17:1: asset 1 "pump", rule 2 "set": entry 1 of `groups` is the text "activatoin": groups by their names are request, activation and
+    deactivation; did you mean "activation"?
+  groups are 1 to 64 numbers or ranges from 0 to 65535 or names, as groups = ["6", "deactivation"]
+
+1: version = 3 | 18: points = ["@Low"]
+p:18:1: asset 1 "pump", rule 2 "set": entry 1 of `points` is the text "@Low": it has capital letters
+  points are 1 to 64 numbers or ranges from 0 to 4294967295, as points = ["7", "40..49"]
+
 14: action = "refuse" | 19: most = 2
 p:19:1: asset 1 "pump", rule 2 "set": `most` is a key of rules that allow alone: leave it and `seconds` out
-  a rule has name, action, codes, and may have clients, groups, points, values, most and seconds"#;
+  a rule has name, action, codes, and may have clients, groups, points, values, most and seconds, and in version 3 log"#;
 
 /// The message about a policy that is refused.
 pub(super) fn message(alloc: Global, changes: &str) -> Result<String, Fail> {

@@ -33,6 +33,18 @@ pub(super) const ROWS: &str = r#"- => version = 2
     | [[asset.rule]] / action = "allow" / codes = [3] / name = "poll"
     | [[asset.rule]] / action = "allow" / codes = [6, 16] / name = "set" / points = ["40..49"] / values = ["0..500"]
 text: version = 1 / asset = [] => asset = [] / version = 2
+version: version = 3 | protocol: protocol = "iec104" | last: [[asset.rule]] / name = "switch" / action = "allow" / codes =
+    ["C_SC_NA_1", 46] / groups = ["activation", "request..8"] => version = 2
+    | [[asset]] / address = "10.0.0.9" / name = "pump" / port = 502 / protocol = "iec104" / station = 1
+    | [[asset.rule]] / action = "allow" / codes = [3] / name = "poll"
+    | [[asset.rule]] / action = "allow" / codes = [6, 16] / name = "set" / points = ["40..49"] / values = ["0..500"]
+    | [[asset.rule]] / action = "allow" / codes = [45, 46] / groups = ["6", "5..8"] / name = "switch"
+version: version = 3 | protocol: protocol = "iec104" | last: [[asset.rule]] / name = "switch" / action = "allow" / codes =
+    ["C_SC_NA_1", 46] / groups = ["activation", "request..8"] / log = true => version = 3
+    | [[asset]] / address = "10.0.0.9" / name = "pump" / port = 502 / protocol = "iec104" / station = 1
+    | [[asset.rule]] / action = "allow" / codes = [3] / name = "poll"
+    | [[asset.rule]] / action = "allow" / codes = [6, 16] / name = "set" / points = ["40..49"] / values = ["0..500"]
+    | [[asset.rule]] / action = "allow" / codes = [45, 46] / groups = ["6", "5..8"] / log = true / name = "switch"
 poll: points = ["40..49"] => version = 2
     | [[asset]] / address = "10.0.0.9" / name = "pump" / port = 502 / protocol = "modbus" / station = 1
     | [[asset.rule]] / action = "allow" / codes = [3] / name = "poll" / points = ["@set1"]

@@ -50,10 +50,28 @@ p:8:1: warning: asset 1 "x", rule 1 "a": no command meets it: code 5 has no valu
 .
 
 lists: codes = [23] / values = ["0..9"]
-p:8:1: warning: asset 1 "x", rule 1 "a": the reads of code 23 have no value, so it has the writes alone; without values it has both
+p:8:1: warning: asset 1 "x", rule 1 "a": the reads of code 23 have no value, so a rule that states values has none of
+    them
 .
 
 lists: codes = [23] / groups = ["1"] / values = ["0..9"]
+.
+
+action: action = "allow" | lists: codes = [6] / points = ["4"] | more: [[asset.rule]] / name = "b" / action = "refuse" / codes = [6] /
+    [[asset.rule]] / name = "c" / action = "allow" / codes = [6] / points = ["0..9"]
+p:17:1: warning: asset 1 "x", rule 3 "c": it decides nothing: rule 2 "b" stands before it and refuses all that it has, but for what
+    still earlier rules decide
+.
+
+lists: codes = [6] / most = 1 / seconds = 9 | more: [[asset.rule]] / name = "b" / action = "allow" / codes = [6] / points = ["4"]
+p:14:1: warning: asset 1 "x", rule 2 "b": it decides nothing: rule 1 "a" stands before it and has all that it has, also while its rate
+    is spent
+.
+
+lists: codes = [5] / points = ["0..4"] / most = 1 / seconds = 9 | more: [[asset.rule]] / name = "b" / action = "allow" / codes = [5] /
+    points = ["5..9"] / [[asset.rule]] / name = "c" / action = "refuse" / codes = [5] / points = ["3..8"]
+p:20:1: warning: asset 1 "x", rule 3 "c" never refuses anything: the rules before it together allow all that it names, as often as
+    their rates let
 .
 
 lists: codes = [6] | more: [[asset.rule]] / name = "b" / action = "refuse" / codes = [6] / points = ["4"]

@@ -153,6 +153,7 @@ fn sub(alloc: Global) -> Result<Asset, AllocError>
         points: one_span(alloc, 1000, 1000)?,
         values: Items::new(Vec::new(alloc)),
         rate: None,
+        log: false,
     })?;
     Ok(Asset {
         name: Name::from_text("sub"),

@@ -1,13 +1,14 @@
 //! Remarks on runs. A row has the packets of a capture of Ethernet frames, as the lines of an exchange spell them; `bad` before one
-//! changes its last octet, `cut` leaves that out, and `frame` and octets are a frame as it stands. What is wanted are the remarks, or
-//! `nothing`; after them `alone`, where no record is a packet. SYNs have the numbers 1000 and 5000.
+//! changes its last octet, `partial` puts the sum of the pseudo header alone into it, `cut` leaves its last octet out, and `frame` and
+//! octets are a frame as it stands. What is wanted are the remarks, or `nothing`; behind `unread:` those of a capture that is watched
+//! from SYNs on, and behind `amid:` those of one whose connections may begin amid their stream. SYNs have the numbers 1000 and 5000.
 
 use super::packets::{Origins, moment, packet};
 use super::sessions::policy;
 use super::{Place, named, same};
 use cf_outside::MemoryFiles;
 use cf_remarks::{
-    Frames, dropped_alone, dropped_text, has_gaps, left_open, look_again, read_summary, run_text,
+    Reading, has_gaps, left_open, look_again, read_summary, run_text, survey_capture, survey_text,
 };
 use cf_run::{RunNames, Summary, run_capture};
 use cf_samples::rows::octets;
@@ -45,7 +46,7 @@ row: a refused write as a span port has it, which the controller answers with tw
 1.050000 c A +12 +12 65535
 1.060000 c PA +12 +12 65535 W
 says:
-note: 3 segments in 1 of 1 sessions acknowledged what the box had not sent: the capture was not recorded at the box, but at a span port or on a host, where both hosts answer each other
+note: 3 segments in 1 of 1 sessions acknowledged what the box had not sent: the capture was not recorded at the box, but at a span port or on a host, where both hosts answer each other, or a packet is missing in it
 note: 1 of 1 sessions never closed: the capture ends before they do, or has not all of their packets
 note: for a recording from a span port or a host use 'cmdwall review POLICY CAPTURE LOG' (docs/REVIEW.md)
 
@@ -58,8 +59,23 @@ row: two octets of which the second is beyond the window, a probe at its edge, a
 1.050000 c PA +16383 +0 65535 00
 1.060000 c RA +0 +0 0
 says:
-note: 1 segment in 1 of 1 sessions stood beyond the window that the box had told: the hosts agreed on window scaling, which the box does not, or the capture was not recorded at the box
+note: 1 segment in 1 of 1 sessions stood beyond the window that the box had told: the hosts agreed on window scaling, which the box does not, or the capture was not recorded at the box, or a packet is missing in it
 note: for a recording from a span port or a host use 'cmdwall review POLICY CAPTURE LOG' (docs/REVIEW.md)
+unread:
+note: 1 of 1 connections has a gap, as where a packet was not recorded; the first: that of 10.0.0.5:49152 at position 0, before record 4; 4 octets stand behind gaps and are not read, in 3 packets
+amid:
+note: 1 of 1 connections has a gap, as where a packet was not recorded; the first: that of 10.0.0.5:49152 at position 0, before record 4; 4 octets stand behind gaps and are not read, in 3 packets
+
+row: a closed session, and another from the same port, whose SYN stands far beyond the window that the first was told
+1.000000 c S 1000 0 65535
+1.010000 k SA 5000 1001 65535
+1.020000 c A +0 +0 65535
+1.030000 c FA +0 +0 65535
+1.040000 k FA +0 +1 65535
+1.050000 c A +1 +1 65535
+2.000000 c S 900000 0 65535
+says:
+note: 1 of 2 sessions never closed: the capture ends before they do, or has not all of their packets
 
 row: a capture that begins amid a connection, and a packet to another port
 1.000000 c PA 2000 6000 65535 W
@@ -68,6 +84,8 @@ row: a capture that begins amid a connection, and a packet to another port
 says:
 note: 2 of 3 packets came without the SYN of their connection: the capture begins amid it, or its SYN was dropped; record from before it begins
 note: 1 of 3 packets did not go between a client and an asset of POLICY: neither end, or both, has an asset's address and port
+unread:
+note: 2 packets came without the SYN of their connection, and are not read: record from before it begins
 
 row: a write behind a reset
 1.000000 c S 1000 0 65535
@@ -88,14 +106,73 @@ row: IPv6, tags, ARP, a wrong sum and a packet that is cut
 1.060000 cut c PA +0 +0 65535 W
 1.070000 frame 0200
 says:
-note: 1 of 8 records dropped: IPv6, of which the box knows nothing
-note: 2 of 8 records dropped: frames with a VLAN tag (802.1Q); record on the VLAN's own interface, or where the tag is off
-note: 1 of 8 records dropped: frames with a service tag (802.1ad); record where both tags are off
-note: 1 of 8 records dropped: ARP, which carries no commands
-note: 1 of 8 records dropped: frames of other types, or cut within their header
-note: 1 of 8 records dropped: cut, as by a snap length; record whole packets, as 'tcpdump -s 0' does
-note: 1 of 8 records dropped: a wrong TCP sum, as where a card fills it in behind the recording; record with offload off ('ethtool -K INTERFACE tx off'), or off the host
-alone
+note: 1 of 8 records dropped: IPv6, of which the box knows nothing; the first is record 1
+note: 2 of 8 records dropped: frames with a VLAN tag (802.1Q); record on the VLAN's own interface, or where the tag is off; the first is record 2
+note: 1 of 8 records dropped: frames with a service tag (802.1ad); record where both tags are off; the first is record 4
+note: 1 of 8 records dropped: ARP, which carries no commands; the first is record 5
+note: 1 of 8 records dropped: frames of other types, or cut within their header; the first is record 8
+note: 1 of 8 records dropped: cut, as by a snap length; record whole packets, as 'tcpdump -s 0' does; the first is record 7
+note: 1 of 8 records dropped: a wrong TCP sum, as where a card fills it in behind the recording; record with offload off ('ethtool -K INTERFACE tx off'), or off the host; the first is record 6
+unread:
+note: 1 of 8 records dropped: IPv6, of which the box knows nothing; the first is record 1
+note: 2 of 8 records dropped: frames with a VLAN tag (802.1Q); record on the VLAN's own interface, or where the tag is off; the first is record 2
+note: 1 of 8 records dropped: frames with a service tag (802.1ad); record where both tags are off; the first is record 4
+note: 1 of 8 records dropped: ARP, which carries no commands; the first is record 5
+note: 1 of 8 records dropped: frames of other types, or cut within their header; the first is record 8
+note: 1 of 8 records dropped: cut, as by a snap length; record whole packets, as 'tcpdump -s 0' does; the first is record 7
+note: 1 of 8 records dropped: a wrong TCP sum, as where a card fills it in behind the recording; record with offload off ('ethtool -K INTERFACE tx off'), or off the host; the first is record 6
+amid:
+note: 1 of 8 records dropped: IPv6, of which the box knows nothing; the first is record 1
+note: 1 of 8 records dropped: ARP, which carries no commands; the first is record 5
+note: 1 of 8 records dropped: frames of other types, or cut within their header; the first is record 8
+note: 4 of 8 records dropped: cut, as by a snap length; record whole packets, as 'tcpdump -s 0' does; the first is record 2
+note: 1 of 8 records dropped: a wrong TCP sum, as where a card fills it in behind the recording; record with offload off ('ethtool -K INTERFACE tx off'), or off the host; the first is record 6
+
+row: a sum as a sending host's recorder leaves it
+1.000000 c S 1000 0 65535
+1.010000 k SA 5000 1001 65535
+1.020000 c A +0 +0 65535
+1.030000 frame 02000000000102000000000208004500003400004000400626b70a0000050a000009c00001f6000003e9000013895018ffff14340000000100000006010600280064
+1.040000 c RA +0 +0 0
+says:
+note: 1 of 5 records dropped: a wrong TCP sum, as where a card fills it in behind the recording; record with offload off ('ethtool -K INTERFACE tx off'), or off the host; the first is record 4
+note: 1 wrong TCP sum is that of the pseudo header alone, which a sending host's own recorder leaves: such packets were right on the wire
+unread:
+note: 1 of 5 records dropped: a wrong TCP sum, as where a card fills it in behind the recording; record with offload off ('ethtool -K INTERFACE tx off'), or off the host; the first is record 4
+note: 1 wrong TCP sum is that of the pseudo header alone, which a sending host's own recorder leaves: such packets were right on the wire
+amid:
+note: 1 of 5 records dropped: a wrong TCP sum, as where a card fills it in behind the recording; record with offload off ('ethtool -K INTERFACE tx off'), or off the host; the first is record 4
+note: 1 wrong TCP sum is that of the pseudo header alone, which a sending host's own recorder leaves: such packets were right on the wire
+
+row: a request that was not recorded, before two that were, of which one was sent again
+1.000000 c S 1000 0 65535
+1.010000 k SA 5000 1001 65535
+1.020000 c A +0 +0 65535
+1.030000 c PA +24 +0 65535 W
+1.040000 c PA +12 +0 65535 W
+1.050000 c PA +12 +0 65535 W
+says:
+note: 1 of 1 sessions never closed: the capture ends before they do, or has not all of their packets
+unread:
+note: 1 of 1 connections has a gap, as where a packet was not recorded; the first: that of 10.0.0.5:49152 at position 0, before record 4; 36 octets stand behind gaps and are not read, in 3 packets
+amid:
+note: 1 of 1 connections has a gap, as where a packet was not recorded; the first: that of 10.0.0.5:49152 at position 0, before record 4; 36 octets stand behind gaps and are not read, in 3 packets
+
+row: a connection without its SYN, with a gap, and behind it one whose packets came in another order
+1.000000 c PA 2001 6000 65535 W
+1.010000 c PA 2025 6000 65535 W
+1.020000 c S 1000 0 65535
+1.030000 k SA 5000 1001 65535
+1.040000 c A +0 +0 65535
+1.050000 c PA +12 +0 65535 W
+1.060000 c PA +0 +0 65535 W
+1.070000 c RA +24 +0 0
+says:
+note: 2 of 8 packets came without the SYN of their connection: the capture begins amid it, or its SYN was dropped; record from before it begins
+unread:
+note: 2 packets came without the SYN of their connection, and are not read: record from before it begins
+amid:
+note: 1 of 2 connections has a gap, as where a packet was not recorded; the first: that of 10.0.0.5:49152 at position 12, before record 2; 12 octets stand behind gaps and are not read, in 1 packet
 ";
 
 const NAMES: RunNames<'static> = RunNames {
@@ -171,10 +248,13 @@ fn remarks(rt: &impl Abort, alloc: Global, octets: Vec<u8>) -> String {
     if text.is_empty() {
         text.push_str("nothing\n").expect(rt, "memory");
     }
-    if let Some(dropped) = dropped_alone(alloc, "c", Frames::AsTheyStand, &mut files) {
-        let alone = dropped_text(alloc, &dropped).expect(rt, "memory");
-        assert!(rt; alone.as_str() == text.as_str());
-        text.push_str("alone\n").expect(rt, "memory");
+    for (word, reading) in [("unread:\n", Reading::FromSyn), ("amid:\n", Reading::Amid)] {
+        let found = survey_capture(alloc, assets, "c", reading, &mut files).expect(rt, "a survey");
+        let unread = survey_text(alloc, &found, reading).expect(rt, "memory");
+        if !unread.is_empty() {
+            text.push_str(word).expect(rt, "memory");
+            text.push_str(&unread).expect(rt, "memory");
+        }
     }
     text
 }

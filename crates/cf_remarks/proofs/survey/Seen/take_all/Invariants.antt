@@ -1,5 +1,5 @@
 use Rattle.std.proofs.Common.{◌≡◌, ◌-◌, ◌^◌, ◌≤◌}
-use Rattle.cf_remarks.proofs.amid.Begun.take_all.Given as goal
+use Rattle.cf_remarks.proofs.survey.Seen.take_all.Given as goal
 
 abbrev pub invariant-records : goal.invariant-records
 invariant-records g l =
