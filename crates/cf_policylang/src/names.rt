@@ -1,5 +1,5 @@
 //! The names of codes and groups in policies of version 3.
-ghost use Rattle.std.specs.Prelude.{◌≡◌, ◌<◌, ◌≤◌, IfSome, length, option_map};
+ghost use Rattle.std.specs.Prelude.{◌≡◌, option_map};
 ghost use Rattle.cf_policylang.specs.Names.{cause_named, code_name, code_named, group_named, is_called, variation_named, variation_of};
 ghost use Rattle.cf_policy.specs.declared.policy.Protocol.{Protocol};
 

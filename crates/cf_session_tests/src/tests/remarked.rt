@@ -46,7 +46,8 @@ row: a refused write as a span port has it, which the controller answers with tw
 1.050000 c A +12 +12 65535
 1.060000 c PA +12 +12 65535 W
 says:
-note: 3 segments in 1 of 1 sessions acknowledged what the box had not sent: the capture was not recorded at the box, but at a span port or on a host, where both hosts answer each other, or a packet is missing in it
+note: 3 segments in 1 of 1 sessions acknowledged what the box had not sent: the capture was not recorded at the box, but at a span port or \
+on a host, where both hosts answer each other, or a packet is missing in it
 note: 1 of 1 sessions never closed: the capture ends before they do, or has not all of their packets
 note: for a recording from a span port or a host use 'cmdwall review POLICY CAPTURE LOG' (docs/REVIEW.md)
 
@@ -59,12 +60,15 @@ row: two octets of which the second is beyond the window, a probe at its edge, a
 1.050000 c PA +16383 +0 65535 00
 1.060000 c RA +0 +0 0
 says:
-note: 1 segment in 1 of 1 sessions stood beyond the window that the box had told: the hosts agreed on window scaling, which the box does not, or the capture was not recorded at the box, or a packet is missing in it
+note: 1 segment in 1 of 1 sessions stood beyond the window that the box had told: the hosts agreed on window scaling, which the box does \
+not, or the capture was not recorded at the box, or a packet is missing in it
 note: for a recording from a span port or a host use 'cmdwall review POLICY CAPTURE LOG' (docs/REVIEW.md)
 unread:
-note: 1 of 1 connections has a gap, as where a packet was not recorded; the first: that of 10.0.0.5:49152 at position 0, before record 4; 4 octets stand behind gaps and are not read, in 3 packets
+note: 1 of 1 connections has a gap, as where a packet was not recorded; the first: that of 10.0.0.5:49152 at position 0, before record 4; 4 \
+octets stand behind gaps and are not read, in 3 packets
 amid:
-note: 1 of 1 connections has a gap, as where a packet was not recorded; the first: that of 10.0.0.5:49152 at position 0, before record 4; 4 octets stand behind gaps and are not read, in 3 packets
+note: 1 of 1 connections has a gap, as where a packet was not recorded; the first: that of 10.0.0.5:49152 at position 0, before record 4; 4 \
+octets stand behind gaps and are not read, in 3 packets
 
 row: a closed session, and another from the same port, whose SYN stands far beyond the window that the first was told
 1.000000 c S 1000 0 65535
@@ -112,7 +116,8 @@ note: 1 of 8 records dropped: frames with a service tag (802.1ad); record where 
 note: 1 of 8 records dropped: ARP, which carries no commands; the first is record 5
 note: 1 of 8 records dropped: frames of other types, or cut within their header; the first is record 8
 note: 1 of 8 records dropped: cut, as by a snap length; record whole packets, as 'tcpdump -s 0' does; the first is record 7
-note: 1 of 8 records dropped: a wrong TCP sum, as where a card fills it in behind the recording; record with offload off ('ethtool -K INTERFACE tx off'), or off the host; the first is record 6
+note: 1 of 8 records dropped: a wrong TCP sum, as where a card fills it in behind the recording; record with offload off ('ethtool -K \
+INTERFACE tx off'), or off the host; the first is record 6
 unread:
 note: 1 of 8 records dropped: IPv6, of which the box knows nothing; the first is record 1
 note: 2 of 8 records dropped: frames with a VLAN tag (802.1Q); record on the VLAN's own interface, or where the tag is off; the first is record 2
@@ -120,13 +125,15 @@ note: 1 of 8 records dropped: frames with a service tag (802.1ad); record where 
 note: 1 of 8 records dropped: ARP, which carries no commands; the first is record 5
 note: 1 of 8 records dropped: frames of other types, or cut within their header; the first is record 8
 note: 1 of 8 records dropped: cut, as by a snap length; record whole packets, as 'tcpdump -s 0' does; the first is record 7
-note: 1 of 8 records dropped: a wrong TCP sum, as where a card fills it in behind the recording; record with offload off ('ethtool -K INTERFACE tx off'), or off the host; the first is record 6
+note: 1 of 8 records dropped: a wrong TCP sum, as where a card fills it in behind the recording; record with offload off ('ethtool -K \
+INTERFACE tx off'), or off the host; the first is record 6
 amid:
 note: 1 of 8 records dropped: IPv6, of which the box knows nothing; the first is record 1
 note: 1 of 8 records dropped: ARP, which carries no commands; the first is record 5
 note: 1 of 8 records dropped: frames of other types, or cut within their header; the first is record 8
 note: 4 of 8 records dropped: cut, as by a snap length; record whole packets, as 'tcpdump -s 0' does; the first is record 2
-note: 1 of 8 records dropped: a wrong TCP sum, as where a card fills it in behind the recording; record with offload off ('ethtool -K INTERFACE tx off'), or off the host; the first is record 6
+note: 1 of 8 records dropped: a wrong TCP sum, as where a card fills it in behind the recording; record with offload off ('ethtool -K \
+INTERFACE tx off'), or off the host; the first is record 6
 
 row: a sum as a sending host's recorder leaves it
 1.000000 c S 1000 0 65535
@@ -135,13 +142,16 @@ row: a sum as a sending host's recorder leaves it
 1.030000 frame 02000000000102000000000208004500003400004000400626b70a0000050a000009c00001f6000003e9000013895018ffff14340000000100000006010600280064
 1.040000 c RA +0 +0 0
 says:
-note: 1 of 5 records dropped: a wrong TCP sum, as where a card fills it in behind the recording; record with offload off ('ethtool -K INTERFACE tx off'), or off the host; the first is record 4
+note: 1 of 5 records dropped: a wrong TCP sum, as where a card fills it in behind the recording; record with offload off ('ethtool -K \
+INTERFACE tx off'), or off the host; the first is record 4
 note: 1 wrong TCP sum is that of the pseudo header alone, which a sending host's own recorder leaves: such packets were right on the wire
 unread:
-note: 1 of 5 records dropped: a wrong TCP sum, as where a card fills it in behind the recording; record with offload off ('ethtool -K INTERFACE tx off'), or off the host; the first is record 4
+note: 1 of 5 records dropped: a wrong TCP sum, as where a card fills it in behind the recording; record with offload off ('ethtool -K \
+INTERFACE tx off'), or off the host; the first is record 4
 note: 1 wrong TCP sum is that of the pseudo header alone, which a sending host's own recorder leaves: such packets were right on the wire
 amid:
-note: 1 of 5 records dropped: a wrong TCP sum, as where a card fills it in behind the recording; record with offload off ('ethtool -K INTERFACE tx off'), or off the host; the first is record 4
+note: 1 of 5 records dropped: a wrong TCP sum, as where a card fills it in behind the recording; record with offload off ('ethtool -K \
+INTERFACE tx off'), or off the host; the first is record 4
 note: 1 wrong TCP sum is that of the pseudo header alone, which a sending host's own recorder leaves: such packets were right on the wire
 
 row: a request that was not recorded, before two that were, of which one was sent again
@@ -154,9 +164,11 @@ row: a request that was not recorded, before two that were, of which one was sen
 says:
 note: 1 of 1 sessions never closed: the capture ends before they do, or has not all of their packets
 unread:
-note: 1 of 1 connections has a gap, as where a packet was not recorded; the first: that of 10.0.0.5:49152 at position 0, before record 4; 36 octets stand behind gaps and are not read, in 3 packets
+note: 1 of 1 connections has a gap, as where a packet was not recorded; the first: that of 10.0.0.5:49152 at position 0, before record 4; \
+36 octets stand behind gaps and are not read, in 3 packets
 amid:
-note: 1 of 1 connections has a gap, as where a packet was not recorded; the first: that of 10.0.0.5:49152 at position 0, before record 4; 36 octets stand behind gaps and are not read, in 3 packets
+note: 1 of 1 connections has a gap, as where a packet was not recorded; the first: that of 10.0.0.5:49152 at position 0, before record 4; \
+36 octets stand behind gaps and are not read, in 3 packets
 
 row: a connection without its SYN, with a gap, and behind it one whose packets came in another order
 1.000000 c PA 2001 6000 65535 W
@@ -172,7 +184,8 @@ note: 2 of 8 packets came without the SYN of their connection: the capture begin
 unread:
 note: 2 packets came without the SYN of their connection, and are not read: record from before it begins
 amid:
-note: 1 of 2 connections has a gap, as where a packet was not recorded; the first: that of 10.0.0.5:49152 at position 12, before record 2; 12 octets stand behind gaps and are not read, in 1 packet
+note: 1 of 2 connections has a gap, as where a packet was not recorded; the first: that of 10.0.0.5:49152 at position 12, before record 2; \
+12 octets stand behind gaps and are not read, in 1 packet
 ";
 
 const NAMES: RunNames<'static> = RunNames {
