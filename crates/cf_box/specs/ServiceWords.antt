@@ -34,7 +34,7 @@ service_value service = record {
 
 -- what the reader of the words has tested of the numbers
 abbrev pub IsFitService : ServiceFields → Type 0
-IsFitService service = (1 ≤ service.seconds) × ((service.seconds ≤ 1000000) × (length service.places.items ≤ 256))
+IsFitService service = (2 ≤ service.seconds) × ((service.seconds ≤ 1000000) × (length service.places.items ≤ 256))
 
 -- an address and a port from 1 to 65,535
 abbrev pub endpoint_of : (host port : List ℕ) → Option Endpoint
@@ -72,11 +72,11 @@ places_of words =
     option_and_then (λ places. if are_apart places then Some places else None) (place_words words)
     else None
 
--- with 1 to 1,000,000 seconds
+-- with 2 to 1,000,000 seconds
 abbrev pub service_with : (policy seconds log : List ℕ) → List (List ℕ) → Option ServiceWords
 service_with policy seconds log words =
     option_and_then (λ n. option_map (λ places. record { policy = policy; seconds = n; log = log; places = places }) (places_of words))
-    (printed_number_in 1 1000000 seconds)
+    (printed_number_in 2 1000000 seconds)
 
 -- the service that the words are: the first is `serve`, and the names of the two files are not empty and differ
 abbrev pub service_of : List (List ℕ) → Option ServiceWords

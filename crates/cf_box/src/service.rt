@@ -21,7 +21,7 @@ pub(crate) struct PlaceWord<'a> {
     pub(crate) at: Endpoint,
 }
 
-/// What the words of a service say: 1 to 1,000,000 seconds, and 1 to 256 places, no asset and no endpoint twice.
+/// What the words of a service say: 2 to 1,000,000 seconds, and 1 to 256 places, no asset and no endpoint twice.
 #[derive(Drop)]
 pub(crate) struct Service<'a> {
     pub(crate) policy: &'a str,
@@ -42,7 +42,7 @@ pub(crate) fn read_service(alloc: Global, words: &[String]) -> Result<Option<Ser
     if name.as_str() != "serve" || !are_names(&[policy, log]) {
         return Ok(None);
     }
-    let Some(seconds) = printed_number_in(1, 1_000_000, seconds.as_str()) else {
+    let Some(seconds) = printed_number_in(2, 1_000_000, seconds.as_str()) else {
         return Ok(None);
     };
     let Some(places) = read_places(alloc, rest)? else {

@@ -313,7 +313,7 @@ serves clients until it is ended: each that comes to a place gets a session of i
 controller of the asset, as in relay (docs/SERVE.md)
 
   POLICY   a text in the policy language (docs/POLICY.md)
-  SECONDS  after about how long a session in which nothing moves ends, 1 to 1000000
+  SECONDS  after about how long a session in which nothing moves ends, 2 to 1000000
   LOG      is gone on with, and made where it is not there, also once it is renamed away; it
            gets a line as each session begins and ends, for each refused command, and before it
            goes out for each admitted one that a rule with a log allows (docs/LOG.md)
