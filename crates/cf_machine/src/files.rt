@@ -1,14 +1,16 @@
 //! Real files.
 ghost use Rattle.std.specs.Prelude.{◌≡◌, ◌≤◌, IfErr, IfOk, false, length, true};
+ghost use Rattle.cf_outside.specs.Faults.{HasCause};
 ghost use Rattle.cf_outside.specs.Files.{untold};
 
+mod order;
 mod reader;
 mod same;
 mod writer;
 
 use crate::files::reader::{Reader, forget, opened, read_from};
 use crate::files::same::{Place, Use, first_twins, is_begun, is_printed, place_of};
-use crate::files::writer::{Writer, append_to, create_file, flush_all, flush_one, open_at_end};
+use crate::files::writer::Writers;
 use cf_outside::{Files, ReadAnswer, WriteAnswer};
 pub use same::Twins;
 use std::alloc::Global;
@@ -20,7 +22,8 @@ use std::rt::Files as FileSystem;
 pub enum Gather {
     /// Each with its call, as for a log that people follow.
     Nothing,
-    /// In pieces of 64 KiB, before a read of the file, before a read that may wait (of a pipe, say), and at the end.
+    /// In pieces of 64 KiB, before a read of the file, before a read that may wait (of a pipe, say), and at the end; over all files in
+    /// the order in which they came.
     Pieces,
 }
 
@@ -51,9 +54,7 @@ pub struct RealFiles<'a, R: FileSystem> {
     alloc: Global,
     gather: Gather,
     reader: Option<Reader<R::File>>,
-    writers: Vec<Writer<R::File>>,
-    /// The place of the file that was appended to last among those that are open. What stands there may be another by now.
-    latest: usize,
+    writers: Writers<R>,
     /// Which files the command's names stand for.
     places: Vec<Place>,
     fault: Option<Fault>,
@@ -75,8 +76,7 @@ impl<'a, R: FileSystem> RealFiles<'a, R> {
             alloc,
             gather,
             reader: None,
-            writers: Vec::new(alloc),
-            latest: 0,
+            writers: Writers::new(alloc),
             places: Vec::new(alloc),
             fault: None,
             withheld: None,
@@ -132,7 +132,7 @@ impl<'a, R: FileSystem> RealFiles<'a, R> {
         ensures short { self.old.is_short ≡ true → result ≡ false }
         ensures kept { self.new.is_short ≡ self.old.is_short }
     {
-        match flush_all(&mut self.writers, self.alloc) {
+        match self.writers.flush() {
             Ok(()) => !self.is_short,
             Err(fault) => {
                 self.fault = fault;
@@ -141,8 +141,8 @@ impl<'a, R: FileSystem> RealFiles<'a, R> {
         }
     }
 
-    /// Reads at a place, once what was gathered for the file is written; and all that was gathered, where the read may have to wait.
-    /// It stands apart from the octets that were read ahead, so that these cost no more than their copy.
+    /// Reads at a place, once what was gathered is written where it is for this file, or the read may have to wait. It stands apart from
+    /// the octets that were read ahead, so that these cost no more than their copy.
     #[inline(never)]
     fn read(&mut self, name: &str, at: u64, buf: &mut [u8]) -> io::Result<usize>
         ensures inside { IfOk result (λ n. n ≤ length buf.new) }
@@ -150,24 +150,26 @@ impl<'a, R: FileSystem> RealFiles<'a, R> {
         ensures writes { self.new.write_faults ≡ self.old.write_faults }
         ensures short { self.old.is_short ≡ true → self.new.is_short ≡ true }
     {
-        self.write_before_read(name)?;
+        if self.writers.holds_of(name) {
+            self.write_before_read()?;
+        }
         let (mut reader, may_wait) = opened(self.rt, self.alloc, &mut self.reader, name)?;
         if may_wait {
-            self.write_before_wait()?;
+            self.write_before_read()?;
         }
         let count = read_from(&mut reader, at, buf)?;
         self.reader = Some(reader);
         Ok(count)
     }
 
-    /// Writes all that was gathered, before a read that may wait, and notes where that failed.
-    fn write_before_wait(&mut self) -> io::Result<()>
+    /// Writes all that was gathered, before a read of it or one that may wait, and notes where that failed.
+    fn write_before_read(&mut self) -> io::Result<()>
         ensures reads { self.new.read_faults ≡ self.old.read_faults }
         ensures writes { self.new.write_faults ≡ self.old.write_faults }
         ensures fails { IfErr result (λ _. self.new.is_short ≡ true) }
         ensures kept { IfOk result (λ _. self.new.is_short ≡ self.old.is_short) }
     {
-        match flush_all(&mut self.writers, self.alloc) {
+        match self.writers.flush() {
             Ok(()) => Ok(()),
             Err(fault) => {
                 self.is_short = true;
@@ -179,45 +181,50 @@ impl<'a, R: FileSystem> RealFiles<'a, R> {
         }
     }
 
-    /// Writes what was gathered for a file that is to be read, and notes where that failed.
-    fn write_before_read(&mut self, name: &str) -> io::Result<()>
-        ensures reads { self.new.read_faults ≡ self.old.read_faults }
-        ensures writes { self.new.write_faults ≡ self.old.write_faults }
-        ensures fails { IfErr result (λ _. self.new.is_short ≡ true) }
-        ensures kept { IfOk result (λ _. self.new.is_short ≡ self.old.is_short) }
-    {
-        if let Err(error) = flush_one(&mut self.writers, name) {
-            self.is_short = true;
-            return Err(error);
-        }
-        Ok(())
-    }
-
     /// Makes a file empty, unless that is withheld.
-    fn create_new(&mut self, name: &str) -> io::Result<()>
+    fn create_new(&mut self, name: &str) -> Result<(), Option<Fault>>
         ensures reads { self.new.read_faults ≡ self.old.read_faults }
         ensures writes { self.new.write_faults ≡ self.old.write_faults }
     {
-        if let Some(withheld) = self.reason_against(name)? {
-            self.withheld = Some(withheld);
-            return Err(io::Error::from(io::ErrorKind::InvalidInput));
-        }
+        self.see_allowed(name)?;
         forget(&mut self.reader, name);
-        create_file(self.rt, self.alloc, &mut self.writers, name)?;
-        self.note(name, Use::Begun)
+        self.writers.create(self.rt, name)?;
+        let noted = self.note(name, Use::Begun);
+        self.named(name, noted)
     }
 
     /// Makes a file ready to be gone on with, unless that is withheld.
-    fn open_kept(&mut self, name: &str) -> io::Result<()>
+    fn open_kept(&mut self, name: &str) -> Result<(), Option<Fault>>
         ensures reads { self.new.read_faults ≡ self.old.read_faults }
         ensures writes { self.new.write_faults ≡ self.old.write_faults }
     {
-        if let Some(withheld) = self.reason_against(name)? {
-            self.withheld = Some(withheld);
-            return Err(io::Error::from(io::ErrorKind::InvalidInput));
-        }
+        self.see_allowed(name)?;
         forget(&mut self.reader, name);
-        open_at_end(self.rt, self.alloc, &mut self.writers, name)
+        self.writers.go_on(self.rt, name)
+    }
+
+    /// Fails where a file is not to be made, and notes why.
+    fn see_allowed(&mut self, name: &str) -> Result<(), Option<Fault>>
+        ensures reads { self.new.read_faults ≡ self.old.read_faults }
+        ensures writes { self.new.write_faults ≡ self.old.write_faults }
+    {
+        let found = match self.reason_against(name) {
+            Ok(None) => return Ok(()),
+            Ok(Some(withheld)) => {
+                self.withheld = Some(withheld);
+                Err(io::Error::from(io::ErrorKind::InvalidInput))
+            }
+            Err(error) => Err(error),
+        };
+        self.named(name, found)
+    }
+
+    /// What came of a call, with the file's name where it failed.
+    fn named(&self, name: &str, done: io::Result<()>) -> Result<(), Option<Fault>> {
+        match done {
+            Ok(()) => Ok(()),
+            Err(error) => Err(fault_of(self.alloc, name, error)),
+        }
     }
 
     /// Why a file is not made: two of the command's names are one file, its name is `-`, or what is printed goes there. A log that
@@ -235,12 +242,19 @@ impl<'a, R: FileSystem> RealFiles<'a, R> {
         Ok(None)
     }
 
-    /// Keeps what the system said of a call that failed; nothing where memory ran out.
-    fn keep_fault(&mut self, name: &str, error: io::Error)
+    /// What a call that writes answers; where it failed, that is kept and counted.
+    fn answer(&mut self, done: Result<(), Option<Fault>>) -> WriteAnswer
+        ensures cause { HasCause self.old.write_faults self.new.write_faults (result ≡ WriteAnswer.Failed) }
         ensures reads { self.new.read_faults ≡ self.old.read_faults }
-        ensures writes { self.new.write_faults ≡ self.old.write_faults }
     {
-        self.fault = fault_of(self.alloc, name, error);
+        match done {
+            Ok(()) => WriteAnswer::Done,
+            Err(fault) => {
+                self.fault = fault;
+                self.write_faults = self.write_faults.saturating_add(1);
+                WriteAnswer::Failed
+            }
+        }
     }
 }
 
@@ -271,7 +285,7 @@ impl<R: FileSystem> Files for RealFiles<'_, R> {
             Ok(0) => ReadAnswer::End,
             Ok(count) => ReadAnswer::Got(count),
             Err(error) => {
-                self.keep_fault(name, error);
+                self.fault = fault_of(self.alloc, name, error);
                 self.read_faults = self.read_faults.saturating_add(1);
                 ReadAnswer::Failed
             }
@@ -279,51 +293,22 @@ impl<R: FileSystem> Files for RealFiles<'_, R> {
     }
 
     fn create(&mut self, name: &str) -> WriteAnswer {
-        match self.create_new(name) {
-            Ok(()) => WriteAnswer::Done,
-            Err(error) => {
-                self.keep_fault(name, error);
-                self.write_faults = self.write_faults.saturating_add(1);
-                WriteAnswer::Failed
-            }
-        }
+        let done = self.create_new(name);
+        self.answer(done)
     }
 
     /// What only has to be gathered for the file that was appended to last is gathered at once.
     fn append(&mut self, name: &str, bytes: &[u8]) -> WriteAnswer {
         forget(&mut self.reader, name);
-        if self.gather == Gather::Pieces
-            && let Some(writer) = self.writers.get_mut(self.latest)
-            && writer.hold(name, bytes)
-        {
+        if self.gather == Gather::Pieces && self.writers.hold(name, bytes) {
             return WriteAnswer::Done;
         }
-        match append_to(
-            self.rt,
-            self.alloc,
-            self.gather,
-            &mut self.writers,
-            &mut self.latest,
-            name,
-            bytes,
-        ) {
-            Ok(()) => WriteAnswer::Done,
-            Err(error) => {
-                self.keep_fault(name, error);
-                self.write_faults = self.write_faults.saturating_add(1);
-                WriteAnswer::Failed
-            }
-        }
+        let done = self.writers.append(self.rt, self.gather, name, bytes);
+        self.answer(done)
     }
 
     fn go_on(&mut self, name: &str) -> WriteAnswer {
-        match self.open_kept(name) {
-            Ok(()) => WriteAnswer::Done,
-            Err(error) => {
-                self.keep_fault(name, error);
-                self.write_faults = self.write_faults.saturating_add(1);
-                WriteAnswer::Failed
-            }
-        }
+        let done = self.open_kept(name);
+        self.answer(done)
     }
 }

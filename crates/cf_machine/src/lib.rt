@@ -12,5 +12,5 @@ mod streams;
 pub use files::{Fault, Gather, RealFiles, Twins, Withheld};
 pub use link::{LinkFault, LinkPair, Part};
 pub use links::{Announcement, RealLinks};
-pub use sink::RealSink;
+pub use sink::{Printing, RealSink};
 pub use standard::{fill_descriptors, takes_lines};

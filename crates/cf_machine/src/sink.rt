@@ -8,23 +8,37 @@ use std::io::Write;
 /// How many octets are kept of what was put last.
 const KEPT: usize = 300;
 
+/// When what is put is written.
+#[derive(Clone, Copy, PartialEq, Eq)]
+pub enum Printing {
+    /// With its call.
+    AtOnce,
+    /// What was put last, if it is short, once the files of the work are written: nothing is printed of work that was not done.
+    LastAtEnd,
+}
+
 /// A writer, as that of standard output. It tells nothing of what was put, and counts its failures.
 #[derive(Drop)]
 pub struct RealSink<W: Write + Drop> {
     writer: W,
+    printing: Printing,
     faults: u64,
     last: ArrayVec<u8, KEPT>,
+    /// What was put last is not written yet.
+    is_held: bool,
 }
 
 impl<W: Write + Drop> RealSink<W> {
     /// A sink whose count of faults is 0.
-    pub fn new(writer: W) -> Self
+    pub fn new(writer: W, printing: Printing) -> Self
         ensures { result.faults ≡ 0 }
     {
         RealSink {
             writer,
+            printing,
             faults: 0,
             last: ArrayVec::new(),
+            is_held: false,
         }
     }
 
@@ -33,13 +47,26 @@ impl<W: Write + Drop> RealSink<W> {
         self.last.as_slice()
     }
 
-    /// Keeps the last octets of what is put.
-    fn keep(&mut self, bytes: &[u8])
+    /// Writes what was held back; whether all of it was written. A sink that is left without it does not write that.
+    pub fn finish(&mut self) -> bool
+        ensures { self.new.faults ≡ self.old.faults }
+    {
+        if !self.is_held {
+            return true;
+        }
+        self.is_held = false;
+        self.writer.write_all(self.last.as_slice()).is_ok() && self.writer.flush().is_ok()
+    }
+
+    /// Writes bytes, or holds them back; whether it did.
+    fn take(&mut self, bytes: &[u8]) -> bool
         ensures { self.new.faults ≡ self.old.faults }
     {
         let from = bytes.len().saturating_sub(KEPT);
         self.last.clear();
         let _ = self.last.try_extend_from_slice(&bytes[from..]);
+        self.is_held = from == 0 && self.printing == Printing::LastAtEnd;
+        self.is_held || self.writer.write_all(bytes).is_ok() && self.writer.flush().is_ok()
     }
 }
 
@@ -50,9 +77,7 @@ impl<W: Write + Drop> Sink for RealSink<W> {
 
     fn put(&mut self, bytes: &[u8]) -> WriteAnswer {
         let faults = self.faults;
-        self.keep(bytes);
-        let written = self.writer.write_all(bytes).is_ok() && self.writer.flush().is_ok();
-        if written {
+        if self.finish() && self.take(bytes) {
             return WriteAnswer::Done;
         }
         self.faults = faults.saturating_add(1);

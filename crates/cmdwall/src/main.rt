@@ -6,7 +6,7 @@ mod service;
 use crate::service::{is_service, serve};
 use cf_box::box_main;
 use cf_help::{Asked, expect_files, explain, print_help, print_topic, print_version, question_of};
-use cf_machine::{Gather, LinkPair, RealFiles, RealSink, fill_descriptors};
+use cf_machine::{Gather, LinkPair, Printing, RealFiles, RealSink, fill_descriptors};
 use cf_words::status::{NO_MEMORY, WRITE_FAULT};
 use cf_words::{Command, read_words};
 use std::env::Env;
@@ -40,9 +40,10 @@ fn answer(rt: &HostRuntime, words: &[String]) -> ExitCode {
 fn work(rt: &HostRuntime, words: &[String]) -> ExitCode {
     let command = read_words(words);
     let mut files = RealFiles::new(rt, rt.alloc(), gather_of(&command));
+    let printing = printing_of(&command);
     let status = match command {
         Some(command) if expect_files(&command, &mut files).is_err() => NO_MEMORY,
-        _ => run_box(rt, words, &mut files),
+        _ => run_box(rt, words, &mut files, printing),
     };
     ExitCode::from(status)
 }
@@ -55,14 +56,37 @@ fn gather_of(command: &Option<Command<'_>>) -> Gather {
     }
 }
 
+/// What is printed of work that makes files waits for them.
+fn printing_of(command: &Option<Command<'_>>) -> Printing {
+    match command {
+        Some(
+            Command::Check { .. }
+            | Command::Compare { .. }
+            | Command::Packets { .. }
+            | Command::Judge { .. },
+        )
+        | None => Printing::AtOnce,
+        Some(_) => Printing::LastAtEnd,
+    }
+}
+
 /// Runs the proved program, and says on standard error what there is to say.
-fn run_box(rt: &HostRuntime, words: &[String], files: &mut RealFiles<'_, HostRuntime>) -> u8 {
-    let mut out = RealSink::new(io::writer(rt));
+fn run_box(
+    rt: &HostRuntime,
+    words: &[String],
+    files: &mut RealFiles<'_, HostRuntime>,
+    printing: Printing,
+) -> u8 {
+    let mut out = RealSink::new(io::writer(rt), printing);
     let mut pair = LinkPair::new(rt);
     let done = box_main(rt.alloc(), words, files, &mut out, &mut pair);
     pair.leave();
-    // What was gathered is part of the work: where it cannot be written, the work is not done.
-    let status = if files.finish() { done } else { WRITE_FAULT };
+    // What was gathered is part of the work: where it cannot be written, the work is not done, and nothing of it is printed.
+    let status = if files.finish() && out.finish() {
+        done
+    } else {
+        WRITE_FAULT
+    };
     let printed = str::from_utf8(out.last()).unwrap_or("");
     explain(rt, words, status, printed, files, pair.fault());
     status
