@@ -11,6 +11,6 @@ mod streams;
 
 pub use files::{Fault, Gather, RealFiles, Twins, Withheld};
 pub use link::{LinkFault, LinkPair, Part};
-pub use links::{Announcement, RealLinks};
+pub use links::{Announcement, RealLinks, Supervisor};
 pub use sink::{Printing, RealSink};
 pub use standard::{fill_descriptors, takes_lines};

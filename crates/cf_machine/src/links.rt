@@ -11,6 +11,7 @@ mod place;
 mod session;
 mod sides;
 mod sockets;
+mod supervisor;
 mod watch;
 
 use crate::links::session::Reached;
@@ -26,6 +27,7 @@ use std::fmt::Display;
 use std::io;
 use std::net::{IpAddr, Ipv4Addr, Net, SocketAddr};
 use std::time::Clock;
+pub use supervisor::Supervisor;
 
 /// What standard error says of a service as it begins.
 #[derive(Drop)]
@@ -54,14 +56,19 @@ pub struct RealLinks<'a, R: Net + Clock> {
 
 impl<'a, R: Net + Clock> RealLinks<'a, R> {
     /// Of no place and no session. All counts are 0.
-    pub fn new(rt: &'a R, alloc: Global, announced: Announcement) -> io::Result<Self>
+    pub fn new(
+        rt: &'a R,
+        alloc: Global,
+        announced: Announcement,
+        supervisor: Option<Supervisor>,
+    ) -> io::Result<Self>
         ensures counts { IfOk result (λ links. (links.faults ≡ 0) × (links.idles ≡ 0) × (links.round_faults ≡ 0)) }
         ensures free { IfOk result (λ links. (session : ℕ) → contains nat_cmp links.numbers session ≡ false) }
     {
         Ok(RealLinks {
             errors: ErrorLines::new(),
             announced,
-            sockets: Sockets::new(rt, alloc)?,
+            sockets: Sockets::new(rt, alloc, supervisor)?,
             numbers: BTreeSet::new(alloc),
             faults: 0,
             idles: 0,

@@ -2,7 +2,7 @@
 
 use cf_box::serve_main;
 use cf_help::{announce_service, expect_service_files, explain_service};
-use cf_machine::{Gather, Printing, RealFiles, RealLinks, RealSink, takes_lines};
+use cf_machine::{Gather, Printing, RealFiles, RealLinks, RealSink, Supervisor, takes_lines};
 use cf_words::status::{LINK_FAULT, NO_MEMORY};
 use std::io;
 use std::process::ExitCode;
@@ -31,7 +31,7 @@ fn serve_files(rt: &HostRuntime, words: &[String], files: &mut RealFiles<'_, Hos
         Ok(announced) => announced,
         Err(error) => return not_begun(rt, &error),
     };
-    match RealLinks::new(rt, rt.alloc(), announced) {
+    match RealLinks::new(rt, rt.alloc(), announced, Supervisor::of_environment(rt)) {
         Ok(mut links) => {
             let mut out = RealSink::new(io::writer(rt), Printing::AtOnce);
             let status = serve_main(rt.alloc(), words, files, &mut out, &mut links);

@@ -5,6 +5,7 @@ ghost use Rattle.cf_machine.specs.Moved.{IsOn};
 use crate::links::place::Place;
 use crate::links::session::{Leaving, Reached, Session, session_of};
 use crate::links::sides::Moved;
+use crate::links::supervisor::Supervisor;
 use cf_view::{Endpoint, Side};
 use mio::{Events, Poll, Token};
 use std::alloc::Global;
@@ -25,6 +26,7 @@ const LEAVING: usize = 256;
 #[derive(Drop)]
 pub(crate) struct Sockets<'a, R: Net + Clock> {
     rt: &'a R,
+    supervisor: Option<Supervisor>,
     poll: Poll,
     events: Events,
     places: Vec<Place>,
@@ -42,10 +44,11 @@ pub(crate) struct Sockets<'a, R: Net + Clock> {
 
 impl<'a, R: Net + Clock> Sockets<'a, R> {
     /// Of no place and no session.
-    pub fn new(rt: &'a R, alloc: Global) -> io::Result<Self> {
+    pub fn new(rt: &'a R, alloc: Global, supervisor: Option<Supervisor>) -> io::Result<Self> {
         let begun_at = wall_moment(rt)?;
         Ok(Sockets {
             rt,
+            supervisor,
             poll: Poll::new(rt)?,
             events: Events::with_capacity(alloc, EVENTS)?,
             places: Vec::new(alloc),
@@ -93,9 +96,12 @@ impl<'a, R: Net + Clock> Sockets<'a, R> {
         Ok((here, self.moment))
     }
 
-    /// Waits for what a round can move, and reads the clock.
+    /// Waits for what a round can move, and reads the clock. A supervisor is told before that the service stands.
     pub fn wait_for_news(&mut self) -> io::Result<u64> {
         let now = self.now;
+        if let Some(supervisor) = &mut self.supervisor {
+            supervisor.tell(now);
+        }
         self.leaving.retain_mut(|leaving| !leaving.drain(now));
         let wait = self.longest_wait().map(Duration::from_millis);
         for place in self.places.iter_mut() {
@@ -109,7 +115,10 @@ impl<'a, R: Net + Clock> Sockets<'a, R> {
 
     /// How many milliseconds may pass before the next round; nothing where the system says when.
     fn longest_wait(&self) -> Option<u64> {
-        let mut wait = None;
+        let mut wait = match &self.supervisor {
+            Some(supervisor) => supervisor.longest_wait(self.now),
+            None => None,
+        };
         for place in self.places.iter() {
             wait = sooner(wait, place.longest_wait(self.now));
         }
