@@ -2,6 +2,7 @@
 ghost use Rattle.std.specs.Prelude.{◌≤◌, ◌^◌};
 
 use crate::block::push_refused;
+use crate::foreign::is_of_text;
 use crate::link::{link_hint, link_name};
 use crate::page::Page;
 use cf_outside::{Files, ReadAnswer};
@@ -110,6 +111,9 @@ fn push_header(out: &mut Page, refusal: FormRefusal, first: &[u8; HEADER_OCTETS]
 fn magic(first: &[u8; HEADER_OCTETS]) -> &'static str {
     if first.starts_with(&GZIP) {
         "it is compressed\n  'gunzip' writes it as it was"
+    } else if first.iter().all(is_of_text) {
+        "it begins as a text does, and not as a capture\n  \
+         in the words of a command CAPTURE stands behind POLICY, as cmdwall judge POLICY CAPTURE"
     } else {
         "it does not begin as a pcap file\n  'editcap -F pcap IN OUT' writes other captures as pcap"
     }

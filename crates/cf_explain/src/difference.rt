@@ -68,7 +68,7 @@ fn asset_at(policy: &Policy, place: u32) -> Option<&Asset> {
 }
 
 /// The asset of a name, with its place from 0.
-fn asset_named<'a>(policy: &'a Policy, name: &str) -> Option<(u32, &'a Asset)> {
+pub(crate) fn asset_named<'a>(policy: &'a Policy, name: &str) -> Option<(u32, &'a Asset)> {
     let mut place = 0u32;
     for asset in policy.assets.as_slice() {
         if asset.name.as_str() == name {
@@ -80,7 +80,7 @@ fn asset_named<'a>(policy: &'a Policy, name: &str) -> Option<(u32, &'a Asset)> {
 }
 
 /// The number, from 1, and the name of an asset.
-fn push_asset(out: &mut Page, place: u32, asset: &Asset) {
+pub(crate) fn push_asset(out: &mut Page, place: u32, asset: &Asset) {
     let number = u64::from(place).saturating_add(1);
     push_titled(out, "asset ", number, asset.name.as_str());
 }

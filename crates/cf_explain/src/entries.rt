@@ -6,6 +6,9 @@ use cf_policy::{
 use cf_policylang::{Key, address, group_named};
 use toml::Value;
 
+/// Words for every number of a list, which some write in its place.
+const EVERY: [&str; 4] = ["any", "all", "every", "*"];
+
 /// Why a text is no number from `low` to `high` as it is printed, if it is none.
 fn number_fault(key: Key, low: i64, high: i64, text: &str) -> Option<&'static str> {
     match front_fault(text) {
@@ -27,11 +30,17 @@ fn front_fault(text: &str) -> Option<&'static str> {
         Some("numbers are decimal")
     } else if text == "-0" {
         Some("0 has no sign")
-    } else if text.starts_with("-0") || (text.len() > 1 && text.starts_with("0")) {
+    } else if has_leading_zero(text) {
         Some("a number has no leading zero")
     } else {
         None
     }
+}
+
+/// Whether a text is digits, behind a minus sign or without, of which the first is a zero too many.
+fn has_leading_zero(text: &str) -> bool {
+    let digits = text.strip_prefix("-").unwrap_or(text);
+    digits.len() > 1 && digits.starts_with("0") && digits.bytes().all(|byte| byte.is_ascii_digit())
 }
 
 /// On which side a number is outside a range, if it is.
@@ -50,7 +59,7 @@ fn misread(key: Key, text: &str) -> &'static str {
     if key == Key::Groups && (text.contains(".") || text.starts_with("g")) {
         "a group of DNP3 is 256 times the object group, and the variation: 3073 for g12v1"
     } else if text.contains(".") {
-        "numbers have no point"
+        "numbers are whole, without a decimal point"
     } else if text.starts_with("@") {
         "sets are named in the points of rules alone, and in versions 2 and 3"
     } else if text.contains("-") {
@@ -150,20 +159,42 @@ fn point_fault(names_sets: bool, text: &str) -> Option<&'static str> {
     }
 }
 
+/// What is said of a word that means every number of a list, which no list has.
+pub(crate) fn every_fault(key: Key, scope: &Scope, text: &str) -> Option<&'static str> {
+    if !EVERY.iter().any(|word| word.eq_ignore_ascii_case(text)) {
+        return None;
+    }
+    match key {
+        Key::Codes => Some("a rule names each of its codes"),
+        Key::Clients => Some("a rule without `clients` is for every client: leave the key out"),
+        Key::Groups => Some("a rule without `groups` is for every group: leave the key out"),
+        Key::Points if scope.protocol.is_some() => {
+            Some("a rule without `points` is for every point: leave the key out")
+        }
+        Key::Values => Some("a rule without `values` is for every value: leave the key out"),
+        _ => None,
+    }
+}
+
 /// Why an entry of the kind of a key's list is refused, if it is.
 fn entry_fault(key: Key, scope: &Scope, value: &Value) -> Option<&'static str> {
-    match (key, value) {
-        (Key::Codes, Value::Integer(code)) => outside(0, HIGHEST_CODE, *code),
-        (Key::Codes, Value::String(text)) => code_fault(scope, text.as_str()),
-        (Key::Clients, Value::String(text)) => client_fault(text.as_str()),
-        (Key::Groups, Value::String(text)) => groups_fault(scope, text.as_str()),
-        (Key::Points, Value::String(text)) => point_fault(scope.names_sets, text.as_str()),
-        (Key::Values, Value::String(text)) => span_fault(
-            key,
-            LOWEST_VALUE,
-            HIGHEST_VALUE,
-            text.as_str(),
-        ),
+    match value {
+        Value::Integer(code) if key == Key::Codes => outside(0, HIGHEST_CODE, *code),
+        Value::String(text) => {
+            every_fault(key, scope, text.as_str()).or(text_fault(key, scope, text.as_str()))
+        }
+        _ => None,
+    }
+}
+
+/// Why a text among the entries of a key's list is refused, if it is.
+fn text_fault(key: Key, scope: &Scope, text: &str) -> Option<&'static str> {
+    match key {
+        Key::Codes => code_fault(scope, text),
+        Key::Clients => client_fault(text),
+        Key::Groups => groups_fault(scope, text),
+        Key::Points => point_fault(scope.names_sets, text),
+        Key::Values => span_fault(key, LOWEST_VALUE, HIGHEST_VALUE, text),
         _ => None,
     }
 }
@@ -215,6 +246,14 @@ pub(crate) fn address_fault(text: &str) -> Option<&'static str> {
     }
     if text.contains(":") {
         return Some("the port is a key of its own, and addresses of IPv6 are not served");
+    }
+    if text.contains("/") {
+        return Some(
+            "one address stands there, and no network: leave out the slash and what is behind it",
+        );
+    }
+    if text.contains("..") {
+        return Some("one address stands there, and no range");
     }
     if text.split(".").count() != 4 {
         return Some("it has not four numbers");

@@ -1,4 +1,5 @@
 //! A value of another kind than its key's.
+use crate::entries::every_fault;
 use crate::naming::{Scope, name_hint};
 use crate::page::Page;
 use crate::quote::push_value;
@@ -89,16 +90,18 @@ pub(crate) fn push_wrong_kind(out: &mut Page, key: Key, scope: &Scope, value: &V
         None => {
             push_keyed(out, key.as_str(), value);
             out.push_all(&[", and has to be ", wanted(key, scope), brackets(key, value)]);
+            push_hint(out, key, scope, value);
         }
     }
 }
 
-/// What is said of an entry that is a name which this version or this protocol does not read.
+/// What is said of a text for every number, or of a name which this version or this protocol does not read.
 fn push_hint(out: &mut Page, key: Key, scope: &Scope, entry: &Value) {
     let Value::String(text) = entry else {
         return;
     };
-    if let Some(hint) = name_hint(key, scope, text.as_str()) {
+    let text = text.as_str();
+    if let Some(hint) = every_fault(key, scope, text).or(name_hint(key, scope, text)) {
         out.push_all(&["; ", hint]);
     }
 }

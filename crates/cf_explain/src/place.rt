@@ -143,7 +143,7 @@ fn last_part(name: &str) -> &str {
 }
 
 /// The table whose lines are scanned, numbered as a refusal has it, and how many headers of assets and of sets there were so far.
-#[derive(Clone, Copy, PartialEq, Eq)]
+#[derive(Clone, Copy)]
 struct Section {
     asset: u32,
     rule: u32,
@@ -189,9 +189,9 @@ impl Section {
             (Look::Header(name), Some(wanted)) => {
                 (target.asset == 0 || self.asset == target.asset) && last_part(name) == wanted
             }
-            (Look::Header(_), None) => {
+            (Look::Header("set" | "asset" | "asset.rule"), None) => {
                 let next = self.behind(look);
-                next != self && next.asset == target.asset && next.rule == target.rule
+                next.asset == target.asset && next.rule == target.rule
             }
             _ => false,
         }

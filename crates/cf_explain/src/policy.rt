@@ -1,5 +1,6 @@
 //! Why a policy was refused, and how its text is mended.
 use crate::allowed::{allowed, apart};
+use crate::foreign::foreign;
 use crate::page::Page;
 use crate::place::{Target, TextPlace, find_place, is_line_end, table_at};
 use crate::quote::push_shown;
@@ -8,6 +9,9 @@ use crate::wrong::{Case, cause_of, push_where, push_wrong, scope_of};
 use cf_policylang::{Cause, Key, LONGEST_TEXT, PolicyRefusal};
 use std::alloc::{AllocError, Global};
 use toml::Table;
+
+/// What the reader of TOML says of octets that are no text in UTF-8.
+const NO_UTF8: &str = "invalid UTF-8";
 
 /// What a refusal of a policy's text means to its writer, in two lines: the file with line and column, the asset, the rule
 /// and the key, and what is wrong; and then what is allowed there.
@@ -40,11 +44,13 @@ fn push_why(out: &mut Page, text: &[u8], refusal: &PolicyRefusal) {
     }
 }
 
-/// What the reader of TOML says, and the line at which it stopped; without a place memory ran out.
+/// What a file is that begins as no policy does; else what the reader of TOML says, and the line at which it stopped. Without a place
+/// memory ran out.
 fn push_no_toml(out: &mut Page, text: &[u8], error: &toml::de::Error) {
-    match error.span() {
-        Some(span) => push_toml_fault(out, text, span.start, error.message()),
-        None => out.run_out(),
+    match (error.span(), foreign(text)) {
+        (Some(_), Some(what)) => out.push(what),
+        (Some(span), None) => push_toml_fault(out, text, span.start, error.message()),
+        (None, _) => out.run_out(),
     }
 }
 
@@ -55,6 +61,10 @@ fn push_toml_fault(out: &mut Page, text: &[u8], start: usize, message: &str) {
     push_place(out, TextPlace::behind(before));
     out.push(": this is no TOML: ");
     push_line(out, message);
+    if message == NO_UTF8 {
+        out.push("\n  save the text as UTF-8");
+        return;
+    }
     if let Some(hint) = toml_hint(line) {
         out.push_all(&["; ", hint]);
     }

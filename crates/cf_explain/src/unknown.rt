@@ -120,6 +120,9 @@ pub(crate) fn push_unknown(out: &mut Page, level: Level, key: &str) {
 
 /// Where a key belongs that another level has.
 fn other_level(level: Level, key: &str) -> Option<&'static str> {
+    if level == Level::Asset && key == "stations" {
+        return Some(": it has one, as station = 1");
+    }
     if level != Level::Rule && key != "name" && RULE_KEYS.contains(&key) {
         return Some(": it stands in a rule, below [[asset.rule]]");
     }

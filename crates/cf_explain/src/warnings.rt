@@ -1,10 +1,13 @@
-//! What `check` warns of: sets that no rule names, and rules that decide nothing, or less than they seem to.
+//! What `check` warns of: sets that no rule names, assets that nothing reaches, and rules that decide nothing, or less than they seem to.
 use crate::found::What;
 use crate::gathered::{Silence, Warned, Warning, gathered, silence_about};
+use crate::naming::Scope;
 use crate::page::Page;
+use crate::place::is_line_end;
 use crate::policy::push_rule_place;
 use crate::quote::push_titled;
 use crate::sets::{is_named, name_of, sets_of, twin_of};
+use crate::unlogged::push_unlogged;
 use crate::unmet::{Unmet, reaches_place};
 use cf_acts::{Groups, Kind, kinds};
 use cf_covered::{Cover, Slip};
@@ -20,6 +23,9 @@ const SPENT: &str = ", also while its rate is spent";
 
 /// The key of a document's sets.
 const SETS: &[u8] = b"set";
+
+/// The key of a document's version.
+const VERSION: &[u8] = b"version";
 
 /// A policy's file: its name and its text.
 #[derive(Clone, Copy)]
@@ -45,10 +51,11 @@ struct Report {
 }
 
 /// A line for each warning about a policy that was read from a text: first the refusals after rules that allow all that they name;
-/// then a set that no rule names, or that has the points of an earlier one; then a rule that no command meets, a code that none
-/// brings, values where reads have none, a rule that earlier ones cover, points that never come, and likely slips. Twenty are
-/// written out, and after them how many more there are. Where the document has sets, their number stands before what is said of
-/// them. The text is empty where there is nothing to say.
+/// then an asset without a rule that allows; then a set that no rule names, or that has the points of an earlier one; then a rule that
+/// no command meets, a code that none brings, values where reads have none, a rule that earlier ones cover, points that never come, and
+/// likely slips. Twenty are written out, and after them how many more there are. Where the document has sets, their number stands
+/// before what is said of them. Last, in version 3, is a note for each asset with rules that allow more than reads and have no log. The
+/// text is empty where there is nothing to say.
 pub fn policy_warnings(
     alloc: Global,
     file: &str,
@@ -62,20 +69,58 @@ pub fn policy_warnings(
         count: 0,
     };
     push_rules(&mut report, &source, policy, &all, Order::Silent);
-    push_stated_sets(&mut report, &source);
+    push_strict(&mut report, &source, policy);
+    let has_logs = push_stated(&mut report, &source);
     push_rules(&mut report, &source, policy, &all, Order::Other);
     push_more(&mut report, file);
+    if has_logs {
+        push_unlogged(&mut report.lines, file, policy);
+    }
     report.lines.finish()
 }
 
-/// The warnings about the sets that a text has.
-fn push_stated_sets(report: &mut Report, source: &Source<'_>) {
-    if may_have_sets(source.text) {
-        match toml::table_from_slice(report.lines.alloc, source.text) {
-            Ok(document) => push_sets(report, source, &document),
-            Err(_) => report.lines.run_out(),
+/// The warnings about the sets that a text has; and whether it is of version 3, in which rules have logs.
+fn push_stated(report: &mut Report, source: &Source<'_>) -> bool {
+    if !may_have_sets(source.text) && !may_have_logs(source.text) {
+        return false;
+    }
+    match toml::table_from_slice(report.lines.alloc, source.text) {
+        Ok(document) => {
+            push_sets(report, source, &document);
+            Scope::of(&document, 0).names_codes
+        }
+        Err(_) => {
+            report.lines.run_out();
+            false
         }
     }
+}
+
+/// The warnings about assets without a rule that allows.
+fn push_strict(report: &mut Report, source: &Source<'_>, policy: &Policy) {
+    for (index, asset) in policy.assets.as_slice().iter().enumerate() {
+        if !asset.rules.as_slice().iter().any(is_allowing) {
+            push_strict_asset(report, source, (index as u64).saturating_add(1), asset);
+        }
+    }
+}
+
+fn is_allowing(rule: &Rule) -> bool {
+    rule.action == Action::Allow
+}
+
+/// The warning about an asset, by its number from 1, that no rule allows anything.
+fn push_strict_asset(report: &mut Report, source: &Source<'_>, number: u64, asset: &Asset) {
+    if report.count < MOST {
+        let out = &mut report.lines;
+        out.push(source.file);
+        push_rule_place(out, source.text, number, 0);
+        push_titled(out, ": warning: asset ", number, asset.name.as_str());
+        out.push(
+            " has no rule that allows: each command is refused, and serve closes each client as it comes\n",
+        );
+    }
+    report.count = report.count.saturating_add(1);
 }
 
 /// Whether a document may have sets: its text has their key, which no letter stands before, or an escape, by which a key may be
@@ -84,6 +129,17 @@ fn may_have_sets(text: &[u8]) -> bool {
     text.starts_with(SETS)
         || text.windows(SETS.len() + 1).any(ends_with_sets)
         || text.contains(&b'\\')
+}
+
+/// Whether a document whose keys are spelled without escapes may be of version 3: some line of its text has the key and a number that
+/// may be 3, which `0b11` is too.
+fn may_have_logs(text: &[u8]) -> bool {
+    text.split(is_line_end).any(may_be_third)
+}
+
+fn may_be_third(line: &[u8]) -> bool {
+    (line.contains(&b'3') || line.contains(&b'b'))
+        && line.windows(VERSION.len()).any(|octets| octets == VERSION)
 }
 
 /// Whether octets end with the key of sets and begin with none that a longer key would have there.
@@ -313,22 +369,27 @@ fn some_rated(subject: &Subject<'_>) -> bool {
 /// The points of a rule that never come with a code, and those that do.
 fn push_passed(out: &mut Page, rule: &Rule, code: u16, high: i64) {
     out.push("points ");
+    let spans = rule.points.as_slice();
     let mut between = "";
-    for span in rule.points.as_slice() {
-        if high < span.high {
+    for (index, span) in spans.iter().enumerate() {
+        let told = above(span, high);
+        let earlier = spans.get(..index).unwrap_or(spans);
+        if high < span.high && !earlier.iter().any(|other| above(other, high) == told) {
             out.push(between);
-            push_span(
-                out,
-                Span {
-                    low: span.low.max(high.saturating_add(1)),
-                    high: span.high,
-                },
-            );
+            push_span(out, told);
             between = ", ";
         }
     }
     out.push_number_after(" never come with code ", u64::from(code));
     push_range(out, high);
+}
+
+/// The numbers of a span that are above a number, if some are.
+fn above(span: &Span, number: i64) -> Span {
+    Span {
+        low: span.low.max(number.saturating_add(1)),
+        high: span.high,
+    }
 }
 
 /// The points from 0 to the highest.

@@ -170,6 +170,7 @@ fn push_word_faults(out: &mut Page, form: &str, words: &[String]) -> bool {
         let name = name_at(form, index);
         if !has_role(role_of(name), word.as_str()) {
             push_word_fault(out, name, word.as_str());
+            push_exchange(out, form, words, name, word.as_str());
             return true;
         }
     }
@@ -207,6 +208,24 @@ fn push_word_fault(out: &mut Page, name: &str, word: &str) {
     out.push_all(&[name, " is "]);
     push_quoted(out, word);
     push_role(out, role_of(name), word);
+}
+
+/// Asks whether a word that is none of its role was exchanged with that of a file or an asset: each can be what the other is not.
+fn push_exchange(out: &mut Page, form: &str, words: &[String], name: &str, word: &str) {
+    for (index, other) in words.iter().enumerate() {
+        let place = name_at(form, index);
+        if is_free(place) && !word.is_empty() && has_role(role_of(name), other.as_str()) {
+            out.push_all(&["; ", place, " is "]);
+            push_quoted(out, other.as_str());
+            out.push(": are the two exchanged?");
+            return;
+        }
+    }
+}
+
+/// Whether any word, if it is not empty, can stand where help has this one.
+fn is_free(name: &str) -> bool {
+    matches!(role_of(name), Role::File | Role::Asset)
 }
 
 /// What a word has to be that is an address or a number.

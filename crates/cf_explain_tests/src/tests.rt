@@ -44,6 +44,8 @@ enum Subject {
     Cells,
     /// Why one policy is not included in another.
     Reason,
+    /// The rules of two policies whose rates or logs differ.
+    Kept,
     /// What a policy is written as.
     Rewritten,
     /// What is learned of flows.
@@ -66,6 +68,7 @@ fn found(alloc: Global, subject: Subject, given: &str) -> Result<String, Fail> {
         Subject::Comparison => compare::compared(alloc, given),
         Subject::Cells => compare::counted(alloc, given),
         Subject::Reason => compare::reason(alloc, given),
+        Subject::Kept => compare::kept(alloc, given),
         Subject::Rewritten => rewritten::rewritten(alloc, given),
         Subject::Learned => learned::learned(alloc, given),
     }
@@ -134,7 +137,8 @@ fn policies_are_compared(rt: HostRuntime) -> Result<(), Fail> {
     play_lines(&rt, alloc, Subject::Comparison, &rows)?;
     let rows = compare::CELLS.replace(alloc, "\n    ", " ")?;
     play_lines(&rt, alloc, Subject::Cells, &rows)?;
-    play_blocks(&rt, alloc, Subject::Reason, compare::REASONS)
+    play_blocks(&rt, alloc, Subject::Reason, compare::REASONS)?;
+    play_blocks(&rt, alloc, Subject::Kept, compare::KEPT)
 }
 
 #[test]

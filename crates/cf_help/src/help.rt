@@ -117,7 +117,9 @@ A policy that is refused has status 5, 'policy refused N KEY asset A rule R' on 
 output, and on standard error the file with line and column, what is wrong, and what is
 allowed. A policy that is read has status 0, and on standard error a warning for each set
 that no rule names or that has the points of another, each rule that no command meets, each
-code of a rule that none brings, and each rule that an earlier one covers.
+code of a rule that none brings, each rule that an earlier one covers, and each asset without
+a rule that allows; in version 3 also a note for each asset with rules that allow more than
+reads and have no log.
 
 example:
   cmdwall check examples/pump.toml
@@ -136,7 +138,8 @@ Standard output has 'included', with status 0; or, with status 15, 'no' and the 
 POLICY that OTHER does not have with the same address, port, protocol, station and master, or
 the first client and act that POLICY allows there and OTHER refuses; or, with status 17, 'too
 many cells' and the asset. Standard error has the rule that allows the act, and what refuses
-it. How often a rule lets commands through plays no part.
+it. How often a rule lets commands through plays no part, nor does its log; where 'included'
+is printed, standard error has the rules whose rates or logs differ.
 
 examples, of which the first prints an act and the second 'included':
   cmdwall compare examples/pump.toml examples/pump-narrow.toml
@@ -288,7 +291,7 @@ const RELAY: &str = "\
 cmdwall relay POLICY ASSET PORT IDLES LOG
 
 stands between a client and the controller of an asset: one client, which comes to PORT of
-127.0.0.1, and one connection to the asset's address and port (docs/RELAY.md)
+127.0.0.1, and one connection to the asset's address and port (docs/SERVE.md)
 
   POLICY   a text in the policy language (docs/POLICY.md)
   ASSET    the name of the asset in it

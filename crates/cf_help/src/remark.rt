@@ -2,6 +2,7 @@
 
 use crate::say::say_lines;
 use crate::why::policy_again;
+use cf_explain::{PolicyFile, kept_text};
 use cf_machine::{Gather, RealFiles};
 use cf_policy::Asset;
 use cf_remarks::{
@@ -176,6 +177,48 @@ pub(crate) fn remark_on_learned<R: FileSystem + Eprint + AllocGlobal>(
     }
     match policy_again(rt, policy, files) {
         Some((read, _)) => say_lines(rt, learned_text(rt.alloc(), &read, capture, files)),
+        None => Ok(()),
+    }
+}
+
+/// Says of a policy that is included in another which rates and logs of their rules differ.
+pub(crate) fn remark_on_included<R: FileSystem + Eprint + AllocGlobal>(
+    rt: &R,
+    name: &str,
+    other: &str,
+    files: &mut RealFiles<'_, R>,
+) -> io::Result<()> {
+    if !is_file(rt, name) || !is_file(rt, other) {
+        return Ok(());
+    }
+    match policy_again(rt, name, files) {
+        Some((policy, text)) => {
+            let ours = PolicyFile {
+                name,
+                text: &text,
+                policy: &policy,
+            };
+            remark_on_kept(rt, &ours, other, files)
+        }
+        None => Ok(()),
+    }
+}
+
+fn remark_on_kept<R: FileSystem + Eprint + AllocGlobal>(
+    rt: &R,
+    ours: &PolicyFile<'_>,
+    name: &str,
+    files: &mut RealFiles<'_, R>,
+) -> io::Result<()> {
+    match policy_again(rt, name, files) {
+        Some((policy, text)) => {
+            let other = PolicyFile {
+                name,
+                text: &text,
+                policy: &policy,
+            };
+            say_lines(rt, kept_text(rt.alloc(), ours, &other))
+        }
         None => Ok(()),
     }
 }

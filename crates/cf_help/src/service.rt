@@ -5,7 +5,7 @@ use crate::say::say;
 use crate::why::{explain_fault, explain_policy, explain_words, policy_again};
 use cf_explain::asset_message;
 use cf_machine::{Announcement, RealFiles};
-use cf_policy::{Asset, Policy};
+use cf_policy::{Action, Asset, Policy};
 use cf_words::status::{NO_MEMORY, POLICY_REFUSED, READ_FAULT, UNKNOWN_ASSET, USAGE, WRITE_FAULT};
 use std::alloc::Global;
 use std::net::Ipv4Addr;
@@ -81,7 +81,7 @@ fn announce_places(
     Ok(())
 }
 
-/// Which assets of the policy no place is for.
+/// Which assets of the policy no place is for, and of which no rule allows anything.
 fn announce_unserved(
     alloc: Global,
     file: &str,
@@ -98,9 +98,21 @@ fn announce_unserved(
             out.push(format!(in alloc;
                 "{file}: asset \"{name}\" has no place, and is not served"
             )?)?;
+        } else if !allows_something(asset) {
+            out.push(format!(in alloc;
+                "{file}: asset \"{name}\" has no rule that allows, so each client is closed as it comes"
+            )?)?;
         }
     }
     Ok(())
+}
+
+fn allows_something(asset: &Asset) -> bool {
+    asset
+        .rules
+        .as_slice()
+        .iter()
+        .any(|rule| rule.action == Action::Allow)
 }
 
 fn asset_named<'a>(policy: &'a Option<Policy>, name: &str) -> Option<&'a Asset> {

@@ -3,7 +3,8 @@ ghost use Rattle.std.specs.Prelude.{IfSome};
 ghost use Rattle.cf_policy.specs.Within.{IsWithin};
 
 use crate::remark::{
-    remark_on_judged, remark_on_learned, remark_on_listed, remark_on_reviewed, remark_on_run,
+    remark_on_included, remark_on_judged, remark_on_learned, remark_on_listed, remark_on_reviewed,
+    remark_on_run,
 };
 use crate::say::{say, say_lines};
 use cf_explain::{
@@ -129,6 +130,7 @@ fn remark<R: FileSystem + Eprint + AllocGlobal>(
 ) -> io::Result<()> {
     match command {
         Command::Check { policy } => warn(rt, policy, files),
+        Command::Compare { policy, other } => remark_on_included(rt, policy, other, files),
         Command::Learn {
             policy,
             capture,

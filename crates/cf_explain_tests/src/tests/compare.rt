@@ -5,7 +5,7 @@ ghost use Rattle.cf_policy.specs.Within.{IsWithin};
 
 use crate::tests::changes::policy_octets;
 use cf_compare::{cells, compare};
-use cf_explain::{PolicyFile, inclusion_message};
+use cf_explain::{PolicyFile, inclusion_message, kept_text};
 use cf_policy::Policy;
 use cf_policylang::read_policy;
 use std::alloc::Global;
@@ -165,6 +165,60 @@ p: asset 1 "pump" has no partner
 poll: [[asset.rule]] / name = "many" / action = "allow" / codes = [3] / clients = [@addresses] / groups = [@numbers] / points = [@numbers] ; -
 p: asset 1 "pump": the ends of the ranges in its rules and in those of q make more than 1000000 cells
   fewer entries in the rules of one code make fewer"#;
+
+/// A row: the same, the rules whose rates or logs differ, and a point.
+pub(super) const KEPT: &str = r#"- ; -
+.
+
+- ; values: values = ["0..500"] / most = 1 / seconds = 60
+p:14:1: note: asset 1 "pump", rule 2 "set" has no rate, and no log; in q it has most = 1 and seconds = 60, and no log
+.
+
+values: values = ["0..500"] / most = 2 / seconds = 60 ; values: values = ["0..500"] / most = 1 / seconds = 60
+p:14:1: note: asset 1 "pump", rule 2 "set" has most = 2 and seconds = 60, and no log; in q it has most = 1 and seconds = 60, and no log
+.
+
+version: version = 3 | values: values = ["0..500"] / most = 1 / seconds = 60 / log = true ; values: values = ["0..500"] / most = 1 / seconds = 60
+p:14:1: note: asset 1 "pump", rule 2 "set" has most = 1 and seconds = 60, and log = true; in q it has most = 1 and seconds = 60, and no log
+.
+
+version: version = 3 | values: values = ["0..500"] / most = 1 / seconds = 60 / log = true ; version: version = 3 | values: values = ["0..500"] / most = 1 / seconds = 60 / log = true
+.
+
+set: [[asset.rule]] / name = "put" / action = "allow" / codes = [6, 16] ; values: values = ["0..500"] / most = 1 / seconds = 60
+q:14:1: note: asset 1 "pump", rule 2 "set" has most = 1 and seconds = 60, and no log; in p the asset has no rule of this name
+.
+
+values: values = ["0..500"] / most = 1 / seconds = 60 ; set: [[asset.rule]] / name = "put" / action = "allow" / codes = [6, 16]
+p:14:1: note: asset 1 "pump", rule 2 "set" has most = 1 and seconds = 60, and no log; in q the asset has no rule of this name
+.
+
+values: values = ["0..500"] / most = 1 / seconds = 60 ; name: name = "pomp"
+.
+
+- ; more: [[asset]] / name = "a" / address = "10.0.0.7" / port = 502 / protocol = "modbus" / station = 1 | values: values = ["0..500"] / most = 1 / seconds = 60
+p:14:1: note: asset 1 "pump", rule 2 "set" has no rate, and no log; in q it has most = 1 and seconds = 60, and no log
+."#;
+
+/// The rules of two policies whose rates or logs differ, and a point after the last line.
+pub(super) fn kept(alloc: Global, given: &str) -> Result<String, Fail> {
+    let (ours, other) = given.split_once(" ; ").unwrap_or((given, given));
+    let (text, other_text) = (octets(alloc, ours)?, octets(alloc, other)?);
+    let (ours, other) = (policy(alloc, ours)?, policy(alloc, other)?);
+    let ours = PolicyFile {
+        name: "p",
+        text: text.as_slice(),
+        policy: &ours,
+    };
+    let other = PolicyFile {
+        name: "q",
+        text: other_text.as_slice(),
+        policy: &other,
+    };
+    let mut text = kept_text(alloc, &ours, &other)?;
+    text.push_str(".")?;
+    Ok(text)
+}
 
 /// Why the first of two policies is not included in the second.
 pub(super) fn reason(alloc: Global, given: &str) -> Result<String, Fail> {

@@ -248,7 +248,7 @@ p:17:1: asset 1 "pump", rule 2 "set": entry 1 of `groups` is the text "12.1": a 
   groups are 1 to 64 numbers or ranges from 0 to 65535, as groups = ["1", "3..5"]
 
 19: values = ["1.5"]
-p:19:1: asset 1 "pump", rule 2 "set": entry 1 of `values` is the text "1.5": numbers have no point
+p:19:1: asset 1 "pump", rule 2 "set": entry 1 of `values` is the text "1.5": numbers are whole, without a decimal point
   values are 1 to 64 numbers or ranges from -2147483648 to 4294967295, as values = ["-5..5"]
 
 3: name = "Pump"
@@ -488,6 +488,90 @@ p:17:1: asset 1 "pump", rule 2 "set": entry 1 of `groups` is the text "activatoi
 1: version = 3 | 18: points = ["@Low"]
 p:18:1: asset 1 "pump", rule 2 "set": entry 1 of `points` is the text "@Low": it has capital letters
   points are 1 to 64 numbers or ranges from 0 to 4294967295, as points = ["7", "40..49"]
+
+18: points = ["0.5..1.5"]
+p:18:1: asset 1 "pump", rule 2 "set": entry 1 of `points` is the text "0.5..1.5": numbers are whole, without a decimal point
+  points are 1 to 64 numbers or ranges from 0 to 4294967295, as points = ["7", "40..49"]
+
+18: points = ["0-9"]
+p:18:1: asset 1 "pump", rule 2 "set": entry 1 of `points` is the text "0-9": a range has two points between its numbers, as 40..49
+  points are 1 to 64 numbers or ranges from 0 to 4294967295, as points = ["7", "40..49"]
+
+19: values = ["-05"]
+p:19:1: asset 1 "pump", rule 2 "set": entry 1 of `values` is the text "-05": a number has no leading zero
+  values are 1 to 64 numbers or ranges from -2147483648 to 4294967295, as values = ["-5..5"]
+
+18: points = ["any"]
+p:18:1: asset 1 "pump", rule 2 "set": entry 1 of `points` is the text "any": a rule without `points` is for every point: leave the key
+    out
+  points are 1 to 64 numbers or ranges from 0 to 4294967295, as points = ["7", "40..49"]
+
+19: values = ["0..5", "*"]
+p:19:1: asset 1 "pump", rule 2 "set": entry 2 of `values` is the text "*": a rule without `values` is for every value: leave the key
+    out
+  values are 1 to 64 numbers or ranges from -2147483648 to 4294967295, as values = ["-5..5"]
+
+15: clients = "any"
+p:15:1: asset 1 "pump", rule 2 "set": `clients` is the text "any", and has to be a list of texts; a rule without `clients` is for every
+    client: leave the key out
+  clients are 1 to 64 addresses or ranges, as clients = ["10.0.0.5", "10.0.0.8..10.0.0.9"]
+
+17: groups = ["All"]
+p:17:1: asset 1 "pump", rule 2 "set": entry 1 of `groups` is the text "All": a rule without `groups` is for every group: leave the key
+    out
+  groups are 1 to 64 numbers or ranges from 0 to 65535, as groups = ["1", "3..5"]
+
+16: codes = ["all"]
+p:16:1: asset 1 "pump", rule 2 "set": entry 1 of `codes` is the text "all", and has to be a whole number; a rule names each of its codes
+  codes are 1 to 64 whole numbers from 0 to 255, as codes = [3, 16]
+
+1: version = 3 | 16: codes = ["any"]
+p:16:1: asset 1 "pump", rule 2 "set": entry 1 of `codes` is the text "any": a rule names each of its codes
+  codes are 1 to 64 whole numbers from 0 to 255 or names of functions, as codes = [3, "write single register"]
+
+1: version = 2 / [[set]] / name = "low" / points = ["all"]
+p:4:1: set 1 "low": entry 1 of `points` is the text "all": it is no number
+  points are 1 to 64 numbers or ranges from 0 to 4294967295, as points = ["7", "40..49"]
+
+4: address = "10.0.0.9/32"
+p:4:1: asset 1 "pump": `address` is "10.0.0.9/32": one address stands there, and no network: leave out the slash and what is behind it
+  an address is four numbers from 0 to 255, without leading zeros, as address = "10.0.0.9"
+
+4: address = "10.0.0.9..10.0.0.12"
+p:4:1: asset 1 "pump": `address` is "10.0.0.9..10.0.0.12": one address stands there, and no range
+  an address is four numbers from 0 to 255, without leading zeros, as address = "10.0.0.9"
+
+7: stations = [1, 2]
+p:7:1: asset 1 "pump": "stations" is no key of an asset: it has one, as station = 1
+  an asset has name, address, port, protocol, station, for DNP3 master, and tables [[asset.rule]]
+
+octets:d4c3b2a1 02000400 0000000000000000ffff0000 01000000
+p: it begins as a capture does, and a policy is a text
+  in the words of a command POLICY stands before CAPTURE, as cmdwall judge POLICY CAPTURE
+
+octets:a1b23c4d
+p: it begins as a capture does, and a policy is a text
+  in the words of a command POLICY stands before CAPTURE, as cmdwall judge POLICY CAPTURE
+
+octets:0a0d0d0a 1c000000 4d3c2b1a
+p: it begins as a capture does, and a policy is a text
+  in the words of a command POLICY stands before CAPTURE, as cmdwall judge POLICY CAPTURE
+
+octets:fffe 7600 6500
+p: it begins as a text in UTF-16 does, and a policy is a text in UTF-8
+  save it as UTF-8
+
+octets:0076 0065
+p: it begins as a text in UTF-16 does, and a policy is a text in UTF-8
+  save it as UTF-8
+
+octets:7600 6500
+p: it begins as a text in UTF-16 does, and a policy is a text in UTF-8
+  save it as UTF-8
+
+octets:0a23 e9
+p:2:2: this is no TOML: invalid UTF-8
+  save the text as UTF-8
 
 14: action = "refuse" | 19: most = 2
 p:19:1: asset 1 "pump", rule 2 "set": `most` is a key of rules that allow alone: leave it and `seconds` out

@@ -43,6 +43,14 @@ sift p a client s o r l
 CLIENT is "client", no IPv4 address as 10.0.0.5: it has not four numbers
   cmdwall sift POLICY ASSET CLIENT STREAM OUT REPLIES LOG
 
+sift p 10.0.0.5 a s o r l
+CLIENT is "a", no IPv4 address as 10.0.0.5: it has not four numbers; ASSET is "10.0.0.5": are the two exchanged?
+  cmdwall sift POLICY ASSET CLIENT STREAM OUT REPLIES LOG
+
+serve p l 60 pump=127.0.0.1:5020
+SECONDS is "l", no whole number from 1 to 1000000; LOG is "60": are the two exchanged?
+  cmdwall serve POLICY SECONDS LOG NAME=A.B.C.D:PORT..
+
 sift p s 10.0.0.5 s o r o
 OUT and LOG are both "o", and each file has a name of its own
   cmdwall sift POLICY ASSET CLIENT STREAM OUT REPLIES LOG
@@ -119,6 +127,10 @@ c: it is compressed
 run 00000000 02000400 0000000000000000ffff0000 01000000
 c: it does not begin as a pcap file
   'editcap -F pcap IN OUT' writes other captures as pcap
+
+run 76657273696f6e203d20310a 5b5b61737365745d5d0a 6e61
+c: it begins as a text does, and not as a capture
+  in the words of a command CAPTURE stands behind POLICY, as cmdwall judge POLICY CAPTURE
 
 run d4c3b2a1 02000300 0000000000000000ffff0000 01000000
 c: its version is not 2.4

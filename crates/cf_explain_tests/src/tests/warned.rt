@@ -260,6 +260,51 @@ p:8:1: warning: asset 1 "x", rule 1 "a": likely a slip: points count from 0, and
 lists: codes = [5] / points = ["40041"]
 .
 
+lists: codes = [3] / points = ["70000..70001", "0", "70000..70001", "70005"]
+p:8:1: warning: asset 1 "x", rule 1 "a": points 70000 to 70001, 70005 never come with code 3: its points are 0 to 65535
+.
+
+lists: codes = [3] / points = ["65000..70000", "65536..70000"]
+p:8:1: warning: asset 1 "x", rule 1 "a": points 65536 to 70000 never come with code 3: its points are 0 to 65535
+.
+
+action: action = "refuse" | lists: codes = [3]
+p:2:1: warning: asset 1 "x" has no rule that allows: each command is refused, and serve closes each client as it comes
+.
+
+text: version = 1 / asset = []
+.
+
+version: version = 3 | lists: codes = [6]
+p: note: asset 1 "x" has rules that allow codes other than those of reads, and have no log = true: 1
+.
+
+version: version = 3 | lists: codes = [6] / log = true
+.
+
+version: version = 2 # not version 3 | lists: codes = [6]
+.
+
+version: version = 0b11 | lists: codes = [22]
+p: note: asset 1 "x" has rules that allow codes other than those of reads, and have no log = true: 1
+.
+
+version: version = 3 | lists: codes = [3] | more: [[asset.rule]] / name = "b" / action = "allow" / codes = [23] / groups = ["0"] /
+    [[asset.rule]] / name = "c" / action = "allow" / codes = [23] / groups = ["1"] / [[asset.rule]] / name = "d" / action = "refuse" /
+    codes = [5] / points = ["1"] / [[asset.rule]] / name = "e" / action = "allow" / codes = ["write single coil"] / log = false
+p: note: asset 1 "x" has rules that allow codes other than those of reads, and have no log = true: 3, 5
+.
+
+version: version = 3 | protocol: protocol = "dnp3" / master = 1 | lists: codes = [1, 23] | more: [[asset.rule]] / name = "b" /
+    action = "allow" / codes = [24]
+p: note: asset 1 "x" has rules that allow codes other than those of reads, and have no log = true: 2
+.
+
+version: version = 3 | protocol: protocol = "iec104" | lists: codes = [100, 101, 102, 107] | more: [[asset.rule]] / name = "b" /
+    action = "allow" / codes = [103]
+p: note: asset 1 "x" has rules that allow codes other than those of reads, and have no log = true: 2
+.
+
 protocol: protocol = "iec104" | lists: codes = [103] / points = ["16777216"]
 p:8:1: warning: asset 1 "x", rule 1 "a": no command meets it: code 103 has no points but 0 to 16777215
 ."#;
