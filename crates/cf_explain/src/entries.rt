@@ -7,7 +7,7 @@ use cf_policylang::{Key, address, group_named};
 use toml::Value;
 
 /// Words for every number of a list, which some write in its place.
-const EVERY: [&str; 4] = ["any", "all", "every", "*"];
+const EVERY: &str = "any, all, every, *";
 
 /// Why a text is no number from `low` to `high` as it is printed, if it is none.
 fn number_fault(key: Key, low: i64, high: i64, text: &str) -> Option<&'static str> {
@@ -161,7 +161,10 @@ fn point_fault(names_sets: bool, text: &str) -> Option<&'static str> {
 
 /// What is said of a word that means every number of a list, which no list has.
 pub(crate) fn every_fault(key: Key, scope: &Scope, text: &str) -> Option<&'static str> {
-    if !EVERY.iter().any(|word| word.eq_ignore_ascii_case(text)) {
+    if !EVERY
+        .split(", ")
+        .any(|word| word.eq_ignore_ascii_case(text))
+    {
         return None;
     }
     match key {

@@ -42,9 +42,21 @@ fn distance(out: &mut Page, word: &str, other: &str) -> usize {
     }
 }
 
-/// Asks whether the known word that is nearest to this one was meant, between marks, if there is one.
-pub(crate) fn push_meant(out: &mut Page, word: &str, known: &[&str], mark: &str) {
-    if let Some(meant) = nearest(out, word, known) {
+/// Asks whether the word that is nearest to this one was meant, between marks, if there is one among known words with commas between
+/// them.
+pub(crate) fn push_meant(out: &mut Page, word: &str, known: &str, mark: &str) {
+    let mut words = Vec::new(out.alloc);
+    for candidate in known.split(", ") {
+        if words.push(candidate).is_err() {
+            out.run_out();
+        }
+    }
+    if let Some(meant) = nearest(out, word, words.as_slice()) {
         out.push_all(&["; did you mean ", mark, meant, mark, "?"]);
     }
+}
+
+/// Whether a word is among known ones with commas between them.
+pub(crate) fn has_word(known: &str, word: &str) -> bool {
+    known.split(", ").any(|other| other == word)
 }

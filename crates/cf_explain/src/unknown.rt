@@ -1,24 +1,20 @@
 //! A key that its table does not have.
-use crate::nearest::push_meant;
+use crate::nearest::{has_word, push_meant};
 use crate::page::Page;
 use crate::quote::push_quoted;
 use toml::Table;
 
 /// The keys of the document, of which version 1 does not have `set`.
-const DOCUMENT_KEYS: [&str; 3] = ["version", "asset", "set"];
+const DOCUMENT_KEYS: &str = "version, asset, set";
 
-const SET_KEYS: [&str; 2] = ["name", "points"];
+const SET_KEYS: &str = "name, points";
 
-const ASSET_KEYS: [&str; 7] = [
-    "name", "address", "port", "protocol", "station", "master", "rule",
-];
+const ASSET_KEYS: &str = "name, address, port, protocol, station, master, rule";
 
-const RULE_KEYS: [&str; 10] = [
-    "name", "action", "clients", "codes", "groups", "points", "values", "most", "seconds", "log",
-];
+const RULE_KEYS: &str = "name, action, clients, codes, groups, points, values, most, seconds, log";
 
 /// What a key stands in.
-#[derive(Clone, Copy, PartialEq, Eq)]
+#[derive(Clone, Copy)]
 pub(crate) enum Level {
     Document,
     Set,
@@ -37,12 +33,12 @@ impl Level {
         }
     }
 
-    fn keys(self) -> &'static [&'static str] {
+    fn keys(self) -> &'static str {
         match self {
-            Level::Document => &DOCUMENT_KEYS,
-            Level::Set => &SET_KEYS,
-            Level::Asset => &ASSET_KEYS,
-            Level::Rule => &RULE_KEYS,
+            Level::Document => DOCUMENT_KEYS,
+            Level::Set => SET_KEYS,
+            Level::Asset => ASSET_KEYS,
+            Level::Rule => RULE_KEYS,
         }
     }
 
@@ -74,7 +70,7 @@ impl Level {
 /// level have: `set` of version 2, `master` of DNP3, `most` of rules that allow.
 pub(crate) fn unknown_key(level: Level, table: &Table) -> &str {
     for key in table.keys() {
-        if !level.keys().contains(&key.as_str()) {
+        if !has_word(level.keys(), key.as_str()) {
             return key.as_str();
         }
     }
@@ -120,22 +116,22 @@ pub(crate) fn push_unknown(out: &mut Page, level: Level, key: &str) {
 
 /// Where a key belongs that another level has.
 fn other_level(level: Level, key: &str) -> Option<&'static str> {
-    if level == Level::Asset && key == "stations" {
+    if matches!(level, Level::Asset) && key == "stations" {
         return Some(": it has one, as station = 1");
     }
-    if level != Level::Rule && key != "name" && RULE_KEYS.contains(&key) {
+    if !matches!(level, Level::Rule) && key != "name" && has_word(RULE_KEYS, key) {
         return Some(": it stands in a rule, below [[asset.rule]]");
     }
-    if level != Level::Asset && key == "rule" {
+    if !matches!(level, Level::Asset) && key == "rule" {
         return Some(": a rule is a table [[asset.rule]]");
     }
-    if level != Level::Asset && ASSET_KEYS.contains(&key) {
+    if !matches!(level, Level::Asset) && has_word(ASSET_KEYS, key) {
         return Some(": it stands in an asset, below [[asset]] and above its first [[asset.rule]]");
     }
-    if level != Level::Document && key == "set" {
+    if !matches!(level, Level::Document) && key == "set" {
         return Some(": a set of points is a table [[set]]");
     }
-    if level != Level::Document && DOCUMENT_KEYS.contains(&key) {
+    if !matches!(level, Level::Document) && has_word(DOCUMENT_KEYS, key) {
         return Some(": it stands above the first [[asset]]");
     }
     None

@@ -23,10 +23,8 @@ enum Role {
 /// What help calls a place of a service.
 const PLACE: &str = "NAME=A.B.C.D:PORT";
 
-static COMMANDS: [&str; 12] = [
-    "sift", "check", "compare", "learn", "migrate", "packets", "judge", "review", "run", "relay",
-    "serve", "world",
-];
+const COMMANDS: &str =
+    "sift, check, compare, learn, migrate, packets, judge, review, run, relay, serve, world";
 
 /// The most places of a service.
 const PLACE_LIMIT: usize = 256;
@@ -105,15 +103,13 @@ fn push_command(out: &mut Page, command: &str, words: &[String]) {
 }
 
 fn push_commands(out: &mut Page) {
-    out.push("commands are ");
-    out.push_list(&COMMANDS);
-    out.push("; 'cmdwall --help' says more");
+    out.push_all(&["commands are ", COMMANDS, "; 'cmdwall --help' says more"]);
 }
 
 fn push_no_command(out: &mut Page, word: &str) {
     push_quoted(out, word);
     out.push(" is no command");
-    push_meant(out, word, &COMMANDS, "");
+    push_meant(out, word, COMMANDS, "");
     out.push("\n  ");
     push_commands(out);
 }

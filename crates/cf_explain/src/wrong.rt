@@ -12,9 +12,9 @@ use cf_policy::MOST_SPANS;
 use cf_policylang::{Cause, Key, PolicyRefusal};
 use toml::{Table, Value};
 
-const ACTIONS: [&str; 2] = ["allow", "refuse"];
+const ACTIONS: &str = "allow, refuse";
 
-const PROTOCOLS: [&str; 3] = ["modbus", "dnp3", "iec104"];
+const PROTOCOLS: &str = "modbus, dnp3, iec104";
 
 /// The cause of a number, as a refusal has it.
 pub(crate) fn cause_of(number: u8) -> Option<Cause> {
@@ -189,12 +189,12 @@ fn text_fault(key: Key, text: &str) -> Option<&'static str> {
     }
 }
 
-/// The texts that a key takes, where they are few.
-fn known_texts(key: Key) -> &'static [&'static str] {
+/// The texts that a key takes, where they are few: an empty one, which nothing is near to, where they are not.
+fn known_texts(key: Key) -> &'static str {
     match key {
-        Key::Action => &ACTIONS,
-        Key::Protocol => &PROTOCOLS,
-        _ => &[],
+        Key::Action => ACTIONS,
+        Key::Protocol => PROTOCOLS,
+        _ => "",
     }
 }
 
