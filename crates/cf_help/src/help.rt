@@ -332,7 +332,7 @@ has where it listens, and what the system said of each connection that failed; a
 does not take at once is dropped and counted, so that no session waits for it.
 
 example:
-  cmdwall serve examples/pump.toml 60 log.txt pump=127.0.0.1:5020
+  cmdwall serve examples/pump.toml 300 log.txt pump=127.0.0.1:5020
 ";
 
 const WORLD: &str = "\
