@@ -2,8 +2,9 @@
 # The processor time of `cmdwall run` on a capture of Modbus round trips, beside that of `tcpdump -n -r` and of `suricata -r` on the
 # same file in the same run (each left out where it is missing), each the median of five in turn; its memory; its time on the same number
 # of round trips spread over 200 open sessions; and that where the session never closes, so that CAPTURE and OUT are read again for the
-# note that says so. Ratios, and no promise. Word: the number of round trips (300,000). CMDWALL in
-# the environment: the program (the one that is built).
+# note that says so. Two kinds of Suricata are measured: `suricata` is that of its own configuration, with Modbus read and all of its
+# outputs; `lean` has one rule, which tells of writes, no EVE log, one thread, and reads a stream to its end (a depth of 0 is no limit).
+# Ratios, and no promise. Word: the number of round trips (300,000). CMDWALL in the environment: the program (the one that is built).
 set -eu
 top=$(cd "$(dirname "$0")/.." && pwd)
 work=$(mktemp -d)
@@ -95,9 +96,15 @@ def memory(path):
 
 
 one, many, unclosed = capture("one", 1), capture("many", 200), capture("unclosed", 1, closes=False)
+rule = os.path.join(work, "rule")
+with open(rule, "w") as file:
+    file.write('alert modbus any any -> any any (msg:"a write"; modbus: access write holding; sid:1;)\n')
+modbus = ["--set", "app-layer.protocols.modbus.enabled=yes"]
 peers = {"tcpdump": ["tcpdump", "-n", "-r", one],
-         "suricata": ["suricata", "-r", one, "-l", work, "--set", "app-layer.protocols.modbus.enabled=yes"]}
-for name in [name for name in peers if not shutil.which(name)]:
+         "suricata": ["suricata", "-r", one, "-l", work, *modbus],
+         "lean": ["suricata", "-r", one, "-l", work, *modbus, "-S", rule, "--runmode", "single", "--set", "outputs.1.eve-log.enabled=no",
+                  "--set", "stream.reassembly.depth=0"]}
+for name in [name for name, words in peers.items() if not shutil.which(words[0])]:
     print(f"{name} is missing here, and was left out")
     del peers[name]
 ours, spread, again, others = [], [], [], {name: [] for name in peers}

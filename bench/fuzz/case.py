@@ -16,10 +16,13 @@ LONGEST = 60
 PIECE = 4096
 
 COUNTS = r"records (\d+)\ndropped \d+\noutside \d+\nfull \d+\nsessions (\d+)\nadmitted (\d+)\nrefused (\d+)\ncuts (\d+)\n"
-REVIEWED = r"flows \d+\ncommands (\d+)\nadmitted (\d+)\nrefused rule (\d+)\nrefused default (\d+)\nrefused station (\d+)\nrefused form (\d+)\nstrays (\d+)\nconflicts (\d+)\nbroken (\d+)\n"
-CUT = r"cut client (protocol|length|start|framelength|headercrc|blockcrc|apdustart|apdulength|control|send \d+ \d+|receive \d+ \d+ \d+|outstanding|notstarted|long)\n"
+REVIEWED = (r"flows \d+\ncommands (\d+)\nadmitted (\d+)\nrefused rule (\d+)\nrefused default (\d+)\nrefused station (\d+)\n"
+            r"refused form (\d+)\nstrays (\d+)\nconflicts (\d+)\nbroken (\d+)\n")
+CUT = (r"cut client (protocol|length|start|framelength|headercrc|blockcrc|apdustart|apdulength|control|outstanding|notstarted|long"
+       r"|send \d+ \d+|receive \d+ \d+ \d+)\n")
 AT = r"\d+\.\d+\.\d+\.\d+:\d+"
-PACKETS = rf"(\d+ \d+\.\d{{6}} (dropped (notipv4|short|badheader|badsum|fragment|nottcp|badtcp|badtcpsum)|{AT} > {AT} (-|[FSRPAU]+) seq \d+ ack \d+ win \d+ len \d+)\n)*"
+DROPPED = "dropped (notipv4|short|badheader|badsum|fragment|nottcp|badtcp|badtcpsum)"
+PACKETS = rf"(\d+ \d+\.\d{{6}} ({DROPPED}|{AT} > {AT} (-|[FSRPAU]+) seq \d+ ack \d+ win \d+ len \d+)\n)*"
 COMPARED = r"no (\S+)( client (\S+) code (\d+) group (\d+) point (\d+) value (\S+))?\n"
 OK = r"ok \d+ \d+\n"
 # What each status of a command prints.
@@ -35,7 +38,8 @@ PRINTED = {
     "sift": {0: r"admitted (\d+)\nrefused (\d+)\n", 12: CUT},
     "world": {0: COUNTS},
 }
-ANY = {2: r"usage\n", 3: r"read fault\n", 4: "", 5: r"policy refused (\d+) \S+ asset \d+ rule \d+\n", 6: r"capture refused \d+\n", 7: r"capture cut at \d+\n", 10: r"unknown asset\n"}
+ANY = {2: r"usage\n", 3: r"read fault\n", 4: "", 5: r"policy refused (\d+) \S+ asset \d+ rule \d+\n", 6: r"capture refused \d+\n",
+       7: r"capture cut at \d+\n", 10: r"unknown asset\n"}
 LINE = re.compile(
     rf"\d+\.\d{{6}} {AT} \S+ (open|listen|close admitted \d+ refused \d+|partial (client|controller) \d+|begins midstream|conflict \d+|broken [a-z]+"
     r"|refuse \S+ (function|point|value|station) code \d+ group \d+ point \d+ value (-|-?\d+) (replied|unanswered) [0-9a-f]*"

@@ -195,7 +195,8 @@ def check(case, book):
     case.write("stream", b"")
     done = case.call("check", "policy", ends={0, 5})
     if done.status == 5:
-        for words in (["migrate", "policy", "out"], ["compare", "policy", "stream"], ["sift", "policy", "pump", "10.0.0.5", "stream", "out", "replies", "log"]):
+        sifts = ["sift", "policy", "pump", "10.0.0.5", "stream", "out", "replies", "log"]
+        for words in (["migrate", "policy", "out"], ["compare", "policy", "stream"], sifts):
             case.expect(case.call(*words, ends={5}).printed == done.printed, "it is refused for another reason")
         case.expect(case.read("out") is None, "a policy is refused, and OUT is there")
 
@@ -271,10 +272,10 @@ def world(case, book):
 
 # Words that have a form, over the files that are there.
 WORDS = [
-    ["check", "policy"], ["compare", "policy", "capture"], ["migrate", "policy", "out"], ["learn", "policy", "capture", "out"], ["judge", "policy", "capture"],
-    ["review", "policy", "capture", "log"], ["packets", "capture"], ["run", "policy", "capture", "out", "log"], ["world", "7", "1", "p", "c", "out", "log"],
-    ["sift", "policy", "pump", "10.0.0.5", "stream", "out", "replies", "log"], ["help", "run"], ["--version"], ["relay", "policy", "pump", "0", "5", "log"],
-    ["serve", "policy", "0", "log", "pump=127.0.0.1:1"],
+    ["check", "policy"], ["compare", "policy", "capture"], ["migrate", "policy", "out"], ["learn", "policy", "capture", "out"],
+    ["judge", "policy", "capture"], ["review", "policy", "capture", "log"], ["packets", "capture"], ["run", "policy", "capture", "out", "log"],
+    ["world", "7", "1", "p", "c", "out", "log"], ["sift", "policy", "pump", "10.0.0.5", "stream", "out", "replies", "log"], ["help", "run"],
+    ["--version"], ["relay", "policy", "pump", "0", "5", "log"], ["serve", "policy", "0", "log", "pump=127.0.0.1:1"],
 ]
 
 

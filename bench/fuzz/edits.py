@@ -10,7 +10,8 @@ from make import dnp3_crc
 
 OCTETS = [0, 1, 2, 0x3F, 0x40, 0x7F, 0x80, 0xC0, 0xFE, 0xFF]
 NUMBERS = [0, 1, 0x7F, 0x80, 0xFF, 0x100, 0x7FFF, 0x8000, 0xFFFE, 0xFFFF, 0x10000, 0x7FFFFFFF, 0x80000000, 0xFFFFFFFE, 0xFFFFFFFF]
-DECIMALS = [-2147483649, -2147483648, -1, 0, 1, 2, 3, 63, 64, 65, 255, 256, 1023, 1024, 1025, 65535, 65536, 86400, 86401, 4294967295, 4294967296, 2**63, 2**64]
+DECIMALS = [-2147483649, -2147483648, -1, 0, 1, 2, 3, 63, 64, 65, 255, 256, 1023, 1024, 1025, 65535, 65536, 86400, 86401, 4294967295,
+            4294967296, 2**63, 2**64]
 MAGIC = b"\xd4\xc3\xb2\xa1"
 
 
@@ -161,7 +162,9 @@ def edited_frame(random, frame, other):
     at = 14 if frame[12:14] == b"\x08\0" else 0
     whole = struct.unpack_from(">H", frame.ljust(at + 4, b"\0"), at + 2)[0]
     if random.random() < .5 or whole <= 40 or at + whole > len(frame):
-        return edited(random, frame[at + 20:], other) if random.random() < .1 else frame[:at + 20] + limit(random, frame[at + 20:at + 40] or b"\0", other) + frame[at + 40:]
+        if random.random() < .1:
+            return edited(random, frame, other)
+        return frame[:at + 20] + limit(random, frame[at + 20:at + 40] or b"\0", other) + frame[at + 40:]
     text = edited(random, frame[at + 40:at + whole], other)[:1460]
     return (frame[:at + 2] + struct.pack(">H", 40 + len(text)) + frame[at + 4:at + 40] + text).ljust(60 if at else 0, b"\0")
 
@@ -183,7 +186,8 @@ def edited_capture(random, octets, other):
         elif way == 2:
             records[at], records[to] = records[to], records[at]
         elif way == 3:
-            records[at] = struct.pack("<II", random.choice(NUMBERS) if random.random() < .3 else random.randrange(200), random.choice([0, 1, 999_999, 1_000_000])) + moment[8:], frame
+            seconds = random.choice(NUMBERS) if random.random() < .3 else random.randrange(200)
+            records[at] = struct.pack("<II", seconds, random.choice([0, 1, 999_999, 1_000_000])) + moment[8:], frame
         else:
             frame = edited_frame(random, frame, other)
             records[at] = moment, mended_frame(frame) if random.random() < .8 else frame
