@@ -20,6 +20,7 @@ pub enum Fault {
 pub enum Wanted {
     Block,
     Key,
+    Source,
     Exchange,
     Repeat,
     Field,
@@ -78,6 +79,7 @@ impl fmt::Display for Wanted {
         match self {
             Wanted::Block => write!(f, "no kind of block"),
             Wanted::Key => write!(f, "no known key"),
+            Wanted::Source => write!(f, "no line of its source below its name"),
             Wanted::Exchange => write!(f, "no exchange of that name"),
             Wanted::Repeat => write!(f, "a repetition without its number, its end or a sum"),
             Wanted::Field => write!(f, "a field of a record is missing"),

@@ -10,6 +10,7 @@ mod left;
 mod octets;
 mod packets;
 mod row;
+mod source;
 mod sweep;
 
 use crate::book::Book;
@@ -18,23 +19,32 @@ use crate::expand::expanded;
 use crate::fault::Fault;
 use crate::left::play;
 use crate::row::{Row, field, row_of};
+use crate::source::behind_source;
 use crate::sweep::{sweep, sweep_of};
+use std::process::ExitCode;
 use std::rt::Files;
 use std::{env, fs, io};
 
-fn main(rt: HostRuntime) -> io::Result<()> {
+fn main(rt: HostRuntime) -> io::Result<ExitCode> {
     let mut book = Book::new(rt.alloc());
+    let mut wrong = 0_u8;
     for name in env::args(&rt)?.skip(1) {
         let text = fs::read_to_string(&rt, name.as_str())?;
         for block in text.split("\n\n") {
             match played(&mut book, block) {
                 Ok(None) => {}
-                Ok(Some(said)) => println!(rt; "{}: {}", name_of(block), said)?,
-                Err(fault) => println!(rt; "{name}: {}: {fault}", name_of(block))?,
+                Ok(Some(said)) => {
+                    println!(rt; "{}: {}", name_of(block), said)?;
+                    wrong |= u8::from(said.as_str() != "same");
+                }
+                Err(fault) => {
+                    println!(rt; "{name}: {}: {fault}", name_of(block))?;
+                    wrong = 1;
+                }
             }
         }
     }
-    Ok(())
+    Ok(ExitCode::from(wrong))
 }
 
 /// The name of a row, or the first line of another block.
@@ -49,7 +59,7 @@ fn played(book: &mut Book, block: &str) -> Result<Option<String>, Fault> {
         book.take(&block)?;
         return Ok(None);
     }
-    let row = row_of(book, &block)?;
+    let row = row_of(book, behind_source(&block)?)?;
     let said = match differs(book, &row)? {
         Some(said) => said,
         None => String::from_str(book.alloc, "same")?,

@@ -9,13 +9,12 @@ use std::alloc::Global;
 use std::collections::BTreeMap;
 
 /// How the lines of a row begin.
-const KEYS: [&str; 35] = [
+const KEYS: [&str; 34] = [
     ">",
     "<",
     "log",
     "stream:",
     "REPLIES:",
-    "row:",
     "after:",
     "before:",
     "words:",
