@@ -6,6 +6,7 @@ use crate::left::{Left, is_service};
 use crate::octets::size;
 use crate::packets::wrong_packet;
 use crate::row::Row;
+use crate::service::wrong_session;
 use cf_outside::Told;
 use cf_pcap::{RecordAnswer, read_header, read_record};
 use cf_view::Side;
@@ -139,6 +140,9 @@ fn wrong_pair<'a>(
     words: &str,
     left: &Left,
 ) -> Result<Option<&'a str>, Fault> {
+    if row.has("arrives:") {
+        return wrong_session(book, row, left);
+    }
     let answers = size(row.field("answers:").unwrap_or("0"))?;
     if is_service(words) {
         return Ok((left.links.told.len() != answers).then_some("the number of answers"));

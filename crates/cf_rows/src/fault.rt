@@ -34,6 +34,8 @@ pub enum Wanted {
     Edit,
     Change,
     Object,
+    Place,
+    End,
 }
 
 impl Fault {
@@ -93,6 +95,8 @@ impl fmt::Display for Wanted {
             Wanted::Edit => write!(f, "no edit of the policy p"),
             Wanted::Change => write!(f, "no octet of the capture"),
             Wanted::Object => write!(f, "no object whose calls fail"),
+            Wanted::Place => write!(f, "no place of that asset"),
+            Wanted::End => write!(f, "no end of a session"),
         }
     }
 }

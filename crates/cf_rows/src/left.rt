@@ -7,6 +7,7 @@ use crate::fault::{Fault, Wanted};
 use crate::octets::{octets, size};
 use crate::packets::capture;
 use crate::row::Row;
+use crate::service::links_of;
 use cf_box::{box_main, serve_main};
 use cf_links::MemoryLinks;
 use cf_outside::{Fail, MemoryFiles, MemoryPair, MemorySink};
@@ -57,7 +58,7 @@ pub fn is_service(words: &str) -> bool {
 }
 
 /// Plays words, separated by spaces, over the policies, the stream `s` and the capture `c`, and over what the words before them left.
-/// To the places of a service nobody comes, and its first wait fails.
+/// The clients of the row come to the places of a service, and behind its rounds a wait fails.
 pub fn play(book: &Book, row: &Row, words: &str, script: &Script) -> Result<Left, Fault> {
     let mut files = files_of(book, row)?;
     for words in row.all("before:").iter() {
@@ -74,7 +75,7 @@ pub fn play(book: &Book, row: &Row, words: &str, script: &Script) -> Result<Left
     out.fails.extend(script.put)?;
     let mut pair = pair_of(book, row)?;
     pair.fails.extend(script.pair)?;
-    let mut links = MemoryLinks::new(book.alloc);
+    let mut links = links_of(book, row, words)?;
     let spelled = spelled(book, row, words)?;
     let status = ends(
         book, words, &spelled, &mut files, &mut out, &mut pair, &mut links,
@@ -176,7 +177,7 @@ fn capture_of(book: &Book, row: &Row) -> Result<Vec<u8>, Fault> {
     Ok(capture)
 }
 
-/// The pair of a client at 10.0.0.5:49152.
+/// The pair of a client at 10.0.0.5:49152; what the clients of a service send is not its.
 fn pair_of(book: &Book, row: &Row) -> Result<MemoryPair, Fault> {
     let mut pair = MemoryPair::new(book.alloc);
     pair.client = Endpoint {
@@ -184,6 +185,9 @@ fn pair_of(book: &Book, row: &Row) -> Result<MemoryPair, Fault> {
         port: 49152,
     };
     pair.moments.push(MOMENT)?;
+    if row.has("arrives:") {
+        return Ok(pair);
+    }
     if let Some(bytes) = row.octets(book, "client sends:")? {
         pair.from_client = bytes;
     }

@@ -10,6 +10,7 @@ mod left;
 mod octets;
 mod packets;
 mod row;
+mod service;
 mod source;
 mod sweep;
 

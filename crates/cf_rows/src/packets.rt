@@ -66,6 +66,11 @@ fn ends(row: &Row, who: &str) -> Result<Flow, Fault> {
     }
 }
 
+/// The endpoint of a client.
+pub fn client_named(row: &Row, who: &str) -> Result<Endpoint, Fault> {
+    Ok(ends(row, who)?.source)
+}
+
 fn flags(letters: &str) -> Result<u8, Fault> {
     let mut flags = 0;
     for letter in letters.chars() {
@@ -164,7 +169,7 @@ fn body(book: &Book, row: &Row, spelled: &str, link: LinkKind) -> Result<Vec<u8>
 }
 
 /// A moment in microseconds.
-fn moment(spelled: &str) -> Result<u64, Fault> {
+pub fn moment(spelled: &str) -> Result<u64, Fault> {
     let (seconds, micros) = spelled
         .split_once('.')
         .ok_or(Fault::Wanted(Wanted::Moment))?;

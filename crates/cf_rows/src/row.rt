@@ -9,7 +9,7 @@ use std::alloc::Global;
 use std::collections::BTreeMap;
 
 /// How the lines of a row begin.
-const KEYS: [&str; 34] = [
+const KEYS: [&str; 39] = [
     ">",
     "<",
     "log",
@@ -30,6 +30,11 @@ const KEYS: [&str; 34] = [
     "client sends:",
     "controller sends:",
     "idle to:",
+    "arrives:",
+    "rounds:",
+    "moments:",
+    "ends:",
+    "reached:",
     "file fails:",
     "put fails:",
     "pair fails:",
@@ -133,7 +138,7 @@ pub fn word32(spelled: &str) -> Result<u32, Fault> {
 }
 
 /// A number of calls.
-fn word64(spelled: &str) -> Result<u64, Fault> {
+pub fn word64(spelled: &str) -> Result<u64, Fault> {
     spelled
         .parse::<u64>()
         .map_err(|_| Fault::Wanted(Wanted::Number))
