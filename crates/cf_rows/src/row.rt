@@ -9,7 +9,7 @@ use std::alloc::Global;
 use std::collections::BTreeMap;
 
 /// How the lines of a row begin.
-const KEYS: [&str; 39] = [
+const KEYS: [&str; 40] = [
     ">",
     "<",
     "log",
@@ -31,6 +31,7 @@ const KEYS: [&str; 39] = [
     "controller sends:",
     "idle to:",
     "arrives:",
+    "listen fails:",
     "rounds:",
     "moments:",
     "ends:",

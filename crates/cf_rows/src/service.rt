@@ -42,12 +42,21 @@ pub fn links_of(book: &Book, row: &Row, words: &str) -> Result<MemoryLinks, Faul
     ensures free { IfOk result (λ links. (session : ℕ) → serves_in links session ≡ false) }
 {
     let rounds = rounds_of(row)?;
+    let deaf = match row.field("listen fails:") {
+        Some(asset) => Some(place_of(words, asset)?),
+        None => None,
+    };
     let clients = clients_of(book, row, words)?;
-    Ok(links_with(book.alloc, clients, rounds))
+    Ok(links_with(book.alloc, clients, rounds, deaf))
 }
 
-/// Links to which these clients come, in their order.
-fn links_with(alloc: Global, clients: Vec<MemoryClient>, rounds: Rounds) -> MemoryLinks
+/// Links to which these clients come, in their order, and which cannot listen at one place, if there is one.
+fn links_with(
+    alloc: Global,
+    clients: Vec<MemoryClient>,
+    rounds: Rounds,
+    deaf: Option<u32>,
+) -> MemoryLinks
     ensures free { (session : ℕ) → serves_in result session ≡ false }
 {
     let mut links = MemoryLinks::new(alloc);
@@ -55,6 +64,7 @@ fn links_with(alloc: Global, clients: Vec<MemoryClient>, rounds: Rounds) -> Memo
     links.rounds = rounds.number;
     links.clock = rounds.clock;
     links.step = rounds.step;
+    links.deaf = deaf;
     links
 }
 
