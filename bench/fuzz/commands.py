@@ -3,7 +3,7 @@ import re
 import struct
 
 from case import Wrong
-from edits import edited, edited_capture, edited_text, mended_stream
+from edits import edited, edited_capture, edited_lists, edited_text, mended_stream
 from peers import link_user, units_of
 
 CAPTURED = {0, 6, 7}
@@ -184,14 +184,15 @@ def packets(case, book):
         case.expect(done.status == 0 and ran.number(1) == done.printed.count("\n"), f"{ran.number(1)} records have other lines")
 
 
-def edited_policy(case, book):
-    one, other = case.random.choice(book.texts), case.random.choice(book.texts)
-    return edited_text(case.random, one, other) if case.random.random() < .9 else one
+def edited_policy(case, one, other):
+    """A policy's text as it is, with other numbers in its lists, or with any edit, by which it mostly is none."""
+    way = case.random.random()
+    return one if way < .2 else edited_lists(case.random, one) if way < .7 else edited_text(case.random, one, other)
 
 
 def check(case, book):
     """What is refused is refused by each command in the same words, and is left alone by `migrate`."""
-    case.write("policy", edited_policy(case, book))
+    case.write("policy", edited_policy(case, case.random.choice(book.texts), case.random.choice(book.texts)))
     case.write("stream", b"")
     done = case.call("check", "policy", ends={0, 5})
     if done.status == 5:
@@ -203,7 +204,7 @@ def check(case, book):
 
 def migrate(case, book):
     """What is written is included in what was read, and that in it; written again it is the same."""
-    case.write("policy", edited_policy(case, book))
+    case.write("policy", edited_policy(case, case.random.choice(book.texts), case.random.choice(book.texts)))
     done = case.call("migrate", "policy", "out", ends={0, 5})
     if done.status == 0:
         case.expect(case.call("check", "out", ends={0}).printed == done.printed, "it has other numbers of assets and rules")
@@ -216,8 +217,8 @@ def migrate(case, book):
 def compare(case, book):
     """A policy is included in itself; of an act that is shown and has a command, the first admits it and the second refuses it."""
     one, two = case.random.choice(book.pairs) if case.random.random() < .5 else [case.random.choice(book.texts)] * 2
-    case.write("policy", edited_text(case.random, one, two) if case.random.random() < .7 else one)
-    case.write("other", edited_text(case.random, two, one) if case.random.random() < .7 else two)
+    case.write("policy", edited_policy(case, one, two))
+    case.write("other", edited_policy(case, two, one))
     case.write("none", b"")
     done = case.call("compare", "policy", "other", ends={0, 5, 15, 17})
     if done.status == 5:

@@ -3,6 +3,7 @@
 An edited input alone is mostly refused at its first check. So half of them are mended: their sums, checks and lengths are made right
 again, and what was edited gets further in.
 """
+import re
 import struct
 
 from rows import ones_sum
@@ -101,7 +102,18 @@ def with_number(random, line):
     first = behind = random.choice(places)
     while line[behind:behind + 1].isdigit():
         behind += 1
-    return line[:first] + str(random.choice(DECIMALS)) + line[behind:]
+    near = max(0, int(line[first:behind]) + random.choice([-10, -1, 1, 10]))
+    return line[:first] + str(near if random.random() < .7 else random.choice(DECIMALS)) + line[behind:]
+
+
+def edited_lists(random, text):
+    """A policy's text with other numbers in its rules' lists, which mostly is a policy still."""
+    lines = text.splitlines(keepends=True)
+    places = [at for at, line in enumerate(lines) if re.match("(codes|groups|points|values|clients|most|seconds) = ", line)]
+    for _ in range(random.choice([1, 1, 2, 3]) if places else 0):
+        at = random.choice(places)
+        lines[at] = with_number(random, lines[at])
+    return "".join(lines)
 
 
 # What is made right again.
