@@ -47,9 +47,9 @@ sift p 10.0.0.5 a s o r l
 CLIENT is "a", no IPv4 address as 10.0.0.5: it has not four numbers; ASSET is "10.0.0.5": are the two exchanged?
   cmdwall sift POLICY ASSET CLIENT STREAM OUT REPLIES LOG
 
-serve p l 60 pump=127.0.0.1:5020
-SECONDS is "l", no whole number from 1 to 1000000; LOG is "60": are the two exchanged?
-  cmdwall serve POLICY SECONDS LOG NAME=A.B.C.D:PORT..
+relay p 5020 a 12000 l
+PORT is "a", no whole number from 1 to 65535; ASSET is "5020": are the two exchanged?
+  cmdwall relay POLICY ASSET PORT IDLES LOG
 
 sift p s 10.0.0.5 s o r o
 OUT and LOG are both "o", and each file has a name of its own
