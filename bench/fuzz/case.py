@@ -105,17 +105,17 @@ class Case:
         if not holds:
             raise Wrong(what)
 
-    def sizes(self, octets, first):
-        """How octets are cut into pieces, of which the first has so many at least."""
-        most, sizes = self.random.choice([1, 3, 16, 100, 1000]), [first] if first else []
+    def sizes(self, octets):
+        """How octets are cut into pieces."""
+        most, sizes = self.random.choice([1, 3, 16, 100, 1000]), []
         most = max(most, len(octets) // 400)
         while sum(sizes) < len(octets):
             sizes.append(self.random.randint(1, min(most, PIECE)))
         return sizes
 
-    def call(self, *words, ends, fed_from=None, first=0):
+    def call(self, *words, ends, fed_from=None):
         """Calls the program, which has to end with one of these statuses and to print what belongs to it."""
-        words, sizes = [str(word) for word in words], fed_from and self.sizes(self.read(fed_from), first)
+        words, sizes = [str(word) for word in words], fed_from and self.sizes(self.read(fed_from))
         pieces = [] if sizes is None else [sys.executable, str(pathlib.Path(__file__)), fed_from, ",".join(map(str, sizes))]
         self.calls.append(shlex.join(pieces + [str(self.program)] + words))
         files = {"cwd": self.folder, "preexec_fn": limited}

@@ -7,9 +7,6 @@ from edits import edited, edited_capture, edited_lists, edited_text, mended_stre
 from peers import link_user, units_of
 
 CAPTURED = {0, 6, 7}
-# The octets by which the form of a capture is known, and as many of each block of pcapng. They have to come as one piece of a pipe: the
-# program looks at them, and goes back to the end of a header or block that is shorter.
-FORM = 28
 
 
 def protocol_of(policy, asset):
@@ -97,21 +94,18 @@ def edited_recording(case, book):
 
 
 def in_pieces(case, *words):
-    """A call whose capture comes through a pipe; or None, where it has such an end, or is pcapng, whose blocks may be short."""
-    capture = case.read("capture")
-    if capture[:4] == b"\x0a\x0d\x0d\x0a" or 24 < len(capture) < FORM:
-        return None
-    return case.call(*words, ends=CAPTURED, fed_from="capture", first=FORM)
+    """A call whose capture comes through a pipe, in pieces."""
+    return case.call(*words, ends=CAPTURED, fed_from="capture")
 
 
 def run(case, book):
     """In pieces as in one; OUT is judged `yes`, has whole packets alone, and shows nothing that the policy does not allow."""
     edited_recording(case, book)
     done = case.call("run", "policy", "capture", "out", "log", ends=CAPTURED)
-    if again := in_pieces(case, "run", "policy", "/dev/stdin", "out2", "log2"):
-        case.expect(again.printed == done.printed, f"in pieces it prints {again.printed!r} in place of {done.printed!r}")
-        for name in ("out", "log"):
-            case.expect(case.read(name) == case.read(name + "2"), f"in pieces {name} is another")
+    again = in_pieces(case, "run", "policy", "/dev/stdin", "out2", "log2")
+    case.expect(again.printed == done.printed, f"in pieces it prints {again.printed!r} in place of {done.printed!r}")
+    for name in ("out", "log"):
+        case.expect(case.read(name) == case.read(name + "2"), f"in pieces {name} is another")
     if case.read("out") is None:
         case.expect(done.status == 6, "OUT is not there")
         return
@@ -177,8 +171,8 @@ def packets(case, book):
     """As many lines as `run` counts records, in pieces as in one."""
     edited_recording(case, book)
     done = case.call("packets", "capture", ends=CAPTURED)
-    if again := in_pieces(case, "packets", "/dev/stdin"):
-        case.expect(again.printed == done.printed and again.status == done.status, "in pieces it prints other lines")
+    again = in_pieces(case, "packets", "/dev/stdin")
+    case.expect(again.printed == done.printed and again.status == done.status, "in pieces it prints other lines")
     ran = case.call("run", "policy", "capture", "out", "log", ends=CAPTURED)
     if ran.status == 0:
         case.expect(done.status == 0 and ran.number(1) == done.printed.count("\n"), f"{ran.number(1)} records have other lines")
