@@ -40,12 +40,12 @@ pub fn kept_text(
     for asset in ours.policy.assets.as_slice() {
         if let Some((there, partner)) = asset_named(other.policy, asset.name.as_str()) {
             let ours = Seat {
-                source: ours,
+                source: &*ours,
                 place,
                 asset,
             };
             let other = Seat {
-                source: other,
+                source: &*other,
                 place: there,
                 asset: partner,
             };

@@ -370,14 +370,16 @@ fn some_rated(subject: &Subject<'_>) -> bool {
 fn push_passed(out: &mut Page, rule: &Rule, code: u16, high: i64) {
     out.push("points ");
     let spans = rule.points.as_slice();
-    let mut between = "";
+    let mut is_first = true;
     for (index, span) in spans.iter().enumerate() {
         let told = above(span, high);
         let earlier = spans.get(..index).unwrap_or(spans);
         if high < span.high && !earlier.iter().any(|other| above(other, high) == told) {
-            out.push(between);
+            if !is_first {
+                out.push(", ");
+            }
             push_span(out, told);
-            between = ", ";
+            is_first = false;
         }
     }
     out.push_number_after(" never come with code ", u64::from(code));
