@@ -5,7 +5,7 @@ use Rattle.cf_policy.specs.Within.{highest_code, highest_group, highest_point, l
 use Rattle.cf_policy.specs.declared.Protocol.{Protocol}
 use Rattle.cf_acts.specs.Commands.{IsOfCommand}
 
--- its numbers are in the ranges of a policy
+-- an act whose numbers are in the ranges of a policy
 pub record IsActWithin (act : Act) : Type 0 where
   pub code : pos act.code ≤ℤ highest_code
   pub group : pos act.group ≤ℤ highest_group

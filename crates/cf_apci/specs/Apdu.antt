@@ -36,7 +36,7 @@ asdu_of (Info send receive asdu) = asdu
 asdu_of (Ack receive) = []
 asdu_of (Control code) = []
 
--- its octets: the start, the length of what follows, the control field and the ASDU
+-- the octets of an APDU: the start, the length of what follows, the control field and the ASDU
 abbrev pub spelling : ApduValue → List ℕ
 spelling a = 0x68 ∷ (length (asdu_of a) + 4) ∷ control_octets a ++ asdu_of a
 

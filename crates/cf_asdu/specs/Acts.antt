@@ -8,7 +8,7 @@ use Rattle.cf_asdu.specs.declared.element.Element.{Element}
 use Rattle.cf_asdu.specs.Asdu.{AsduValue}
 use Rattle.cf_asdu.specs.Types.{element_of, number_at}
 
--- where object number i begins, of objects that have an address and an element each
+-- the place at which object number i begins, of objects that have an address and an element each
 abbrev pub object_place : Element → ℕ → ℕ
 object_place e i = i * (3 + e.octets)
 

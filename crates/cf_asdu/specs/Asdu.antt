@@ -28,7 +28,7 @@ abbrev pub asdu_value : Asdu → AsduValue
 asdu_value a =
     record { kind = a.kind; number = a.number; cause = a.cause; origin = a.origin; station = a.station; objects = a.objects.bytes }
 
--- its octets
+-- the octets of an ASDU
 abbrev pub spelling : AsduValue → List ℕ
 spelling a = a.kind ∷ a.number ∷ a.cause ∷ a.origin ∷ u16_le_octets a.station ++ a.objects
 
@@ -79,7 +79,7 @@ abbrev pub asdu_answer : Result Asdu AsduRefusal → Result AsduValue AsduRefusa
 asdu_answer (Ok asdu) = Ok (asdu_value asdu)
 asdu_answer (Err refusal) = Err refusal
 
--- it is what reading some octets gives
+-- an ASDU that reading some octets gives
 abbrev pub IsRead : AsduValue → Type 0
 IsRead a = (octets : List ℕ) × Reads (Ok a) octets
 

@@ -15,7 +15,7 @@ element octets number = Some (record { octets = octets; number = number })
 abbrev pub with_time : ℕ → Number → Option Element
 with_time octets number = element (octets + 7) number
 
--- by type identification: how many octets its element has, the qualifier among them, and the number that it writes
+-- the element of a type identification: the number of its octets, the qualifier among them, and the number that it writes
 abbrev pub element_of : ℕ → Option Element
 element_of kind =
     -- single, double and regulating step command; set-point, normalized, scaled and floating; bitstring
@@ -47,7 +47,7 @@ element_of kind =
     (if kind == 112 then element 5 numbers.Absent else
     (if kind == 113 then element 1 numbers.Octet else None)))))))))))))))))))))))
 
--- how many octets a number takes
+-- the octets that a number takes
 abbrev pub number_octets : Number → ℕ
 number_octets numbers.Bit = 1
 number_octets numbers.TwoBits = 1

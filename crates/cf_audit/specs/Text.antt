@@ -39,7 +39,7 @@ cut_text cut.ResetByController = codes "controller reset"
 abbrev pub counts_text : (admitted refused : ℕ) → List ℕ
 counts_text admitted refused = codes " admitted " ++ decimal admitted ++ codes " refused " ++ decimal refused
 
--- how many clients came
+-- the text that says how many clients came
 abbrev pub came_text : (came : ℕ) → List ℕ
 came_text came = codes " came " ++ decimal came
 

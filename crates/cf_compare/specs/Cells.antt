@@ -12,7 +12,7 @@ use Rattle.cf_compare.specs.declared.axis.Axis.{Axis}
 use Rattle.cf_compare.specs.declared.axis.Axis.TheVariants.{Clients, Groups, Points, Values}
 use Rattle.cf_compare.specs.declared.count.TheConstants.{CODES, MOST_CELLS}
 
--- how many cells are compared at most
+-- the cells that are compared at most
 abbrev pub most_cells : ℕ
 most_cells = MOST_CELLS
 
@@ -45,7 +45,7 @@ has_code code r = takes r.codes (pos code)
 abbrev pub stated_spans : Axis → List Rule → List Span
 stated_spans axis rules = flat_map (axis_spans axis) rules
 
--- where a span begins, and where it has ended
+-- the place at which a span begins, and the one at which it has ended
 abbrev pub turns : Span → List ℤ
 turns s = s.low ∷ (s.high +ℤ pos 1) ∷ []
 

@@ -23,7 +23,7 @@ Allows asset client act = IsAllowed (verdict_of asset client act)
 abbrev pub AllowsAllOf : Asset → Asset → Type 0
 AllowsAllOf ours other = (client : ℕ) (act : Act) → IsInRange client act → Allows ours client act → Allows other client act
 
--- the same controller under the same name
+-- two assets that are one controller under one name
 pub record IsSameController (ours other : Asset) : Type 0 where
   pub name : ours.name ≡ other.name
   pub endpoint : ours.endpoint ≡ other.endpoint
@@ -58,7 +58,7 @@ IsValueUpTo None w = Unit {0}
 IsValueUpTo (Some m) None = ⊥
 IsValueUpTo (Some m) (Some n) = m ≤ℤ n
 
--- not after the other by code, then client, group, point and value
+-- an act that is not after the other by code, then client, group, point and value
 abbrev pub IsUpTo : ℕ → Act → ℕ → Act → Type 0
 IsUpTo client act another later =
     IsLessOr act.code later.code

@@ -28,7 +28,7 @@ table_at Values tables = tables.values.items
 abbrev pub table_of : List Span → List ℤ → List Bool
 table_of spans numbers = map (λ n. takes spans n) (take longest_table numbers)
 
--- of each axis, whether the rule takes its first corners
+-- for each axis, whether the rule takes its first corners
 pub record AreTablesFor (rule : Rule) (corners : Corners) (tables : Tables) : Type 0 where
   pub clients : tables.clients.items ≡ table_of rule.clients corners.clients.items
   pub groups : tables.groups.items ≡ table_of rule.groups corners.groups.items

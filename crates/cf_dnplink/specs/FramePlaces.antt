@@ -15,11 +15,11 @@ frame_size len = 10 + (len - 5) + 2 * ((len - 5 + 15) / 16)
 abbrev pub size_of : List ℕ → ℕ
 size_of octets = if nat_lt (length octets) 3 then 10 else frame_size (slice_index octets 2)
 
--- where the block begins that a place lies in, or whose CRC does; the header is the first
+-- the place at which the block begins that a place lies in, or whose CRC does; the header is the first block
 abbrev pub block_start : ℕ → ℕ
 block_start place = if nat_lt place 10 then 0 else 10 + (place - 10) / 18 * 18
 
--- where its CRC begins
+-- the place at which the CRC of that block begins
 abbrev pub block_end : ℕ → ℕ → ℕ
 block_end len place =
     if nat_lt place 10 then 8 else block_start place + min 16 (len - 5 - (place - 10) / 18 * 16)
@@ -61,6 +61,6 @@ IsFirstWrong octets most n result =
     MatchOption result (EachFollows follows octets (min most n))
     (λ p. (p < most) × EachFollows follows octets p × (follows (take p octets) (slice_index octets p) ≡ false))
 
--- in a frame with this LENGTH one block lies from start to stop, and its CRC behind it
+-- a block from start to stop in a frame with this LENGTH, with its CRC behind it
 abbrev pub IsBlock : ℕ → ℕ → ℕ → Type 0
 IsBlock len start stop = (p : ℕ) → start ≤ p → p < stop + 2 → (block_start p ≡ start) × (block_end len p ≡ stop)

@@ -44,7 +44,7 @@ value_size h =
     (if is_object (slice_index h 0) (slice_index h 1) 41 1 then 4 else
     (if is_object (slice_index h 0) (slice_index h 1) 41 2 then 2 else 0))
 
--- where object i of a header begins, with its index
+-- the place at which object i of a header begins, with its index
 abbrev pub object_place : ℕ → List ℕ → ℕ → ℕ
 object_place code h i = 3 + range_size (slice_index h 2) + i * each code h
 
@@ -87,13 +87,13 @@ abbrev pub summed : ℕ → Result (List (List ℕ)) FragmentRefusal → Result 
 summed code (Ok hs) = Ok (sum_by (header_count code) hs)
 summed code (Err e) = Err e
 
--- where all headers are whole, those from a place on are, and act i is act left of these
+-- a mark of act i: where all headers are whole, those from a place on are, and act i is act left of these
 abbrev pub LeavesActs : ℕ → List ℕ → ℕ → ℕ → ℕ → Type 0
 LeavesActs code xs i place left =
     (headers : List (List ℕ)) → headers_in code xs ≡ Ok headers →
     (later : List (List ℕ)) × (headers_in code (drop place xs) ≡ Ok later) × (slice_get (flat_map (header_acts code) headers) i ≡ slice_get (flat_map (header_acts code) later) left)
 
--- so it is with each later act
+-- a mark of act i and of each later one
 abbrev pub LeavesAll : ℕ → List ℕ → ℕ → ℕ → ℕ → Type 0
 LeavesAll code xs i place left = (n : ℕ) → LeavesActs code xs (i + n) place (left + n)
 
@@ -111,6 +111,6 @@ pub record IsMark (code : ℕ) (xs : List ℕ) (i : ℕ) (m : Mark) : Type 0 whe
 abbrev pub AreMarksTo : ℕ → List ℕ → ℕ → List Mark → Type 0
 AreMarksTo code xs count marks = (j : ℕ) → j < count → IsMark code xs (16 * j) (get_or marks j first_mark)
 
--- so do all marks of a request
+-- marks of a request that hold, each
 abbrev pub AreMarks : FragmentValue → List Mark → Type 0
 AreMarks f marks = AreMarksTo f.code f.objects 44 marks

@@ -24,7 +24,7 @@ abbrev pub fragment_answer : Result Fragment FragmentRefusal → Result Fragment
 fragment_answer (Ok f) = Ok (fragment_value f)
 fragment_answer (Err e) = Err e
 
--- how many headers a code may have: a confirmation none, a command and a write one at least
+-- the number of headers that a code may have: a confirmation none, a command and a write one at least
 abbrev pub takes_headers : ℕ → ℕ → Bool
 takes_headers code n = if code == 0 then n == 0 else (if is_command code || is_write code then nat_lt 0 n else true)
 

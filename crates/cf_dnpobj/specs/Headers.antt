@@ -12,7 +12,7 @@ use Rattle.cf_dnpobj.specs.Objects.{layout_of, takes, is_span, is_all, width, ra
 abbrev pub number_at : ℕ → List ℕ → ℕ → ℕ
 number_at w octets i = if w == 0 then 0 else (if w == 1 then slice_index octets i else u16_le_at octets i)
 
--- how many objects the range of the first header tells; 0 where its start is above its stop
+-- the number of objects that the range of the first header tells; 0 where its start is above its stop
 abbrev pub count_of : List ℕ → ℕ
 count_of octets =
     let q = slice_index octets 2 in

@@ -41,7 +41,7 @@ refused_objects code (Err e) = []
 abbrev pub answers_objects : ℕ → Bool
 answers_objects code = nat_le 3 code && nat_le code 5
 
--- from the second octet of internal indications on
+-- the reply from the second octet of internal indications on
 abbrev pub body : Result FragmentValue FragmentRefusal → Reason → List ℕ
 body (Ok f) reason =
     if answers_objects f.code then 0x00 ∷ refused_objects f.code (headers_in f.code f.objects) else indication_of reason ∷ []

@@ -1,7 +1,7 @@
 -- A fragment in segments of at most 249 octets: `segments_of`, which stands last. IEEE 1815-2012, section 8.2.
 use Rattle.std.specs.Prelude.{ℕ, zero, suc, ◌+◌, ◌*◌, ◌/◌, ◌%◌, ◌==◌, if◌then◌else◌, List, [], ◌∷◌, length, take, drop}
 
--- how many segments a fragment of len octets has
+-- the number of segments of a fragment of len octets
 abbrev pub count_of : ℕ → ℕ
 count_of len = (len + 248) / 249
 

@@ -13,11 +13,11 @@ use Rattle.cf_dnptrans.specs.declared.assembly.DropReason.TheVariants as drop_
 abbrev pub is_final : List ℕ → Bool
 is_final s = nat_le 128 (slice_index s 0)
 
--- it has the bit FIR
+-- the bit FIR of a segment
 abbrev pub is_first : List ℕ → Bool
 is_first s = slice_index s 0 / 64 % 2 == 1
 
--- its sequence number, from 0 to 63
+-- the sequence number of a segment, from 0 to 63
 abbrev pub sequence : List ℕ → ℕ
 sequence s = slice_index s 0 % 64
 
@@ -38,7 +38,7 @@ is_linked [] = false
 is_linked (s ∷ []) = is_first s
 is_linked (s ∷ t ∷ earlier) = not (is_final t) && ((sequence s == (sequence t + 1) % 64) && is_linked (t ∷ earlier))
 
--- at most 2,048 octets
+-- a fragment of at most 2,048 octets
 abbrev pub fitting : List ℕ → Option (List ℕ)
 fitting octets = if nat_le (length octets) 2048 then Some octets else None
 

@@ -2,7 +2,7 @@
 use Rattle.std.specs.Prelude.{◌≡◌, List, [], ◌∷◌}
 use Rattle.cf_leg.specs.Event.{Came, Nothing, Greeting, Packet, Ending, Unspoken, Spoke, Cut, LegEvent}
 
--- the same packet came, or the end was to greet with the same number
+-- what came, where it is the same packet, or the end was to greet with the same number
 abbrev pub SameCame : Came → Came → Type 0
 SameCame Nothing Nothing = Unit {0}
 SameCame (Greeting p) (Greeting q) = p.seq ≡ q.seq

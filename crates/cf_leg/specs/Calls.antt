@@ -118,7 +118,7 @@ oldest leg q whole =
     then segment (way_at leg) (told_of leg) (sequence_number leg.own q.acked) (piece whole leg.mss q.sent q.acked)
     else segment (way_at leg) (told_of leg) ((leg.own + q.acked) % 2 ^ 32) no_letters
 
--- that went out, or the desk failed amid it
+-- a send of the oldest segment that went out, or amid which the desk failed
 pub record SendsOldest (leg : LegValue) (queue : Queue) (now : ℕ) (before after : DeskValue) (failed : Bool) : Type 0 where
   pub out : PacketValue
   pub gets : GetsSegments failed now (out ∷ []) before after
@@ -155,7 +155,7 @@ pub record Clocked (now : ℕ) (old new : LegValue) (queue : Queue) (given : Clo
     pub answer : (es : List LegEvent) → is_settled es ≡ true → IsLegOf old (marks queue) es → IsQueueOf queue (stream_after es)
         → given ≡ clock_answer old.ends.role es (clocked now outs)
 
--- before it is due a clock call is quiet, and leaves the leg as it is
+-- a clock call before it is due is quiet, and leaves the leg as it is
 abbrev pub AreQuietBeforeDue : Type 0
 AreQuietBeforeDue = (leg : LegValue) (queue : Queue) (now : ℕ) (before : Option (List SentValue)) → now < due_of leg
     → Clocked now leg leg queue answers.Quiet before before
@@ -254,7 +254,7 @@ pub record Heard (now : ℕ) (p : PacketValue) (old new : LegValue) (queue queue
 abbrev pub with_letters : Stream → Stream → Stream
 with_letters s more = record { bytes = s.bytes ++ more.bytes; ended = if more.ended then true else s.ended }
 
--- these letters were taken by the packet: they are pending now, and what is taken goes on by them
+-- letters that the packet has taken: they are pending now, and what is taken goes on by them
 pub record Newly (now : ℕ) (p : PacketValue) (old new : LegValue) (queue : Queue) : Type 0 where
   pub letters : Stream
   pub pending : new.window.pending ≡ old.window.pending ++ letters.bytes
@@ -355,7 +355,7 @@ pub record KeepsList (old new : Queue) : Type 0 where
   pub ended : new.ended ≡ old.ended
   pub kept : length new.kept ≤ length old.kept
 
--- only the edge was moved, and only where there is room; it lies near the base
+-- a window of which only the edge was moved, and only where there is room; it lies near the base
 pub record Widens (roomy : Bool) (old new : Window) : Type 0 where
   pub same : new ≡ record old { edge = new.edge }
   pub shut : roomy ≡ false → new.edge ≡ old.edge

@@ -105,7 +105,7 @@ SaysIf way t due whole mss edge from outs =
     (Pieces way t whole mss edge from outs)
     (outs ≡ (if due then segment way t (sequence_number way.own from) no_letters ∷ [] else []))
 
--- the same, where an acknowledgment is due if one is owed, or if the base or the edge differs from what was told
+-- what an end says, where an acknowledgment is due if one is owed, or if the base or the edge differs from what was told
 abbrev pub Says : Way → Advertised → Advertised → Bool → Stream → ℕ → ℕ → ℕ → List PacketValue → Type 0
 Says way before t owes whole mss edge from outs = SaysIf way t (owes || differs before t) whole mss edge from outs
 
@@ -146,7 +146,7 @@ repeat_open ends es =
 abbrev pub repeats : Ends → List LegEvent → List PacketValue
 repeats ends es = if opened ends.role es then repeat_open ends es ∷ [] else again (greeting es)
 
--- at the first six firings since an answer
+-- the packets of the first six firings since an answer
 abbrev pub fired_at : Ends → List LegEvent → LegEvent → List PacketValue
 fired_at ends es e = if fires ends.role es e && nat_lt (tries ends.role es) 6 then repeats ends es else []
 
@@ -165,7 +165,7 @@ rst ends number ack flags = record {
   text = [];
 }
 
--- before a SYN ACK went out it answers the peer's SYN, and before one came it takes back the own SYN
+-- the packet of a cut: before a SYN ACK went out it answers the peer's SYN, and before one came it takes back the own SYN
 abbrev pub cut_packet : Ends → List LegEvent → ℕ → ℕ → Role → PacketValue
 cut_packet ends es from count (role.Active own) =
     if opened ends.role es then rst ends (sequence_number own from) (sequence_number (peer_number ends.role es) count) 20
@@ -174,7 +174,7 @@ cut_packet ends es from count (role.Passive other mss) =
     if is_greeted es then rst ends (sequence_number (own_number ends.role es) from) (sequence_number other count) 20
     else rst ends 0 (sequence_number other 0) 20
 
--- it tells the letters taken, those of the event included
+-- the packet that tells the letters taken, those of the event included
 pub record Cuts (ends : Ends) (es : List LegEvent) (e : LegEvent) (p : PacketValue) : Type 0 where
   pub taken : Stream
   pub is_taken : IsTaken (first_copy (offers ends.role (e ∷ es))) taken
@@ -182,7 +182,7 @@ pub record Cuts (ends : Ends) (es : List LegEvent) (e : LegEvent) (p : PacketVal
 
 -- ---- segments without letters
 
--- how many letters some segments have, and how many of them have none
+-- the number of letters of some segments, and of those of them that have none
 abbrev pub letters_of_all : List PacketValue → ℕ
 letters_of_all [] = 0
 letters_of_all (p ∷ ps) = letters_of p + letters_of_all ps

@@ -21,7 +21,7 @@ abbrev pub BeginsNext : (SentValue → List ℕ) → ℕ → List PacketValue �
 BeginsNext octets moment [] part = part ≡ []
 BeginsNext octets moment (p ∷ ps) part = (k : ℕ) × (part ≡ take k (octets (record { moment = moment; bytes = spelled p })))
 
--- of these segments the first ones went out before the desk failed, and after them stands a beginning of the next one
+-- a desk that failed amid segments: the first ones went out, and after them stands a beginning of the next one
 pub record BreaksOff (moment : ℕ) (outs : List PacketValue) (old new : DeskValue) : Type 0 where
   pub gone : List PacketValue
   pub left : List PacketValue
@@ -29,7 +29,7 @@ pub record BreaksOff (moment : ℕ) (outs : List PacketValue) (old new : DeskVal
   pub packets : new.packets ≡ with_segments old.packets moment gone
   pub part : BeginsNext old.octets moment left new.packet_part
 
--- these segments are all that may be said, or, where the desk failed, the first ones of it
+-- segments that are all that may be said, or, where the desk failed, the first ones of it
 abbrev pub AllOrFirst : (failed : Bool) → (MaySay : List PacketValue → Type 0) → List PacketValue → Type 0
 AllOrFirst false MaySay outs = MaySay outs
 AllOrFirst true MaySay outs = (more : List PacketValue) × MaySay (outs ++ more)

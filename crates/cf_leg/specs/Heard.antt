@@ -16,7 +16,7 @@ use Rattle.cf_leg.specs.declared.ends.Role.TheVariants as role
 use Rattle.cf_leg.specs.declared.ends.LegAnswer.{LegAnswer}
 use Rattle.cf_leg.specs.declared.ends.LegAnswer.TheVariants as answer
 
--- where a packet's letters begin, and up to where it acknowledges
+-- the place at which a packet's letters begin
 abbrev pub text_place : EndState → PacketValue → ℤ
 text_place at p = position p.seq at.other at.told.base
 
@@ -122,7 +122,7 @@ owes_for r p answer.Challenged = true
 owes_for r p answer.Ignored = false
 owes_for r p answer.Reset = false
 
--- the same of what came
+-- whether what came counts
 abbrev pub counts_in : EndState → Came → Bool
 counts_in at (Packet p) = counts at p
 counts_in at _ = false
@@ -186,7 +186,7 @@ opening r es e = opens (end_state r es e) e.came
 abbrev pub owed : Role → List LegEvent → LegEvent → Bool
 owed r es e = owes_in (end_state r es e) e.came
 
--- how many letters the peer has acknowledged, and the greatest edge that it has shown
+-- the number of letters that the peer has acknowledged
 abbrev pub acked : Role → List LegEvent → ℕ
 acked r [] = 0
 acked r (e ∷ es) = acked_by (end_state r es e) e.came (acked r es)

@@ -41,7 +41,7 @@ tries r (e ∷ es) =
     else if has_fired e then tries r es + 1
     else tries r es
 
--- when the armed leg fires next: a second after it was refreshed, or some time after it fired, whichever came last
+-- the moment at which the armed leg fires next: a second after it was refreshed, or some time after it fired, whichever came last
 abbrev pub due : Role → List LegEvent → ℕ
 due r [] = 0
 due r (e ∷ es) =

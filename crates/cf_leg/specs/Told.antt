@@ -19,7 +19,7 @@ abbrev pub greeting : List LegEvent → Option PacketValue
 greeting [] = None
 greeting (e ∷ es) = option_or (greeting es) (greeting_in e.came)
 
--- it has sent one
+-- whether a greeting was sent
 abbrev pub is_greeted : List LegEvent → Bool
 is_greeted es = is_some (greeting es)
 
@@ -70,27 +70,27 @@ told r [] = record { base = 0; edge = 0 }
 told r (e ∷ es) =
     told_by_all (peer_number r (e ∷ es)) (told_by_all (peer_number r es) (told r es) e.fired) (sent_in e)
 
--- how many places segments have sent: a segment with letters carries those up to its last one
+-- the number of places that segments have sent: a segment with letters carries those up to its last one
 abbrev pub letters_sent_by : ℕ → ℕ → PacketValue → ℕ
 letters_sent_by own before p =
     if letters_of p == 0 then before
     else max before (place_or_zero (position p.seq own before +ℤ pos (letters_of p)))
 
--- how many places segments have sent, the oldest one first
+-- the number of places that segments have sent, the oldest one first
 abbrev pub letters_sent_by_all : ℕ → ℕ → List PacketValue → ℕ
 letters_sent_by_all own before [] = before
 letters_sent_by_all own before (p ∷ ps) = letters_sent_by_all own (letters_sent_by own before p) ps
 
--- how many places the segments of events have sent
+-- the number of places that the segments of events have sent
 abbrev pub letters_sent : Role → List LegEvent → ℕ
 letters_sent r [] = 0
 letters_sent r (e ∷ es) =
     letters_sent_by_all (own_number r (e ∷ es)) (letters_sent_by_all (own_number r es) (letters_sent r es) e.fired) (sent_in e)
 
--- the same as the packet half of an event begins
+-- what was told as the packet half of an event begins
 abbrev pub told_at : Role → List LegEvent → LegEvent → Advertised
 told_at r es e = told_by_all (peer_number r es) (told r es) e.fired
 
--- how many places were sent as the packet half of an event begins
+-- the number of places sent as the packet half of an event begins
 abbrev pub letters_sent_at : Role → List LegEvent → LegEvent → ℕ
 letters_sent_at r es e = letters_sent_by_all (own_number r es) (letters_sent r es) e.fired

@@ -57,11 +57,11 @@ pub record SessionTold : Type 0 where
   pub session : ℕ
   pub list : Option (List LinksEntry)
 
--- with one answer more of that session
+-- what a session told, with one answer more
 abbrev pub with_entry : SessionTold → Entry → SessionTold
 with_entry told entry = record { session = told.session; list = option_map (λ es. es ++ Of told.session entry ∷ []) told.list }
 
--- with more of them
+-- what a session told, with more answers
 abbrev pub with_answers : SessionTold → List Entry → SessionTold
 with_answers told answers = record { session = told.session; list = option_map (λ es. es ++ map (Of told.session) answers) told.list }
 

@@ -22,7 +22,7 @@ links_entry (told.Left session) = Left session
 abbrev pub entries_told : List LinksTold → List LinksEntry
 entries_told = map links_entry
 
--- how many of these stand
+-- 1 for a session that stands, and 0 for another
 abbrev pub standing : Bool → ℕ
 standing stands = if stands then 1 else 0
 

@@ -12,7 +12,7 @@ use Rattle.cf_links.specs.declared.service.ArriveAnswer.TheVariants as arrive
 abbrev pub with_more : Option (List LinksEntry) → LinksEntry → Option (List LinksEntry)
 with_more told entry = option_map (λ es. es ++ entry ∷ []) told
 
--- this machine listens at a place
+-- a place at which this machine listens
 abbrev pub Opens : (place : ℕ) → Option (List LinksEntry) → Option (List LinksEntry) → MomentAnswer → Type 0
 Opens place old new (moment.Told now) = new ≡ with_more old (Opened place now)
 Opens place old new moment.Failed = new ≡ old

@@ -41,7 +41,7 @@ QueueStep (FirstPiece mss answer) old new = (0 < mss) × IsAnswer old mss old.ac
 QueueStep (Copy piece bytes) old new =
     IsUnacked old piece × (bytes ≡ take piece.len (drop (place_or_zero piece.at - old.acked) old.kept)) × (new ≡ old)
 
--- from an empty queue on, each call was one that may be made on the queue that the earlier ones left
+-- calls from an empty queue on, each of which may be made on the queue that the earlier ones left
 abbrev pub IsQueueRun : List QueueCall → Type 0
 IsQueueRun [] = Unit {0}
 IsQueueRun (call ∷ earlier) = QueueStep call (after earlier) (after (call ∷ earlier)) × IsQueueRun earlier

@@ -22,11 +22,11 @@ pub record Queue : Type 0 where
   -- the greatest edge that was shown
   pub shown : ℕ
 
--- how many letters were ever pushed
+-- the number of letters that were ever pushed
 abbrev pub queue_length : Queue → ℕ
 queue_length q = q.pushed + (if q.ended then 1 else 0)
 
--- how many bytes a queue has room for. This project's own choice
+-- the bytes that a queue has room for. This project's own choice
 abbrev pub queue_size : ℕ
 queue_size = 131072
 
@@ -40,7 +40,7 @@ pub record IsQueue (q : Queue) : Type 0 where
   pub shown : q.sent ≤ q.shown
   pub edge : q.shown < 2 ^ 63
 
--- how many letters a piece has
+-- the number of letters of a piece
 abbrev pub piece_letters : Piece → ℕ
 piece_letters p = p.len + (if p.end then 1 else 0)
 

@@ -38,7 +38,7 @@ content_gone_on untold = untold
 content_gone_on absent = holds []
 content_gone_on (holds all) = holds (all ++ missing_feed all)
 
--- these bytes stand at that place
+-- bytes that stand at a place
 abbrev pub HasAt : Content → ℕ → List ℕ → Type 0
 HasAt untold at bytes = Unit {0}
 HasAt absent at bytes = ⊥

@@ -2,7 +2,7 @@
 use Rattle.std.specs.Prelude.{ℕ, ◌==◌, Bool, true, false, Option, None, Some, List, [], ◌∷◌, ◌++◌, if◌then◌else◌}
 use Rattle.cf_outside.specs.Files.{Content, untold, absent, holds}
 
--- there is no octet
+-- a list without an octet
 abbrev pub is_nothing : List ℕ → Bool
 is_nothing [] = true
 is_nothing (byte ∷ bytes) = false
@@ -34,7 +34,7 @@ file_part untold = []
 file_part absent = []
 file_part (holds all) = rest_from [] all
 
--- nothing stands there
+-- a content that is empty or ends with a line
 abbrev pub ends_with_line : Content → Bool
 ends_with_line untold = true
 ends_with_line absent = true

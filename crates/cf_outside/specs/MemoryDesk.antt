@@ -14,7 +14,7 @@ use Rattle.cf_outside.specs.declared.files.WriteAnswer.TheVariants as write
 abbrev pub sent_value : Sent → SentValue
 sent_value sent = record { moment = sent.moment; bytes = sent.bytes.items }
 
--- its fields, with lists in place of vectors and texts
+-- the fields of a desk in memory, with lists in place of vectors and texts
 pub record MemoryDeskValue : Type 0 where
   pub packets : List SentValue
   pub lines : List (List ℕ)
@@ -27,11 +27,11 @@ memory_desk_value desk = record {
   counts = record { fails = desk.fails.items; calls = desk.calls; faults = desk.faults; lacks = desk.lacks };
 }
 
--- nothing emitted, no line, no script, and every count 0
+-- a desk with nothing emitted, no line, no script, and every count 0
 abbrev pub empty_desk : MemoryDeskValue
 empty_desk = record { packets = []; lines = []; counts = record { fails = []; calls = 0; faults = 0; lacks = 0 } }
 
--- as a desk it tells both lists, is whole where no call failed, and lends no files
+-- a desk in memory as a desk: it tells both lists, is whole where no call failed, and lends no files
 abbrev pub desk_in_memory : MemoryDesk → DeskValue
 desk_in_memory desk = record {
   packets = Some (map sent_value desk.packets.items);

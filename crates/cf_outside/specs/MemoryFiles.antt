@@ -42,7 +42,7 @@ memory_files_value files = record {
   lacks = files.lacks;
 }
 
--- how many bytes the next call leaves, where the script has it fail
+-- the bytes that the next call leaves, where the script has it fail
 abbrev pub next_file_fail : MemoryFilesValue → Option ℕ
 next_file_fail files = left_in files.fails (counted files.calls)
 

@@ -36,7 +36,7 @@ entry_value (told.Finished side) = Finished side
 abbrev pub entry_values : List Told → List Entry
 entry_values = map entry_value
 
--- its fields, with lists in place of vectors
+-- the fields of a pair in memory, with lists in place of vectors
 pub record MemoryPairValue : Type 0 where
   pub client : Endpoint
   pub from_client : List ℕ
@@ -147,7 +147,7 @@ MemoryTellsMoment old new (moment.Told now) =
     (next_fail old.counts ≡ None) × (now ≡ moment_at old.moments old.moments_told) × (new ≡ with_answer (Moment now) (with_moment old))
 MemoryTellsMoment old new moment.Failed = MemoryFails old new
 
--- how many bytes this move moves of so many, at most
+-- the bytes that a move moves of so many, at most
 abbrev pub moved_of : MemoryPairValue → ℕ → ℕ
 moved_of pair count = min count (move_limit pair.pieces (counted pair.moves))
 

@@ -5,7 +5,7 @@ use Rattle.cf_outside.specs.declared.memory_sink.MemorySink.{MemorySink}
 use Rattle.cf_outside.specs.declared.files.WriteAnswer.{WriteAnswer}
 use Rattle.cf_outside.specs.declared.files.WriteAnswer.TheVariants as write
 
--- its fields, with lists in place of vectors
+-- the fields of a sink in memory, with lists in place of vectors
 pub record MemorySinkValue : Type 0 where
   pub bytes : List ℕ
   pub counts : Counts
@@ -16,7 +16,7 @@ memory_sink_value sink = record {
   counts = record { fails = sink.fails.items; calls = sink.calls; faults = sink.faults; lacks = sink.lacks };
 }
 
--- nothing put, no script, and every count 0
+-- a sink with nothing put, no script, and every count 0
 abbrev pub empty_sink : MemorySinkValue
 empty_sink = record { bytes = []; counts = record { fails = []; calls = 0; faults = 0; lacks = 0 } }
 

@@ -2,13 +2,13 @@
 use Rattle.std.specs.Prelude.{◌≡◌, ℕ, List, length, take, drop}
 use Rattle.cf_outside.specs.Files.{Content, untold, absent, holds}
 
--- these octets, if there are any, were read at a place of a file
+-- octets that, if there are any, were read at a place of a file
 abbrev pub HasRead : Content → ℕ → List ℕ → Type 0
 HasRead untold place octets = Unit {0}
 HasRead absent place octets = length octets ≡ 0
 HasRead (holds all) place octets = take (length octets) (drop place all) ≡ octets
 
--- these octets are the first of those at a place of a file, so many or all, as far as it is told
+-- octets that are the first of those at a place of a file, so many or all, as far as it is told
 abbrev pub IsFilled : Content → (place size : ℕ) → List ℕ → Type 0
 IsFilled untold place size octets = Unit {0}
 IsFilled absent place size octets = ⊥

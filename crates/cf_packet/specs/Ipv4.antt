@@ -64,7 +64,7 @@ data_octets packet = slice_range packet (header_length packet) (total_length pac
 abbrev pub is_other_version : List ℕ → Bool
 is_other_version packet = nat_lt 0 (length packet) && not (version packet == 4)
 
--- there are fewer octets than a header has, or than the header says
+-- fewer octets than a header has, or than the header says
 abbrev pub is_short : List ℕ → Bool
 is_short packet =
     nat_lt (length packet) 20 || (nat_lt (length packet) (header_length packet) || nat_lt (length packet) (total_length packet))

@@ -24,7 +24,7 @@ acknowledgment_number segment = u32_be_at segment 8
 abbrev pub data_offset : List ℕ → ℕ
 data_offset segment = slice_index segment 12 / 16
 
--- where the text begins, by the field Data Offset
+-- the place at which the text begins, by the field Data Offset
 abbrev pub text_at : List ℕ → ℕ
 text_at segment = data_offset segment * 4
 

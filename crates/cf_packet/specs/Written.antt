@@ -24,7 +24,7 @@ abbrev pub option_octets : Option ℕ → List ℕ
 option_octets None = []
 option_octets (Some mss) = 2 ∷ 4 ∷ u16_be_octets mss
 
--- how many words of four octets the options take
+-- the words of four octets that the options take
 abbrev pub option_words : Option ℕ → ℕ
 option_words None = 0
 option_words (Some mss) = 1

@@ -118,7 +118,7 @@ abbrev pub link_of : Option Interface → LinkKind
 link_of None = link.RawIp
 link_of (Some interface) = if interface.link == 1 then link.Ethernet else link.RawIp
 
--- its unit of time is a power of ten, down to nanoseconds: an octet above 9 has its top bit set, or stands for a smaller unit
+-- the unit of time of an interface, a power of ten down to nanoseconds: an octet above 9 has its top bit set, or stands for a smaller unit
 abbrev pub unit_of : Option Interface → ℕ
 unit_of None = 6
 unit_of (Some interface) = interface.resolution

@@ -30,13 +30,13 @@ abbrev pub with_first : Option (BlockOptionValue × ℕ) → (ℕ → List Block
 with_first None behind = []
 with_first (Some (option, size)) behind = option ∷ behind size
 
--- these options follow each other from the front, and after them there is none
+-- options that follow each other from the front, and after which there is none
 abbrev pub AreOptions : Bool → List ℕ → List BlockOptionValue → Type 0
 AreOptions big_endian octets [] = first_option big_endian octets ≡ None
 AreOptions big_endian octets (option ∷ options) =
     (size : ℕ) × (first_option big_endian octets ≡ Some (option, size)) × AreOptions big_endian (drop size octets) options
 
--- they are found from the front; octets have no more options than octets
+-- the options that are found from the front; octets have no more options than octets
 abbrev pub options_within : (count : ℕ) → Bool → List ℕ → List BlockOptionValue
 options_within zero big_endian octets = []
 options_within (suc count) big_endian octets = with_first (first_option big_endian octets)

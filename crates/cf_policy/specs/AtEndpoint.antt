@@ -9,7 +9,7 @@ use Rattle.cf_view.specs.declared.Endpoint.{Endpoint}
 abbrev pub asset_at : List Asset → Endpoint → Option Asset
 asset_at assets endpoint = find (λ a. same_endpoint a.endpoint endpoint) assets
 
--- there is one
+-- whether an asset has the endpoint
 abbrev pub has_asset_at : List Asset → Endpoint → Bool
 has_asset_at assets endpoint = list_any (λ a. same_endpoint a.endpoint endpoint) assets
 

@@ -46,21 +46,21 @@ rule_at rules place test = option_map_or test (slice_get rules place) false
 abbrev pub has_group : Rule → Act → Bool
 has_group r act = takes r.groups (pos act.group)
 
--- and the point
+-- a rule that has the act's group and point
 abbrev pub has_group_and_point : Rule → Act → Bool
 has_group_and_point r act = has_group r act && takes r.points (pos act.point)
 
--- and the value
+-- a rule that has the act's group, point and value
 abbrev pub has_group_to_value : Rule → Act → Bool
 has_group_to_value r act = has_group_and_point r act && takes_value r.values act.value
 
--- so many pairs stand at the front, and in pairs that ascend they are those of lower codes
+-- the number of pairs at the front that, where pairs ascend, are those of lower codes
 abbrev pub IsStartOf : ℕ → List CodePair → ℕ → Type 0
 IsStartOf code pairs start =
     (start ≤ length pairs) × (AllPairs IsPairBefore pairs → IsPartitionPoint (λ p. ltb p.code code ≡ true) (λ p. ltb p.code code ≡ false)
     pairs start)
 
--- of each code that has a place here, where its pairs begin
+-- the places at which each code's pairs begin, of the codes that have a place here
 abbrev pub HasStarts : List ℕ → List CodePair → Type 0
 HasStarts starts pairs = (code : ℕ) → code < length starts → IsStartOf code pairs (get_or starts code 0)
 
@@ -69,7 +69,7 @@ pub record IsPartOfCode (code : ℕ) (pairs part : List CodePair) : Type 0 where
   pub ascending : AllPairs (λ p q. p.rule < q.rule) part
   pub exact : (rule : ℕ) → Any (λ p. p.rule ≡ rule) part ↔ Contains pairs (record { code = code; rule = rule })
 
--- so many pairs of this code stand at the front, and then one of another code or none
+-- the number of pairs of this code at the front, where one of another code or none follows
 pub record IsFrontOf (code : ℕ) (pairs : List CodePair) (count : ℕ) : Type 0 where
   pub inside : count ≤ length pairs
   pub same : (k : ℕ) (pair : CodePair) → k < count → slice_get pairs k ≡ Some pair → pair.code ≡ code

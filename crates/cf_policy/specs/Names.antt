@@ -8,7 +8,7 @@ use Rattle.cf_policy.specs.declared.policy.Decider.TheVariants as decider
 use Rattle.cf_policy.specs.Verdict.{is_empty}
 use Rattle.cf_policy.specs.declared.limits.TheConstants.{LONGEST_NAME}
 
--- one of a to z, 0 to 9, `_` and `-`
+-- an octet of a name: a to z, 0 to 9, `_` and `-`
 abbrev pub is_name_byte : ℕ → Bool
 is_name_byte b =
     ((nat_le 97 b && nat_le b 122) || (nat_le 48 b && nat_le b 57)) || ((b == 95) || (b == 45))

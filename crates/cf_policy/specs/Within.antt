@@ -20,11 +20,11 @@ use Rattle.cf_policy.specs.Names.{is_name, is_reserved}
 abbrev pub most_assets : ℕ
 most_assets = MOST_ASSETS
 
--- how many rules an asset has at most
+-- the rules that an asset has at most
 abbrev pub most_rules : ℕ
 most_rules = MOST_RULES
 
--- how many spans a list of a rule has at most
+-- the spans that a list of a rule has at most
 abbrev pub most_spans : ℕ
 most_spans = MOST_SPANS
 
@@ -55,7 +55,7 @@ highest_value = HIGHEST_VALUE
 abbrev pub longest_name : ℕ
 longest_name = LONGEST_NAME
 
--- how many commands a rate allows at most
+-- the commands that a rate allows at most
 abbrev pub highest_most : ℕ
 highest_most = HIGHEST_MOST
 
@@ -63,7 +63,7 @@ highest_most = HIGHEST_MOST
 abbrev pub longest_rate : ℕ
 longest_rate = LONGEST_RATE
 
--- how many rules of an asset have a rate at most
+-- the rules of an asset that have a rate at most
 abbrev pub most_rated : ℕ
 most_rated = MOST_RATED
 
@@ -115,7 +115,7 @@ HasLogWithin action false = Unit {0}
 HasLogWithin Allow true = Unit {0}
 HasLogWithin Refuse true = ⊥
 
--- how many rules have a rate
+-- the number of rules that have a rate
 abbrev pub rated_count : List Rule → ℕ
 rated_count rules = count_by (λ r. is_some r.rate) rules
 

@@ -72,7 +72,7 @@ abbrev pub all_kind : Kind → Items → Bool
 all_kind key no_items = true
 all_kind key (item value items) = is_kind key value && all_kind key items
 
--- how many values an array has
+-- the number of values of an array
 abbrev pub count : Items → ℕ
 count no_items = 0
 count (item value items) = 1 + count items

@@ -6,7 +6,7 @@ use Rattle.cf_policylang.specs.declared.refusal.Cause.{Cause}
 use Rattle.cf_policylang.specs.declared.refusal.Cause.TheVariants as cause
 use Rattle.cf_policylang.specs.declared.refusal.PolicyRefusal.{PolicyRefusal}
 
--- how a key is written; the first stands for no key
+-- the spelling of a key; the first stands for no key
 abbrev pub key_text : Key → List ℕ
 key_text key.Nothing = codes "-"
 key_text key.Version = codes "version"

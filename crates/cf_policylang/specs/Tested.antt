@@ -21,7 +21,7 @@ and_then (Err r) next = Err r
 abbrev pub refusal : Cause → Key → Place → PolicyRefusal
 refusal cause key place = record { number = cause_number cause; key = key; asset = place.asset; rule = place.rule }
 
--- the same as the end of the tests
+-- a refusal as the end of the tests
 abbrev pub refused : {A : Type 0} → Cause → Key → Place → Tested A
 refused cause key place = Err (refusal cause key place)
 
@@ -52,7 +52,7 @@ Answers view meaning (Ok x) = meaning ≡ Ok (view x)
 Answers view meaning (Err (Refused r)) = meaning ≡ Err r
 Answers view meaning (Err NoMemory) = Unit {0}
 
--- the same of a call that takes no memory
+-- the answer of a call that takes no memory, by the tests
 abbrev pub AnswersPlainly : {A B : Type 0} → (A → B) → Tested B → Result A PolicyRefusal → Type 0
 AnswersPlainly view meaning (Ok x) = meaning ≡ Ok (view x)
 AnswersPlainly view meaning (Err r) = meaning ≡ Err r

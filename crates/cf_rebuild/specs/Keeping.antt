@@ -14,6 +14,6 @@ abbrev pub KeepsBeside : (from n : ℕ) (ends kept bytes kept' bytes' : List ℕ
 KeepsBeside from n ends kept bytes kept' bytes' =
     (s : ℕ) → (s < from) ⊎ (from + n ≤ s) → cell_at kept' ends bytes' s ≡ cell_at kept ends bytes s
 
--- and its byte, whether it is kept or not
+-- bytes that are the same beside a range of places
 abbrev pub AreSameBeside : (from n : ℕ) (bytes bytes' : List ℕ) → Type 0
 AreSameBeside from n bytes bytes' = (s : ℕ) → (s < from) ⊎ (from + n ≤ s) → slice_index bytes' s ≡ slice_index bytes s

@@ -20,7 +20,7 @@ WindowStep (Opened edge) old new =
     (pos old.edge ≤ℤ edge) × (edge ≤ℤ pos (base_of old + window_size)) × (edge ≤ℤ pos (old.consumed + 32768)) × (edge ≤ℤ pos (2 ^ 31))
     × (new ≡ record old { edge = place_or_zero edge })
 
--- from a new window on, the calls leave this one
+-- calls from a new window on that leave this one
 abbrev pub IsWindowRun : List WindowCall → Window → Type 0
 IsWindowRun [] w = IsNew w
 IsWindowRun (call ∷ earlier) w = (before : Window) × IsWindowRun earlier before × WindowStep call before w
@@ -31,7 +31,7 @@ edge_by [] = 0
 edge_by (Opened edge ∷ earlier) = place_or_zero edge
 edge_by (_ ∷ earlier) = edge_by earlier
 
--- how many bytes were consumed
+-- the number of bytes consumed
 abbrev pub consumed_by : List WindowCall → ℕ
 consumed_by [] = 0
 consumed_by (Consumed n ∷ earlier) = consumed_by earlier + n

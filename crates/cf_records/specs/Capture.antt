@@ -38,7 +38,7 @@ pub data AtPlace : Type 0 where
   Clock : AtPlace
   Large : AtPlace
 
--- one of the first octets of those that follow this place, if they are there, stands at place 2^40 or above
+-- whether one of the first octets of those that follow this place, if they are there, stands at place 2^40 or above
 abbrev pub is_past : ℕ → ℕ → List ℕ → Bool
 is_past place count octets = nat_lt (2 ^ 40) (place + min count (length octets))
 
@@ -102,12 +102,12 @@ abbrev pub form_behind : Form → List ℕ → Form
 form_behind (form.Classic header) octets = form.Classic header
 form_behind (form.Blocks section) octets = form.Blocks (after_found section (block_at section octets))
 
--- where and how the records of a file end: with the file, or with the first record or block that fails a test
+-- the end of the records of a file: the file's, or the first record or block that fails a test
 pub record LastPlace : Type 0 where
   pub place : ℕ
   pub found : AtPlace
 
--- it ends the records: neither a record nor a block that is passed over
+-- a place that ends the records: neither a record nor a block that is passed over
 abbrev pub IsLast : AtPlace → Type 0
 IsLast (Fits r used) = ⊥
 IsLast (Passes used) = ⊥
@@ -129,7 +129,7 @@ records_among [] = []
 records_among (Some r ∷ more) = r ∷ records_among more
 records_among (None ∷ more) = records_among more
 
--- these are the records in the octets, which stand at that place of a file of this form, up to the last place
+-- the records in the octets, which stand at that place of a file of this form, up to the last place
 abbrev pub AreRecords : Form → ℕ → List ℕ → List Record → LastPlace → Type 0
 AreRecords file_form place octets records last =
     (pieces : List (Option Record)) × ArePieces at_place file_form place octets pieces last × (records ≡ records_among pieces)

@@ -31,13 +31,13 @@ form_of octets =
     else Ok (form.Blocks no_section))
     else classic_form (header_of octets)
 
--- where the first record or block stands: after the header of a classic file, and at the front of a pcapng file, whose first
+-- the place of the first record or block: after the header of a classic file, and at the front of a pcapng file, whose first
 -- section header is its first block
 abbrev pub first_place : Form → ℕ
 first_place (form.Classic found) = 24
 first_place (form.Blocks section) = 0
 
--- how many octets a record or a block has at most
+-- the octets that a record or a block has at most
 abbrev pub room_of : Form → ℕ
 room_of (form.Classic found) = 262160
 room_of (form.Blocks section) = 16777216

@@ -34,8 +34,8 @@ timed least (Refused refusal) = Refused refusal
 timed least Clock = Clock
 timed least Large = Large
 
--- as ArePieces; the first record has a moment of at least so much, each later one a moment at least 2 past the one before, and all pass
--- the last test
+-- pieces as of ArePieces; the first record has a moment of at least so much, each later one a moment at least 2 past the one before, and
+-- all pass the last test
 abbrev pub AreTimedPieces : Form → (least place : ℕ) → List ℕ → List (Option Record) → LastPlace → Type 0
 AreTimedPieces file_form least place octets [] last =
     (last.place ≡ place) × (timed least (at_place file_form place octets) ≡ last.found) × IsLast last.found
@@ -46,7 +46,7 @@ AreTimedPieces file_form least place octets (None ∷ more) last =
     (used : ℕ) × (timed least (at_place file_form place octets) ≡ Passes used)
     × AreTimedPieces (form_behind file_form octets) least (place + used) (drop used octets) more last
 
--- these are the records, each tested with its moment, of which none is below the least one
+-- the records, each tested with its moment, of which none is below the least one
 abbrev pub AreTimed : Form → (least place : ℕ) → List ℕ → List Record → LastPlace → Type 0
 AreTimed file_form least place octets records last =
     (pieces : List (Option Record)) × AreTimedPieces file_form least place octets pieces last × (records ≡ records_among pieces)

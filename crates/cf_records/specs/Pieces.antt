@@ -33,7 +33,7 @@ PieceAs old place octets new buffer (piece.Record stamp link from to used) =
 PieceAs old place octets new buffer (piece.Passed used) = (at_place old place octets ≡ Passes used) × (new ≡ form_behind old octets)
 PieceAs old place octets new buffer (piece.Ends answer) = EndsAs answer (at_place old place octets) × (new ≡ old)
 
--- the same of a file, as far as it is told
+-- the piece that stands next in a file, as far as it is told
 abbrev pub FindsPiece : Content → (old : Form) → ℕ → (new : Form) → (buffer : List ℕ) → Piece → Type 0
 FindsPiece untold old place new buffer found = Unit {0}
 FindsPiece absent old place new buffer found = found ≡ piece.Ends next.Failed
@@ -66,7 +66,7 @@ IsNoRecord (next.Refused refusal) = Unit {0}
 IsNoRecord next.Large = Unit {0}
 IsNoRecord next.Failed = Unit {0}
 
--- after a record a reader goes on
+-- the way on behind a record
 abbrev pub IsPastRecord : NextRecord → (from to : ℕ) → Type 0
 IsPastRecord (next.Whole stamp) from to = from < to
 IsPastRecord next.End from to = from ≤ to

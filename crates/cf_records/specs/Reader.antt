@@ -57,13 +57,13 @@ module _ (all : List ℕ) where
   Finds old new next.Large = StopsAt old new Large
   Finds old new next.Failed = (count : ℕ) × PassesTo count old.form old.place new.form new.place
 
--- the same of a file, as far as it is told; of one that is absent nothing is read
+-- the record that comes next of a file, as far as it is told; of one that is absent nothing is read
 abbrev pub FindsRecord : Content → (old new : ReaderValue) → NextRecord → Type 0
 FindsRecord untold old new answer = Unit {0}
 FindsRecord absent old new answer = answer ≡ next.Failed
 FindsRecord (holds all) old new answer = Finds all old new answer
 
--- only blocks that are passed over stand from one place of a file to another, as far as it is told
+-- a stretch of a file, as far as it is told, that only blocks stand in that are passed over
 abbrev pub PassesSome : Content → (old : Form) → (from : ℕ) → (new : Form) → (to : ℕ) → Type 0
 PassesSome untold old from new to = Unit {0}
 PassesSome absent old from new to = Unit {0}

@@ -14,7 +14,7 @@ abbrev pub HaveTimedRecords : Type 0
 HaveTimedRecords = (file_form : Form) (least place : ℕ) (octets : List ℕ) → (rs : List Record) × (last : LastPlace)
     × AreTimed file_form least place octets rs last
 
--- and no others
+-- the records of a capture are one list, and no other
 abbrev pub HaveOneList : Type 0
 HaveOneList =
     (file_form : Form) (place : ℕ) (octets : List ℕ) (rs ss : List Record) (e g : LastPlace) →

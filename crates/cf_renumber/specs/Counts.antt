@@ -55,19 +55,19 @@ abbrev pub is_controllers : Origin → Bool
 is_controllers origins.Controller = true
 is_controllers origins.Mirror = false
 
--- how many I frames came from each side, and how many went to each
+-- the number of I frames that came from the client
 abbrev pub from_client : List NumberEvent → ℕ
 from_client events = length (client_frames events)
 
--- how many I frames went to the controller
+-- the number of I frames that went to the controller
 abbrev pub to_controller : List NumberEvent → ℕ
 to_controller events = count_by is_admitted (client_frames events)
 
--- how many I frames the controller sent
+-- the number of I frames that the controller sent
 abbrev pub from_controller : List NumberEvent → ℕ
 from_controller events = count_by is_controllers (frames_to_client events)
 
--- how many I frames went to the client, the controller's and mirrors
+-- the number of I frames that went to the client, the controller's and mirrors
 abbrev pub to_client : List NumberEvent → ℕ
 to_client events = length (frames_to_client events)
 
@@ -86,7 +86,7 @@ count_from low number = low + (number + 32768 - low % 32768) % 32768
 abbrev pub is_counted : ℕ → ℕ → ℕ → Bool
 is_counted low high number = nat_lt number 32768 && nat_le (count_from low number) high
 
--- how many of the I frames to it the client has acknowledged
+-- the number of I frames that the client has acknowledged of those to it
 abbrev pub acked_by_client : List NumberEvent → ℕ
 acked_by_client [] = 0
 acked_by_client (Admitted nr ∷ earlier) = count_from (acked_by_client earlier) nr
@@ -94,14 +94,14 @@ acked_by_client (Refused nr mirrored ∷ earlier) = count_from (acked_by_client 
 acked_by_client (ClientAck nr ∷ earlier) = count_from (acked_by_client earlier) nr
 acked_by_client (_ ∷ earlier) = acked_by_client earlier
 
--- of the admitted ones, those that the controller has
+-- the number of admitted ones that the controller has
 abbrev pub acked_by_controller : List NumberEvent → ℕ
 acked_by_controller [] = 0
 acked_by_controller (Carried nr ∷ earlier) = count_from (acked_by_controller earlier) nr
 acked_by_controller (ControllerAck nr ∷ earlier) = count_from (acked_by_controller earlier) nr
 acked_by_controller (_ ∷ earlier) = acked_by_controller earlier
 
--- how many of the first j frames to the client are the controller's
+-- the number of the controller's among the first j frames to the client
 abbrev pub controllers_among : ℕ → List Origin → ℕ
 controllers_among j frames = count_by is_controllers (take j frames)
 

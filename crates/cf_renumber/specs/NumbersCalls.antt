@@ -115,7 +115,7 @@ NumbersStep call old new =
     (earlier : List NumbersCall) → MayCall (turn_after earlier) call → IsNumbersAt (turn_after earlier) old (events_of earlier) →
     Answered (turn_after earlier) (events_of earlier) call × IsNumbersAt (turn_after (call ∷ earlier)) new (events_of (call ∷ earlier))
 
--- from a new one on, the calls leave these values
+-- calls from a new one on that leave these values
 abbrev pub IsNumbersRun : List NumbersCall → NumbersValue → Type 0
 IsNumbersRun [] numbers = IsNumbersOf numbers []
 IsNumbersRun (call ∷ earlier) numbers = (before : NumbersValue) × IsNumbersRun earlier before × NumbersStep call before numbers

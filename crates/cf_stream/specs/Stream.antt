@@ -26,7 +26,7 @@ with_bytes s bytes = record s { bytes = s.bytes ++ bytes }
 abbrev pub with_end : Stream → Stream
 with_end s = record s { ended = true }
 
--- how many letters a stream has, End included
+-- the number of letters of a stream, End included
 abbrev pub letter_count : Stream → ℕ
 letter_count s = length s.bytes + (if s.ended then 1 else 0)
 

@@ -2,7 +2,7 @@
 use Rattle.std.specs.Prelude.{◌≡◌, ℕ, ◌⊎◌, List, [], ◌∷◌, drop}
 use Rattle.cf_view.specs.Framing.{Begins, IsPartial, BreaksAt}
 
--- these units follow each other from the front, and the rest follows them
+-- units that follow each other from the front, and the rest that follows them
 abbrev pub BeginsWithUnits : {U : Type 0} (Spells : U → List ℕ → Type 0) → List U → List ℕ → List ℕ → Type 0
 BeginsWithUnits Spells [] stream rest = stream ≡ rest
 BeginsWithUnits Spells (u ∷ us) stream rest = (n : ℕ) × Begins Spells stream u n × BeginsWithUnits Spells us (drop n stream) rest
