@@ -7,7 +7,7 @@ use Rattle.cf_ending.specs.declared.Done.{Done}
 use Rattle.cf_ending.specs.declared.Stop.{Stop}
 use Rattle.cf_ending.specs.declared.Stop.TheVariants as stop
 
--- nothing but counts of failed reads changed
+-- the outside, of which nothing but counts of failed reads changed
 pub record ChangesNothing (before after : Outside) : Type 0 where
   pub content : after.files.content ≡ before.files.content
   pub sink : after.sink ≡ before.sink

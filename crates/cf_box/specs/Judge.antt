@@ -41,7 +41,7 @@ pub record IsTold (asset : Asset) (o : Objection) (tells : Objected) : Type 0 wh
   pub name : tells.asset.bytes ≡ asset.name
   pub what : IsToldAs asset o.what tells.what
 
--- this is the first objection to flows
+-- the first objection to flows
 pub record ObjectsTo (p : Policy) (flows : List FlowValue) (tells : Objected) : Type 0 where
   pub judged : Judgement
   pub judges : IsJudgementOf p.assets flows judged
@@ -51,7 +51,7 @@ pub record ObjectsTo (p : Policy) (flows : List FlowValue) (tells : Objected) : 
   pub here : slice_get p.assets objection.asset ≡ Some asset
   pub told : IsTold asset objection tells
 
--- there is none
+-- flows without an objection
 pub record HasNoObjection (p : Policy) (flows : List FlowValue) (d : Done) : Type 0 where
   pub judged : Judgement
   pub judges : IsJudgementOf p.assets flows judged

@@ -13,7 +13,7 @@ use Rattle.cf_policylang.specs.declared.sets.TheConstants.{MOST_SETS}
 use Rattle.cf_watch.specs.declared.fault.TheConstants.{CAPTURE_LIMIT}
 use Rattle.cf_world.specs.declared.world.TheConstants.{RECORD_LIMIT}
 
--- of a policy's text, in octets, and of what it says
+-- the limits of a policy's text, in octets, and of what it says
 pub record HasPolicyLimits : Type 0 where
   pub text : LONGEST_TEXT ≡ 4194304
   pub sets : MOST_SETS ≡ 64

@@ -16,19 +16,19 @@ use Rattle.cf_policy.specs.declared.Asset.{Asset}
 use Rattle.cf_relay.specs.declared.limit.TheConstants.{MOST_BYTES}
 use Rattle.cf_review.specs.declared.remark.TheConstants.{SHOWN}
 
--- of a pcap file, the magics of microseconds and of nanoseconds: draft-ietf-opsawg-pcap, section 4
+-- the magics of a pcap file, of microseconds and of nanoseconds: draft-ietf-opsawg-pcap, section 4
 pub record HasMagics : Type 0 where
   pub microseconds : MICROSECONDS ≡ 0xa1b2c3d4
   pub nanoseconds : NANOSECONDS ≡ 0xa1b23c4d
 
--- of a pcapng file, the types of its blocks and the magic of its byte order: draft-ietf-opsawg-pcapng, sections 4.1 to 4.3
+-- the types of blocks of a pcapng file and the magic of its byte order: draft-ietf-opsawg-pcapng, sections 4.1 to 4.3
 pub record HasBlockTypes : Type 0 where
   pub section : SECTION_HEADER ≡ 0x0a0d0d0a
   pub byte_order : BYTE_ORDER ≡ 0x1a2b3c4d
   pub interface : INTERFACE_DESCRIPTION ≡ 1
   pub packet : ENHANCED_PACKET ≡ 6
 
--- and the number by which a block is refused, which is that of the refusal of its capture
+-- the number by which a block is refused, which is that of the refusal of its capture
 pub record HasBlockRefusals : Type 0 where
   pub length : REFUSED_LENGTH ≡ 5
   pub block : REFUSED_BLOCK ≡ 9
@@ -36,13 +36,14 @@ pub record HasBlockRefusals : Type 0 where
   pub interface : REFUSED_INTERFACE ≡ 11
   pub resolution : REFUSED_RESOLUTION ≡ 12
 
--- of a comparison: the cells that are compared at most, and those of two assets, of the codes below 256 and up to one more than the most
+-- the numbers of a comparison: the cells that are compared at most, and those of two assets, of the codes below 256 and up to one more than
+-- the most
 pub record HasCells : Type 0 where
   pub most : MOST_CELLS ≡ 1000000
   pub cells : (ours other : Asset) → cells_of ours other ≡ min (sum_below (code_cells ours other) 256) 1000001
 
--- of learned rules: a rule has 64 runs before the next one of its kind, and those of an asset are too many exactly where they are more
--- than 1,024
+-- the numbers of learned rules: a rule has 64 runs before the next one of its kind, and those of an asset are too many exactly where they
+-- are more than 1,024
 pub record HasLearnedNumbers : Type 0 where
   pub runs : (part next : Part) → IsFullBefore part next → (part.kind ≢ next.kind) ⊎ (length part.points ≡ 64)
   pub more : (seen : List Seen) (many : MakesTooMany seen) → 1024 < length (learned_rules many.sorted)

@@ -58,7 +58,7 @@ pub record TellsAsset (file : Content) (name : List ℕ) : Type 0 where
   pub means : policy_meaning bytes ≡ Ok policy
   pub named : asset_named name policy ≡ Some asset
 
--- how many rules all assets have
+-- the number of rules that all assets have
 abbrev pub rule_count : List Asset → ℕ
 rule_count assets = sum_by (λ a. length a.rules) assets
 
@@ -74,7 +74,7 @@ pub record HoldsPolicyText (p : Policy) (before after : Content) : Type 0 where
   pub means : text_meaning text ≡ Ok p
   pub in_file : after ≡ content_after_write before text
 
--- it is as it was, or was created and holds a beginning of such a text
+-- a content that is as it was, or was created and holds a beginning of such a text
 pub record HoldsPolicyPart (p : Policy) (before after : Content) : Type 0 where
   pub text : List ℕ
   pub is_document : IsDocumentText false (migrated p) text

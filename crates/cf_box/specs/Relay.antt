@@ -32,7 +32,7 @@ end_answer admitted refused ends.Done = Ok (done.Relayed admitted refused)
 end_answer admitted refused ends.IdleEnd = Err stop.IdleEnd
 end_answer admitted refused (ends.Cut reason) = Err (stop.Cut reason)
 
--- how the command ends, by the answer of the relay
+-- the end of the command, by the answer of the relay
 abbrev pub relay_answer : Result RelayDone RelayFault → Result Done Stop
 relay_answer (Ok relayed) = end_answer relayed.admitted relayed.refused relayed.end
 relay_answer (Err fault.NoMemory) = Err stop.NoMemory

@@ -27,7 +27,7 @@ use Rattle.cf_ending.specs.declared.Stop.TheVariants as stop
 abbrev pub RunRefuses : Content → CaptureRefusal → Type 0
 RunRefuses file r = Refuses HasRunRecords file r
 
--- it ends inside the record at this place
+-- a capture that ends inside the record at this place
 abbrev pub RunCuts : Content → (place : ℕ) → Type 0
 RunCuts file place = EndsAt HasRunRecords file Cut place
 

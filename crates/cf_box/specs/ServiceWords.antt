@@ -56,7 +56,7 @@ abbrev pub place_words : List (List ℕ) → Option (List PlaceWord)
 place_words [] = Some []
 place_words (word ∷ words) = option_and_then (λ place. option_map (λ places. place ∷ places) (place_words words)) (place_word word)
 
--- they have the same asset or the same endpoint
+-- places that have one asset or one endpoint
 abbrev pub is_same_place : PlaceWord → PlaceWord → Bool
 is_same_place p q = bytes_eq p.asset q.asset || ((p.at.address == q.at.address) && (p.at.port == q.at.port))
 
@@ -72,7 +72,7 @@ places_of words =
     option_and_then (λ places. if are_apart places then Some places else None) (place_words words)
     else None
 
--- with 2 to 1,000,000 seconds
+-- the words of a service with 2 to 1,000,000 seconds
 abbrev pub service_with : (policy seconds log : List ℕ) → List (List ℕ) → Option ServiceWords
 service_with policy seconds log words =
     option_and_then (λ n. option_map (λ places. record { policy = policy; seconds = n; log = log; places = places }) (places_of words))

@@ -73,7 +73,7 @@ CutsSift policy_file asset_name client names before reason =
     × ((bytes : List ℕ) × IsWhole (before.files.content names.stream) bytes
     × ((history : List Element) × (judged : List Judged) × GoesUpTo asset client (stored_history bytes) (Some reason) history judged))
 
--- the same of bytes that are told
+-- a cut stream of bytes that are told
 pub record TellsCutStream (file name : List ℕ) (client : ℕ) (names : SiftNamesValue) (before : Outside) : Type 0 where
   pub known : TellsAsset (before.files.content file) name
   pub stream : List ℕ

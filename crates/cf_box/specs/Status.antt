@@ -48,23 +48,23 @@ OfCommand (Some c) P = P c
 abbrev pub RefusesItsPolicy : Option Command → Outside → Type 0
 RefusesItsPolicy words before = OfCommand words (λ c. (r : PolicyRefusal) × RefusesPolicy c before r)
 
--- its policy has no asset of the name that it needs
+-- a command whose policy has no asset of the name that it needs
 abbrev pub LacksItsAsset : Option Command → Outside → Type 0
 LacksItsAsset words before = OfCommand words (λ c. LacksAsset c before)
 
--- its capture is refused
+-- a command whose capture is refused
 abbrev pub RefusesItsCapture : Option Command → Outside → Type 0
 RefusesItsCapture words before = OfCommand words (λ c. (r : CaptureRefusal) × RefusesCapture c before r)
 
--- its capture ends inside a record
+-- a command whose capture ends inside a record
 abbrev pub CutsItsCapture : Option Command → Outside → Type 0
 CutsItsCapture words before = OfCommand words (λ c. (place : ℕ) × CutsCapture c before place)
 
--- its stream is cut
+-- a command whose stream is cut
 abbrev pub CutsItsStream : Option Command → (before after : Outside) → Type 0
 CutsItsStream words before after = OfCommand words (λ c. (reason : CutReason) × CutsStream c before after.pair reason)
 
--- its pair answered Idle too often
+-- a command whose pair answered Idle too often
 abbrev pub EndsItsIdles : Option Command → (before after : Outside) → Type 0
 EndsItsIdles words before after = OfCommand words (λ c. EndsIdle c before after.pair)
 
@@ -72,7 +72,7 @@ EndsItsIdles words before after = OfCommand words (λ c. EndsIdle c before after
 abbrev pub DeniesWhatItAsks : Option Command → Outside → Type 0
 DeniesWhatItAsks words before = OfCommand words (λ c. (why : Denial) × Denies c before why)
 
--- it has too much to compare
+-- a command that has too much to compare
 abbrev pub ExceedsItsCells : Option Command → Outside → Type 0
 ExceedsItsCells words before = OfCommand words (λ c. (name : List ℕ) × ExceedsCells c before name)
 
@@ -80,7 +80,7 @@ ExceedsItsCells words before = OfCommand words (λ c. (name : List ℕ) × Excee
 abbrev pub ExceedsItsRules : Option Command → Outside → Type 0
 ExceedsItsRules words before = OfCommand words (λ c. (name : List ℕ) × ExceedsRules c before name)
 
--- it asks something of the pair
+-- a command that asks something of the pair
 abbrev pub AsksItsPair : Option Command → Type 0
 AsksItsPair words = OfCommand words AsksPair
 
@@ -88,13 +88,13 @@ AsksItsPair words = OfCommand words AsksPair
 abbrev pub Includes : (policy other : List ℕ) → Outside → Type 0
 Includes policy other before = OfPolicies policy other before IsIncluded
 
--- nothing that clients sent in a capture is objected to; and whatever is put together of the packets of a flow is a beginning of one
--- stream, which decodes to what the policy lets through
+-- a clean judgement: nothing that clients sent in a capture is objected to; and whatever is put together of the packets of a flow is a
+-- beginning of one stream, which decodes to what the policy lets through
 abbrev pub JudgedClean : (policy capture : List ℕ) → Outside → Type 0
 JudgedClean policy capture before =
     (d : Done) × (keeps : KeepsPolicy policy capture before d) × AreAllowedFlows keeps.0.assets keeps.2.has_flows.newest
 
--- of the commands in the stream exactly those went to the output that the bytes of the policy allow, in their spelling
+-- what a sift passes: of the commands in the stream exactly those went to the output that the bytes of the policy allow, in their spelling
 -- and at their place; and no rule let more of them through than its rate
 pub record SiftPassesAllowed (policy name : List ℕ) (client : ℕ) (names : SiftNamesValue) (before after : Outside) : Type 0 where
   pub asset : Asset
@@ -115,7 +115,7 @@ HasRecordsToItsEnd bytes =
     × ((records : List Record) × (place : ℕ)
     × AreRecords form (first_place form) (drop (first_place form) bytes) records (record { place = place; found = FileEnd }))
 
--- the same where each record is tested with its moment
+-- a capture each of whose records is tested with its moment
 abbrev pub HasTimedRecords : List ℕ → Type 0
 HasTimedRecords bytes =
     (form : Form) × (form_of bytes ≡ Ok form)
@@ -168,7 +168,7 @@ pub record NothingFails (c : Command) (before after : Outside) : Type 0 where
   pub writes : WriteFailed before after → ⊥
   pub links : LinkFails c before after.pair → ⊥
 
--- where all that the words need is in form and nothing fails, the work is done, or memory ran out
+-- work that is done where all that the words need is in form and nothing fails; or memory ran out
 abbrev pub IsComplete : Option Command → (before after : Outside) → (status : ℕ) → Type 0
 IsComplete words before after status =
     (c : Command) → words ≡ Some c → HasInput c before after → NothingFails c before after → (status ≡ 0) ⊎ (status ≡ 13)
@@ -288,7 +288,7 @@ TellsRefusedCapture (Learn policy capture out) before = TellsPolicy (before.file
     × TellsRefusal WatchRefuses (before.files.content capture)
 TellsRefusedCapture _ before = ⊥
 
--- the same of one that is cut
+-- the text of a capture that is cut
 abbrev pub TellsCutCapture : Command → Outside → Type 0
 TellsCutCapture (Packets capture) before = TellsCutAt ListingCuts (before.files.content capture)
 TellsCutCapture (Judge policy capture) before = TellsPolicy (before.files.content policy)

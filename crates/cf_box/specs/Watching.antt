@@ -36,7 +36,7 @@ pub record WatchRefusesShort (file : Content) (r : CaptureRefusal) : Type 0 wher
   pub no_clock : r ≢ refusal.Clock
   pub no_large : r ≢ refusal.Large
 
--- its length is tested first
+-- a refusal of a capture whose length is tested first
 abbrev pub WatchRefuses : Content → CaptureRefusal → Type 0
 WatchRefuses file r = ((r ≡ refusal.Long) × IsLongerThan file CAPTURE_LIMIT) ⊎ WatchRefusesShort file r
 

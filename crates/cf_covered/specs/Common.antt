@@ -9,7 +9,7 @@ use Rattle.cf_policy.specs.Verdict.{is_empty}
 abbrev pub overlap : Span → Span → Bool
 overlap a b = int_le a.low b.high && int_le b.low a.high
 
--- one of the spans has a number in common with this one
+-- whether one of the spans has a number in common with this one
 abbrev pub some_overlap : List Span → Span → Bool
 some_overlap spans s = list_any (λ t. overlap t s) spans
 

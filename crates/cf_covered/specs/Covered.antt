@@ -22,7 +22,7 @@ HaveAllOf protocol rules rule =
     (client : ℕ) (act : Act) → client < 2 ^ 32 → IsOfCommand protocol act → has_act rule client act ≡ true
     → list_any (λ r. has_act r client act) rules ≡ true
 
--- the same of the acts with one code
+-- the acts with one code, each of which a rule has
 abbrev pub HaveCodeOf : Protocol → List Rule → Rule → ℕ → Type 0
 HaveCodeOf protocol rules rule code =
     (client : ℕ) (act : Act) → act.code ≡ code → client < 2 ^ 32 → IsOfCommand protocol act → has_act rule client act ≡ true

@@ -11,7 +11,7 @@ use Rattle.cf_policy.specs.Verdict.{first_number, is_empty}
 abbrev pub is_inside : Span → Span → Bool
 is_inside outer inner = int_le outer.low inner.low && int_le inner.high outer.high
 
--- they are in one of the spans
+-- spans that are in one of the spans
 abbrev pub is_inside_some : List Span → Span → Bool
 is_inside_some outers inner = list_any (λ o. is_inside o inner) outers
 

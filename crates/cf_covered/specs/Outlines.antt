@@ -14,7 +14,7 @@ use Rattle.cf_covered.specs.Including.{NeverDecides, first_including, includes_r
 abbrev pub has_ends : Span → Span → Bool
 has_ends hull s = covers hull s.low && covers hull s.high
 
--- it has both ends of each span, or every number where there are no spans
+-- the hull of spans: both ends of each span, or every number where there are no spans
 pub record IsHull (hull : Span) (spans : List Span) : Type 0 where
   pub stated : All (λ s. has_ends hull s ≡ true) spans
   pub unstated : is_empty spans ≡ true → hull ≡ EVERY_NUMBER
@@ -34,7 +34,7 @@ Tells rules rule (Covering first) = position (λ r. includes_rule r rule) rules 
 Tells rules rule (Common others) =
     (position (λ r. includes_rule r rule) rules ≡ None) × (map (λ r. r.now) others.items ≡ filter (λ r. have_common r rule) rules)
 
--- so it is of the rules before that of a number, which never decides where one of them includes it
+-- what is told of the rules before that of a number, which never decides where one of them includes it
 abbrev pub IsTold : List Rule → ℕ → Earlier → Type 0
 IsTold rules number (Covering first) =
     (first < number) × NeverDecides rules number

@@ -23,7 +23,7 @@ pub data Command : Type 0 where
   OfDnp3 : (octets : List ℕ) → Command
   OfIec104 : (asdu : List ℕ) → Command
 
--- its station is the asset's, its form is read, and each of its acts is allowed, by a rule that is not spent
+-- a command whose station is the asset's, whose form is read, and of which each act is allowed, by a rule that is not spent
 abbrev pub Allows : Asset → Says → Command → Type 0
 Allows asset says (OfModbus a) = IsAllowedCommand asset says a
 Allows asset says (OfDnp3 octets) = IsAllowedFragment asset says octets

@@ -79,7 +79,7 @@ pub record MakesFirstOf (asset : Asset) (sent : List Passed) (bytes : List ℕ) 
   pub of_next : IsOfNext (λ i. spellings (units_of asset (start_behind 0 whole) i)) following part
   pub begun : IsBegun following (unfinished (reverse (segments_in decoded.units)))
 
--- of any beginning of the stream to the controller a receiver makes the first of what went there
+-- a receiver makes of any beginning of the stream to the controller the first of what went there
 abbrev pub FragmentsDecode : Type 0
 FragmentsDecode =
     (asset : Asset) (client : ℕ) (h : List Element) (js : List Judged) (bytes more : List ℕ) → AreJudged asset client h js →

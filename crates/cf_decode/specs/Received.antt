@@ -14,7 +14,7 @@ has_segment (Adu a) = false
 has_segment (Frame f) = is_data f
 has_segment (Apdu a) = false
 
--- its segment
+-- the segment of a unit
 abbrev pub segment_in : UnitValue → List ℕ
 segment_in (Adu a) = []
 segment_in (Frame f) = user_of f.blocks

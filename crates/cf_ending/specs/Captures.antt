@@ -19,7 +19,7 @@ form_refusal form.Version = refusal.Version
 form_refusal form.LinkType = refusal.LinkType
 form_refusal form.Section = refusal.Section
 
--- and by a block
+-- the refusal of a capture by a block of it
 abbrev pub block_refusal : BlockRefusal → CaptureRefusal
 block_refusal block.Block = refusal.Block
 block_refusal block.Section = refusal.Section

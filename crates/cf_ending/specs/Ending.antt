@@ -63,11 +63,11 @@ summary_text s =
     ++ (count_line (codes "full ") s.full ++ (count_line (codes "sessions ") s.sessions ++ (count_line (codes "admitted ") s.admitted
     ++ (count_line (codes "refused ") s.refused ++ count_line (codes "cuts ") s.cuts))))))
 
--- how many commands were admitted and refused, a line each
+-- the numbers of commands admitted and refused, a line each
 abbrev pub commands_text : (admitted refused : ℕ) → List ℕ
 commands_text admitted refused = codes "admitted " ++ decimal admitted ++ codes "\nrefused " ++ decimal refused ++ codes "\n"
 
--- how many flows there are, and how many commands the policy allows
+-- the numbers of flows, and of commands that the policy allows
 abbrev pub unobjected_text : (flows commands : ℕ) → List ℕ
 unobjected_text flows commands = codes "yes flows " ++ decimal flows ++ codes " commands " ++ decimal commands ++ codes "\n"
 
@@ -110,7 +110,7 @@ Puts text put failed before after status =
     ((status ≡ put) × (after.text ≡ printed_with before.text text) × (after.faults ≡ before.faults))
     ⊎ ((status ≡ failed) × Rose before.faults after.faults × ((k : ℕ) × (after.text ≡ printed_with before.text (take k text))))
 
--- the same of a text that there may be; without one nothing is put
+-- a sink to which a text was put, if there is one; without one nothing is put
 abbrev pub Prints : Option (List ℕ) → (put failed : ℕ) → (before after : SinkValue) → (status : ℕ) → Type 0
 Prints None put failed before after status = (status ≡ put) × (after ≡ before)
 Prints (Some text) put failed before after status = Puts text put failed before after status

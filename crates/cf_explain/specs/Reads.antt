@@ -20,7 +20,7 @@ pub record HasReadAt (rule : Rule) (client point : ℕ) : Type 0 where
   pub place : act.point ≡ point
   pub had : has_act rule client act ≡ true
 
--- so it is for each client and at each address that the rule has
+-- the reads for each client and at each address that the rule has
 abbrev pub HasReads : Rule → Type 0
 HasReads rule =
     (client point : ℕ) → takes rule.clients (pos client) ≡ true → takes rule.points (pos point) ≡ true → point < 65536 →

@@ -44,7 +44,7 @@ abbrev pub IsMet : Protocol → Rule → Type 0
 IsMet protocol rule =
     (code : ℕ) → code < 256 → takes rule.codes (pos code) ≡ true → list_any (meets rule) (kinds protocol code) ≡ true
 
--- there is nothing to find: each code is met, the rule has the reads of function 23 that it names, and no earlier rule includes the rule
+-- a rule without a finding: each code is met, it has the reads of function 23 that it names, and no earlier rule includes it
 abbrev pub IsSound : Asset → ℕ → Rule → Type 0
 IsSound asset number rule =
     IsMet asset.protocol rule × (NamesReads asset.protocol rule → HasReads rule) × (first_including asset.rules number rule ≡ None)

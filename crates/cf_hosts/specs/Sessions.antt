@@ -15,7 +15,7 @@ IsBetween session packet =
     ((packet.source ≡ client_endpoint session) × (packet.dest ≡ controller_endpoint session))
     ⊎ ((packet.source ≡ controller_endpoint session) × (packet.dest ≡ client_endpoint session))
 
--- they are a packet of a session
+-- a record that is a packet of a session
 pub record HasPacket (r : Record) : Type 0 where
   pub packet : PacketValue
   pub has : Has r packet

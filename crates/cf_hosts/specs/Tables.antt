@@ -13,7 +13,7 @@ rule_table code points =
     with_member (codes "points") (only (string points)) (with_member (codes "codes") (only (integer code))
     (with_member (codes "action") (string (codes "allow")) (with_member (codes "name") (string (codes "ok")) no_members)))
 
--- the same with one
+-- the table of a rule with a group
 abbrev pub grouped_rule_table : (code : ℤ) → (group points : List ℕ) → Members
 grouped_rule_table code group points = with_member (codes "groups") (only (string group)) (rule_table code points)
 

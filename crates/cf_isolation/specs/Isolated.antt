@@ -27,7 +27,7 @@ use Rattle.cf_isolation.specs.Records.{records_between, sent_between}
 abbrev pub began_at : {flow : Flow} → {events : List RunEvent} → HasSession flow events → ℕ
 began_at has = has.first.input.moment
 
--- that of the last record that is considered
+-- the moment of the last record that is considered
 abbrev pub seen_until : {flow : Flow} → {events : List RunEvent} → HasSession flow events → ℕ
 seen_until has = last_moment (has.later ++ has.first ∷ has.earlier)
 
@@ -50,7 +50,7 @@ pub record HaveOneTime {events others : List RunEvent} (flow : Flow)
 abbrev pub sent_in_time : {events : List RunEvent} → (flow : Flow) → HasSession flow events → List Sent
 sent_in_time {events} flow has = sent_between (client_of flow) flow.asset.endpoint (began_at has) (seen_until has) (sent events)
 
--- it is what the session's own events sent, in their order
+-- what is sent between two ends is what the session's own events sent, in their order
 abbrev pub SentIsOfSessions : Type 0
 SentIsOfSessions =
     (assets : List Asset) (limit : ℕ) (given : List Input) (out log : List ℕ) (summary : Summary)
@@ -97,7 +97,7 @@ pub record IsInTime (given : List Input) (out : List ℕ) : Type 0 where
   pub octets : IsOctets out
   pub size : length out ≤ 2 ^ 40
 
--- of the records of its output capture those between the endpoints of a session, in the session's time, are those of the packets that
+-- the records of a run's output capture between the endpoints of a session, in the session's time, are those of the packets that
 -- the session's own events sent, in their order
 abbrev pub CapturesHoldSessions : Type 0
 CapturesHoldSessions =
@@ -106,7 +106,7 @@ CapturesHoldSessions =
     (flow : Flow) (has : HasSession flow run.events) →
     records_between (client_of flow) flow.asset.endpoint (began_at has) (seen_until has) records ≡ map record_by (session_sent flow has)
 
--- the same up to the first half of the event that comes next
+-- the output capture holds a session's records up to the first half of the event that comes next
 abbrev pub CapturesHoldToTheNext : Type 0
 CapturesHoldToTheNext =
     (assets : List Asset) (limit : ℕ) (given : List Input) (out log : List ℕ) (summary : Summary)

@@ -17,11 +17,11 @@ abbrev pub behind_word : List ℕ → List ℕ
 behind_word [] = []
 behind_word (octet ∷ octets) = if octet == 32 then octets else behind_word octets
 
--- its moment in microseconds: the number of the digits of its first word, with the point left out
+-- the moment of a line in microseconds: the number of the digits of its first word, with the point left out
 abbrev pub moment_in : List ℕ → ℕ
 moment_in line = digits_value 10 (filter (λ octet. not (octet == 46)) (first_word line))
 
--- its second word is the client's endpoint, and its third one the asset's name
+-- a line whose second word is the client's endpoint, and whose third one is the asset's name
 abbrev pub names_both : (client : Endpoint) → (name : List ℕ) → List ℕ → Bool
 names_both client name line =
     bytes_eq (first_word (behind_word line)) (endpoint_text client) && bytes_eq (first_word (behind_word (behind_word line))) name

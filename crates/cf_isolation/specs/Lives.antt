@@ -66,14 +66,14 @@ is_in_life born (next ∷ later) moment = nat_le born moment && nat_lt moment (b
 
 -- ---- what the files hold of it
 
--- of what a run sent
+-- what a run sent in a session's life
 abbrev pub sent_in_life : {events : List RunEvent} → (session : Session) → HasLife session events → List Sent
 sent_in_life {events} session life =
     let client = client_of session.flow in
     let asset = session.flow.asset.endpoint in
     filter (λ s. goes_between client asset s.packet && is_in_life (born_at session.events) life.later s.moment) (sent events)
 
--- of the records of its output capture
+-- the records of its output capture in a session's life
 abbrev pub records_in_life : {events : List RunEvent} → (session : Session) → HasLife session events → List Record → List Record
 records_in_life session life records =
     let client = client_of session.flow in
@@ -81,7 +81,7 @@ records_in_life session life records =
     filter (λ r. is_packet_between client asset (read_record r.link r.body) && is_in_life (born_at session.events) life.later r.stamp)
     records
 
--- of the lines of its log
+-- the lines of its log in a session's life
 abbrev pub lines_in_life : {events : List RunEvent} → (session : Session) → HasLife session events → List (List ℕ)
 lines_in_life {events} session life =
     let client = client_of session.flow in
@@ -95,7 +95,7 @@ EachSent =
     (run : IsRun assets limit given out log summary) (session : Session) (life : HasLife session run.events) →
     sent_in_life session life ≡ own_sent session.events
 
--- and the records of the output capture between them, in its life, are the records of that
+-- the records of the output capture between the ends of a session, in its life, are the records of what it sent
 abbrev pub EachHasRecords : Type 0
 EachHasRecords =
     (assets : List Asset) (limit : ℕ) (given : List Input) (out log : List ℕ) (summary : Summary)
@@ -124,7 +124,7 @@ AlikeInRecords =
     (one other : Session) (life : HasLife one run.events) (other_life : HasLife other other_run.events) → AreAlike one other →
     records_in_life one life records ≡ records_in_life other other_life others
 
--- and both logs the same lines that name them
+-- both logs have the same lines that name them
 abbrev pub AlikeInLines : Type 0
 AlikeInLines =
     (assets : List Asset) (limit : ℕ) (given other_given : List Input) (out other_out log other_log : List ℕ)

@@ -38,7 +38,7 @@ logged_last flow has behind =
     logged_ticks (filter (is_between (client_of flow) flow.asset.endpoint) table)
     (ticks_of (client_of flow) flow.asset.endpoint table behind.next.ticks)
 
--- so it is too up to that half, so up to the packet that begins the next session of theirs
+-- a log holds a session's lines up to the packet that begins the next session of theirs
 abbrev pub LogsHoldToTheNext : Type 0
 LogsHoldToTheNext =
     (assets : List Asset) (limit : ℕ) (given : List Input) (out log : List ℕ) (summary : Summary)

@@ -8,7 +8,7 @@ use Rattle.cf_view.specs.Endpoints.{same_endpoint}
 use Rattle.cf_session.specs.Sent.{Sent}
 use Rattle.cf_view.specs.declared.Endpoint.{Endpoint}
 
--- from the first of two moments up to the second, both included
+-- the time from the first of two moments up to the second, both included
 abbrev pub is_during : (since until : ℕ) → (moment : ℕ) → Bool
 is_during since until moment = nat_le since moment && nat_le moment until
 
@@ -20,7 +20,7 @@ goes_from source dest packet = same_endpoint packet.source source && same_endpoi
 abbrev pub goes_between : (client asset : Endpoint) → PacketValue → Bool
 goes_between client asset packet = goes_from client asset packet || goes_from asset client packet
 
--- of what was sent
+-- a packet sent between two ends and two moments
 abbrev pub is_sent_between : (client asset : Endpoint) → (since until : ℕ) → Sent → Bool
 is_sent_between client asset since until s = goes_between client asset s.packet && is_during since until s.moment
 
@@ -28,7 +28,7 @@ is_sent_between client asset since until s = goes_between client asset s.packet 
 abbrev pub sent_between : (client asset : Endpoint) → (since until : ℕ) → List Sent → List Sent
 sent_between client asset since until all = filter (is_sent_between client asset since until) all
 
--- of the records of a capture file, as they are read: a record that is no packet goes nowhere
+-- a record of a capture file between two ends, as it is read: one that is no packet goes nowhere
 abbrev pub is_packet_between : (client asset : Endpoint) → Result PacketValue PacketRefusal → Bool
 is_packet_between client asset (Ok packet) = goes_between client asset packet
 is_packet_between client asset (Err refusal) = false

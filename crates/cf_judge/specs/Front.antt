@@ -25,7 +25,7 @@ pub record IsReaderOf (asset : Asset) (client : ℕ) (earlier : List Judged) (r 
   pub index : IsIndexOf asset client r.index
   pub assembly : IsAssemblyOf r.assembly (segments_of asset side.Client earlier)
 
--- for DNP3 the fragment is whole
+-- a reader whose fragment is whole, for DNP3
 abbrev pub HasWhole : Asset → Reader → Type 0
 HasWhole asset r = asset.protocol ≡ protocol.Dnp3 → r.assembly.whole ≡ true
 

@@ -60,7 +60,7 @@ objection_by f first = option_map (objected f) (sooner (option_map wrong_by f.co
 abbrev pub objection_of : FlowValue → List Judged → Ending → Option Objection
 objection_of f js ending = objection_by f (first_wrong js ending)
 
--- of two objections the one with the earlier record, and of two with one record the first
+-- the earlier of two objections: the one with the earlier record, and of two with one record the first
 abbrev pub earlier : Option Objection → Option Objection → Option Objection
 earlier None later = later
 earlier (Some a) None = Some a
@@ -72,7 +72,7 @@ pub record Reading : Type 0 where
   pub judged : List Judged
   pub ending : Ending
 
--- by the asset at its place of the policy, each item after the earlier ones
+-- a reading by the asset at its place of the policy, each item after the earlier ones
 abbrev pub IsReadBy : Option Asset → Reading → Type 0
 IsReadBy None r = ⊥
 IsReadBy (Some asset) r = AreRead asset r.flow.client.address [] r.flow.bytes r.flow.born r.judged r.ending
@@ -92,7 +92,7 @@ abbrev pub admitted_in : List Judged → ℕ
 admitted_in [] = 0
 admitted_in (j ∷ js) = one_if (is_admitted j.fate) + admitted_in js
 
--- how many admitted commands the flows have besides those counted, up to 2^64 - 1
+-- the admitted commands that the flows have besides those counted, up to 2^64 - 1
 abbrev pub commands_in : ℕ → List Reading → ℕ
 commands_in count [] = count
 commands_in count (r ∷ rs) = commands_in (min (count + admitted_in r.judged) (2 ^ 64 - 1)) rs

@@ -28,6 +28,6 @@ ruling_of fate.Carried = ruling.Nothing
 ruling_of fate.Lengthens = ruling.Nothing
 ruling_of (fate.Cuts because) = ruling.Nothing
 
--- it is that of the fate of an ADU
+-- the ruling of the fate of an ADU
 abbrev pub HasAduRuling : Asset → (client : ℕ) → AduValue → Ruling → Type 0
 HasAduRuling asset client a found = (f : Fate) × HasCommandFate asset (verdict_of asset client) a f × (found ≡ ruling_of f)

@@ -54,7 +54,7 @@ first_shown rules says (act ∷ acts) = option_or (shown_by rules act (says act)
 abbrev pub admission : Asset → Says → List Act → Admission
 admission asset says acts = record { used = used_by (rated asset.rules) says acts; shown = first_shown asset.rules says acts }
 
--- the same where no rule has a rate
+-- the admission where no rule has a rate
 abbrev pub unrated : List Rule → Says → List Act → Admission
 unrated rules says acts = record { used = replicate most_rated false; shown = first_shown rules says acts }
 

@@ -53,16 +53,16 @@ abbrev pub has_addresses : Asset → Side → FrameValue → Bool
 has_addresses asset side.Client f = nat_eq f.dest asset.station && nat_eq f.source asset.master
 has_addresses asset side.Controller f = nat_eq f.dest asset.master && nat_eq f.source asset.station
 
--- its bit DIR is that of its side
+-- a frame whose bit DIR is that of its side
 abbrev pub has_right_direction : Side → FrameValue → Bool
 has_right_direction side.Client f = has_direction f
 has_right_direction side.Controller f = not (has_direction f)
 
--- it carries user data without confirmation: function code 4
+-- a frame that carries user data without confirmation: function code 4
 abbrev pub is_data : FrameValue → Bool
 is_data f = is_primary f && nat_eq (link_code f) 4
 
--- it asks for the link's status, or gives it, and has no user octets: function codes 9 and 11
+-- a frame that asks for the link's status, or gives it, and has no user octets: function codes 9 and 11
 abbrev pub is_status : FrameValue → Bool
 is_status f = nat_eq (length (user_of f.blocks)) 0 && (if is_primary f then nat_eq (link_code f) 9 else nat_eq (link_code f) 11)
 
@@ -73,7 +73,7 @@ stray_of asset s f =
     else (if not (has_right_direction s f) then Some why.Direction
     else (if is_data f then None else (if is_status f then None else Some why.Code)))
 
--- there is no reason
+-- whether a reason is absent
 abbrev pub is_none : Option Why → Bool
 is_none None = true
 is_none (Some why) = false
@@ -178,7 +178,7 @@ fragment_in asset to earlier j (Took s (Apdu a)) = []
 fragment_in asset to earlier j (Ended s rest) = []
 fragment_in asset to earlier j (Broke s because) = []
 
--- how many segments earlier items put into the stream to a side
+-- the number of segments that earlier items put into the stream to a side
 abbrev pub segments_into : Asset → Side → List Judged → ℕ
 segments_into asset to earlier = sum_by (λ octets. count_of (length octets))
     (in_turn (λ before j. fragment_in asset to before j j.item) [] earlier)
@@ -192,7 +192,7 @@ data_octets asset side.Client user = link.spelling 0x44 asset.master asset.stati
 abbrev pub frames_at : Asset → Side → ℕ → List ℕ → List ℕ
 frames_at asset to start octets = flat_map (data_octets asset to) (reverse (pieces.segments_of octets start))
 
--- the same with the sequence that follows those before it
+-- the frames of a fragment with the sequence that follows those before it
 abbrev pub fragment_frames : Asset → Side → List Judged → List ℕ → List ℕ
 fragment_frames asset to earlier octets = frames_at asset to (segments_into asset to earlier) octets
 
@@ -202,7 +202,7 @@ frame_output asset to earlier j s x =
     if is_data x then flat_map (fragment_frames asset to earlier) (fragment_in asset to earlier j j.item)
     else (if is_side to s then [] else (if goes_on j.fate then frame_spelling x else []))
 
--- its line shows the fragment that it completes
+-- the octets that the line of a frame shows, those of the fragment that it completes
 abbrev pub frame_octets : Asset → List Judged → Side → FrameValue → List ℕ
 frame_octets asset earlier s x = flat_map (λ octets. octets) (whole_now asset s earlier x)
 

@@ -76,7 +76,7 @@ pub record Follows (asset : Asset) (history : List Element) (rests : Rests) (cut
   pub controller_stream : IsQueueOf now.to_controller (stream_to asset side.Controller judged)
   pub of_lines : now.lines ≡ with_lines first (lines asset now.lane.client [] judged)
 
--- the same over another log
+-- a state over another log
 abbrev pub over : Option (List (List ℕ)) → State → State
 over log s = record s { lines = log }
 
@@ -112,7 +112,7 @@ pub record BeganWithin (asset : Asset) (client : Endpoint) (history : List Eleme
   pub piece_is : piece ≡ handled ++ rest
   pub began : Began asset client (history ++ bytes_at moment s handled ∷ []) first log part
 
--- so it is of each history that was followed
+-- the failure of a call in each history that was followed
 abbrev pub FailsWithin : Asset → ℕ → Side → List ℕ → State → (log : Option (List (List ℕ))) → (part : List ℕ) → Type 0
 FailsWithin asset moment s bytes old log part =
     (h : List Element) (rests : Rests) (first : Option (List (List ℕ))) (piece : List ℕ) → bytes ≡ rest_of s rests ++ piece →
@@ -132,7 +132,7 @@ pub record BeganApartWithin (asset : Asset) (client : Endpoint) (history : List 
   pub added : log ≡ with_lines old more
   pub began : BeganWithin asset client history moment s piece first (with_lines own more) part
 
--- so it is of each history that was followed over lines of its own
+-- the failure of a call in each history that was followed over lines of its own
 abbrev pub FailsApart : Asset → ℕ → Side → List ℕ → State → (log : Option (List (List ℕ))) → (part : List ℕ) → Type 0
 FailsApart asset moment s bytes old log part =
     (h : List Element) (rests : Rests) (first own : Option (List (List ℕ))) (piece : List ℕ) → bytes ≡ rest_of s rests ++ piece →

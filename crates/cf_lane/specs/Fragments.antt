@@ -101,7 +101,7 @@ pub record TakesSegment (asset : Asset) (says : Says) (client : Endpoint) (momen
       old.to_controller new.fragments.to_controller new.to_controller
   pub lines : new.lines ≡ with_lines old.lines (data_lines asset client moment s f whole old.fragments.to_client old.to_client)
 
--- so it was but for its line, of which the log may have a part or all
+-- a segment that was handled but for its line, of which the log may have a part or all
 pub record MissesSegment (asset : Asset) (says : Says) (client : Endpoint) (moment : ℕ) (s : Side) (answer : SegmentAnswer)
     (whole : List (List ℕ)) (old : Parts) (log : Option (List (List ℕ))) (part : List ℕ) : Type 0 where
   pub fate : Fate

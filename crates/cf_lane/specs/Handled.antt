@@ -74,7 +74,7 @@ pub record Does (asset : Asset) (earlier js : List Judged) (old new : State) : T
   pub client_quiet : old.to_client.ended ≡ true → outputs asset side.Client earlier js ≡ []
   pub controller_quiet : old.to_controller.ended ≡ true → outputs asset side.Controller earlier js ≡ []
 
--- these items were handled, whatever came before them that does not cut
+-- items that were handled, whatever came before them that does not cut
 pub record Handled (asset : Asset) (js : List Judged) (old new : State) : Type 0 where
   pub client : new.lane.client ≡ old.lane.client
   pub does : (earlier : List Judged) → cut_of earlier ≡ None → Knows asset old earlier → Does asset earlier js old new
@@ -177,13 +177,13 @@ CountsFront (framed.Unit f used) moment old new = Counts f moment old new
 CountsFront framed.More moment old new = new ≡ old
 CountsFront (framed.Broken reason) moment old new = new ≡ old
 
--- how many commands may be counted at the front
+-- the commands that may be counted at the front, at most
 abbrev pub most_counted : Framed Fate → ℕ
 most_counted (framed.Unit f used) = 1
 most_counted framed.More = 0
 most_counted (framed.Broken reason) = 0
 
--- how many octets of the front go on
+-- the number of octets of the front that go on
 abbrev pub taken_in : Framed Fate → ℕ
 taken_in (framed.Unit f used) = letters_in (step_by (fate_cut f) used)
 taken_in framed.More = 0
@@ -215,7 +215,7 @@ abbrev pub IsOpen : Side → (to_client to_controller : Queue) → Type 0
 IsOpen side.Client to_client to_controller = to_controller.ended ≡ false
 IsOpen side.Controller to_client to_controller = to_client.ended ≡ false
 
--- how many octets unfinished fragments may still put out at most
+-- the octets that unfinished fragments may still put out, at most
 abbrev pub debt_limit : ℕ
 debt_limit = 5300
 
@@ -249,8 +249,8 @@ MayHaveMore more old log part = ((log ≡ old) × ((k : ℕ) × (part ≡ take k
 abbrev pub MayHaveAdded : List (List ℕ) → DeskValue → DeskValue → Type 0
 MayHaveAdded more old new = MayHaveMore more old.lines new.lines new.line_part
 
--- nothing but the log was written: no packet was emitted, the desk is the same one, and files of other names are as they were.
--- A desk that is whole was so, and nothing but lines was added
+-- a desk of which nothing but the log was written: no packet was emitted, it is the same one, and files of other names are as they were.
+-- One that is whole was so, and nothing but lines was added
 pub record WritesLog (old new : DeskValue) : Type 0 where
   pub packets : new.packets ≡ old.packets
   pub packet_part : new.packet_part ≡ old.packet_part
@@ -291,7 +291,7 @@ pub record Misses (asset : Asset) (moment : ℕ) (s : Side) (bytes : List ℕ) (
   pub are_more : HasLines asset old (judged moment (Took s unit) fate) more
   pub line : MayHaveMore more old.lines log part
 
--- the same for a lane that counted any number of commands
+-- the failure of a call of a lane that counted any number of commands
 abbrev pub MissesOf : Asset → Endpoint → Rules → ℕ → Side → List ℕ → (before : Wire) → (old : Outlets) → (log : Option (List (List ℕ)))
     → (part : List ℕ) → Type 0
 MissesOf asset client rules moment s bytes before old log part =

@@ -123,6 +123,6 @@ apdu_output side.Controller earlier f side.Client a = if goes_on f then apdu_spe
     earlier f (info_number a)
 apdu_output side.Controller earlier f side.Controller a = []
 
--- its line shows the APDU
+-- the octets that the line of an APDU shows
 abbrev pub apdu_octets : ApduValue → List ℕ
 apdu_octets a = apdu_spelling a

@@ -30,7 +30,7 @@ last_items s ended (Wrong reason) = Broke s reason ∷ []
 last_items s true (Left rest) = Ended s (length rest) ∷ []
 last_items s false (Left rest) = []
 
--- the same of a side whose bytes were units and this before: a broken octet is the last item of its side
+-- the last item of a side whose bytes were units and this before: a broken octet is the last one of its side
 abbrev pub last_after : (was : Tail) → Side → (ended : Bool) → Tail → List Item
 last_after (Wrong reason) s ended now = []
 last_after (Left rest) s ended now = last_items s ended now

@@ -25,7 +25,7 @@ ends s (Took of unit) = false
 ends s (Ended of rest) = is_side s of
 ends s (Broke of reason) = false
 
--- this side's End is among them
+-- whether a side's End is among the items
 abbrev pub has_ended : Side → List Judged → Bool
 has_ended s js = list_any (λ j. ends s j.item) js
 
@@ -39,7 +39,7 @@ abbrev pub is_refused : Fate → Bool
 is_refused (fate.Refused refusal) = true
 is_refused f = false
 
--- how many more there are by one that is so or not
+-- 1 where a thing is so, and 0 where it is not
 abbrev pub one_if : Bool → ℕ
 one_if true = 1
 one_if false = 0

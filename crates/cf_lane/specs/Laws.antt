@@ -25,7 +25,7 @@ HasOneJudgement =
     (asset : Asset) (client : ℕ) (h : List Element) (js ks : List Judged) →
     AreJudged asset client h js → AreJudged asset client h ks → js ≡ ks
 
--- where a history has judged items, it has some with any octets of a side after it, and with an End after them. So each
+-- histories with judged items have some with any octets of a side after them, and with an End after them. So each
 -- history of octets has judged items
 abbrev pub JudgementsGoOn : Type 0
 JudgementsGoOn =
@@ -39,7 +39,7 @@ PiecesJoin =
     AreItems p earlier (bytes_at moment s xs ∷ letters_at moment s ys ended ∷ later) items →
     AreItems p earlier (letters_at moment s (xs ++ ys) ended ∷ later) items
 
--- so a history in which an element is cut in two has the judged items that it has with it whole
+-- a history in which an element is cut in two has the judged items that it has with it whole
 abbrev pub JudgedJoin : Type 0
 JudgedJoin =
     (asset : Asset) (client : ℕ) (earlier later : List Element) (moment : ℕ) (s : Side) (xs ys : List ℕ) (ended : Bool) (js : List Judged) →
@@ -64,7 +64,7 @@ EndJoins =
 abbrev pub UnitsArePrefixFree : Type 0
 UnitsArePrefixFree = (p : Protocol) → IsPrefixFree (SpellsUnit p)
 
--- how many bytes elements have
+-- the number of bytes of elements
 abbrev pub letters_of : List Element → ℕ
 letters_of [] = 0
 letters_of (e ∷ es) = length e.letters.bytes + letters_of es
@@ -76,7 +76,7 @@ GrowsLittle =
     AreJudged asset client h js → AreJudged asset client (h ++ more) ks →
     length (outputs asset to [] ks) ≤ length (outputs asset to [] js) + (2 * letters_of more + 8192)
 
--- where a history goes on, each stream goes on, and so do the lines
+-- streams and lines that go on where a history goes on
 pub record GoOn (asset : Asset) (client : Endpoint) (js ks : List Judged) : Type 0 where
   pub ms : List Judged
   pub all : ks ≡ js ++ ms
@@ -89,7 +89,7 @@ StreamsGoOn =
     (asset : Asset) (client : Endpoint) (h more : List Element) (js ks : List Judged) →
     AreJudged asset client.address h js → AreJudged asset client.address (h ++ more) ks → GoOn asset client js ks
 
--- after the End of a side that has no more bytes nothing comes into the stream to the other side
+-- nothing comes into the stream to the other side after the End of a side that has no more bytes
 abbrev pub QuietBehindEnd : Type 0
 QuietBehindEnd =
     (asset : Asset) (client : ℕ) (h more : List Element) (js ms : List Judged) (to : Side) →
@@ -97,7 +97,7 @@ QuietBehindEnd =
     → bytes_of (other to) more ≡ [] →
     outputs asset to js ms ≡ []
 
--- of a history's commands exactly those that are allowed go to the controller, in their spelling and at their place
+-- the commands of a history that go to the controller: exactly those that are allowed, in their spelling and at their place
 abbrev pub LanePassesAllowed : Type 0
 LanePassesAllowed =
     (asset : Asset) (client : ℕ) (h : List Element) (js : List Judged) → AreJudged asset client h js

@@ -61,6 +61,6 @@ adu_output side.Client ended side.Controller f a = if goes_on f then spelling a 
 adu_output side.Controller ended side.Client f a = if goes_on f then spelling a else []
 adu_output side.Controller ended side.Controller f a = []
 
--- its line shows the ADU
+-- the octets that the line of an ADU shows
 abbrev pub adu_octets : AduValue → List ℕ
 adu_octets a = spelling a

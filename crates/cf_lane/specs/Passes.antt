@@ -51,7 +51,7 @@ pub record IsAllowedAsdu (asset : Asset) (says : Says) (octets : List ℕ) : Typ
   pub form : first_refusal (asdu_in octets) ≡ None
   pub each : AreAllowed says (asdus.acts (asdu_in octets))
 
--- these octets stand at the front, and what follows is right
+-- octets that stand at the front, and behind which what follows is right
 abbrev pub Leaves : List ℕ → (List ℕ → Type 0) → List ℕ → Type 0
 Leaves octets Rest out = (rest : List ℕ) × (out ≡ octets ++ rest) × Rest rest
 

@@ -68,7 +68,7 @@ abbrev pub mirror_octets : Option Stamp → (asdu : List ℕ) → List ℕ
 mirror_octets None asdu = []
 mirror_octets (Some stamp) asdu = apdu_spelling (stamped stamp (mirrored asdu))
 
--- how many octets go out at most for one that does not cut, and none for one that does
+-- the octets that go out at most for one that does not cut, and none for one that does
 abbrev pub unless_cut_by : Option CutReason → ℕ → ℕ
 unless_cut_by None n = n
 unless_cut_by (Some reason) n = 0

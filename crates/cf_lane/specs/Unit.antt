@@ -32,7 +32,7 @@ frame_unit f = Frame f
 abbrev pub apdu_unit : ApduValue → UnitValue
 apdu_unit a = Apdu a
 
--- its octets
+-- the octets of a unit
 abbrev pub unit_spelling : UnitValue → List ℕ
 unit_spelling (Adu a) = spelling a
 unit_spelling (Frame f) = frame_spelling f

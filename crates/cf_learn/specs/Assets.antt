@@ -20,7 +20,7 @@ use Rattle.cf_learn.specs.Shown.{IsSeen}
 abbrev pub with_rules : Asset → List Rule → Asset
 with_rules asset rules = record asset { rules = rules }
 
--- these are the acts of clients that flows show of the asset, each an act of a command of its protocol by a client with an address
+-- the acts of clients that flows show of the asset, each an act of a command of its protocol by a client with an address
 pub record AreSeen (asset : Asset) (place : ℕ) (flows : List FlowValue) (seen : List Seen) : Type 0 where
   pub exactly : (client : ℕ) (act : Act) → Contains seen (seen_of client act) ↔ IsSeen asset place flows client act
   pub of_commands : (client : ℕ) (act : Act) → Contains seen (seen_of client act) → IsOfCommand asset.protocol act

@@ -20,12 +20,12 @@ value_cmp None (Some n) = Less
 value_cmp (Some m) None = Greater
 value_cmp (Some m) (Some n) = int_cmp m n
 
--- by client, code, group and value
+-- the order of kinds: by client, code, group and value
 abbrev pub kind_cmp : Kind → Kind → Ordering
 kind_cmp a b = ordering_then (nat_cmp a.client b.client)
     (ordering_then (nat_cmp a.code b.code) (ordering_then (nat_cmp a.group b.group) (value_cmp a.value b.value)))
 
--- and then by point
+-- the order of what is seen: by kind, and then by point
 abbrev pub seen_cmp : Seen → Seen → Ordering
 seen_cmp s t = ordering_then (kind_cmp s.kind t.kind) (nat_cmp s.point t.point)
 
@@ -35,12 +35,12 @@ gathered goes_in with_one begun held [] = held ∷ []
 gathered goes_in with_one begun held (x ∷ xs) =
     if goes_in held x then gathered goes_in with_one begun (with_one held x) xs else held ∷ gathered goes_in with_one begun (begun x) xs
 
--- the same from the first item on; nothing is gathered of no items
+-- what is gathered from the first item on; nothing of no items
 abbrev pub all_gathered : {A B : Type 0} → (B → A → Bool) → (B → A → B) → (A → B) → List A → List B
 all_gathered goes_in with_one begun [] = []
 all_gathered goes_in with_one begun (x ∷ xs) = gathered goes_in with_one begun (begun x) xs
 
--- of the run's kind, with its last point once more or the next
+-- the next item of a run: of its kind, with its last point once more or the next
 abbrev pub is_next : Run → Seen → Bool
 is_next run s = is_same_kind run.kind s.kind && ((s.point == run.high) || (s.point == run.high + 1))
 
@@ -65,7 +65,7 @@ pub record Part : Type 0 where
   pub kind : Kind
   pub points : List Span
 
--- of the part's kind, and there is room
+-- a run that goes into a part: of its kind, and there is room
 abbrev pub goes_in : Part → Run → Bool
 goes_in part run = is_same_kind part.kind run.kind && nat_lt (length part.points) MOST_RUNS
 

@@ -13,7 +13,7 @@ use Rattle.cf_learn.specs.declared.seen.Seen.{Seen}
 abbrev pub seen_of : ℕ → Act → Seen
 seen_of client act = record { kind = record { client = client; code = act.code; group = act.group; value = act.value }; point = act.point }
 
--- and the act without the client
+-- the act without the client
 abbrev pub act_of : Seen → Act
 act_of s = record { code = s.kind.code; group = s.kind.group; point = s.point; value = s.kind.value }
 
@@ -52,7 +52,7 @@ pub record AllowsSeen (seen : List Seen) (rules : List Rule) : Type 0 where
   pub spoken : (client : ℕ) (act : Act) → IsAllowedByRule rules client act ↔ IsSpokenFor seen client act
   pub exact : (client : ℕ) (act : Act) → SettlesValue seen act → IsAllowedByRule rules client act ↔ Contains seen (seen_of client act)
 
--- its numbers are in the ranges of a policy
+-- an act of a client whose numbers are in the ranges of a policy
 pub record IsSeenWithin (s : Seen) : Type 0 where
   pub address : pos s.kind.client ≤ℤ highest_address
   pub code : pos s.kind.code ≤ℤ highest_code

@@ -55,7 +55,7 @@ HasAct asset (Request a) act = (a.unit ≡ asset.station) × (r : RequestValue) 
 HasAct asset (Fragment octets) act = (f : FragmentValue) × (read_octets octets ≡ Ok f) × (f.code ≢ 0) × Contains (fragment_acts.acts f) act
 HasAct asset (Asdu octets) act = (a : AsduValue) × asdus.Reads (Ok a) octets × (a.station ≡ asset.station) × Contains (asdu_acts.acts a) act
 
--- one of the messages has the act
+-- messages one of which has the act
 abbrev pub HaveAct : Asset → List Message → Act → Type 0
 HaveAct asset ms act = (m : Message) × Contains ms m × HasAct asset m act
 

@@ -37,7 +37,7 @@ output_form = form.Classic output_header
 abbrev pub record_by : Sent → Record
 record_by s = record { stamp = s.moment; link = link.RawIp; body = spelled s.packet }
 
--- its octets are read as the packet
+-- a packet whose octets are read as it
 abbrev pub IsReadAgain : Sent → Type 0
 IsReadAgain s = read_record link.RawIp (spelled s.packet) ≡ Ok s.packet
 
@@ -49,7 +49,7 @@ pub record ReadsAs (octets : List ℕ) (all : List Sent) : Type 0 where
   pub are : AreRecords output_form 24 (drop 24 octets) (map record_by all) last
   pub packets : AllByRecursion IsReadAgain all
 
--- that the fields are in their ranges follows from the octets
+-- the octets that were sent are read, so the fields are in their ranges
 abbrev pub CapturesAreRead : Type 0
 CapturesAreRead =
     (all : List Sent) → AllByRecursion MayBeWritten all → IsOctets (capture_of all) → length (capture_of all) ≤ 2 ^ 40

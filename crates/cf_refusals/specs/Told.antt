@@ -54,7 +54,7 @@ abbrev pub received : Asset → (earlier : List Judged) → Item → List ℕ
 received asset earlier (Took s unit) = command_octets asset earlier s unit
 received asset earlier _ = []
 
--- of a refused command between earlier and later items: what decided, its line, and its reply
+-- what is told of a refused command between earlier and later items: what decided, its line, and its reply
 pub record IsTold (asset : Asset) (client : Endpoint) (earlier : List Judged) (j : Judged) (later : List Judged) (refusal : Refusal) : Type
     0 where
   -- a rule that decided is one of the asset's
@@ -70,14 +70,15 @@ pub record IsTold (asset : Asset) (client : Endpoint) (earlier : List Judged) (j
       ++ (line_about asset client j.moment (refusal_line asset refusal (is_some_bytes replied) (received asset earlier j.item))
       ∷ lines asset client (earlier ++ j ∷ []) later)
 
--- so it is of each refused command of every history
+-- each refused command of every history is told so
 abbrev pub RefusedAreTold : Type 0
 RefusedAreTold =
     (asset : Asset) (client : Endpoint) (history : List Element) (earlier later : List Judged) (j : Judged) (refusal : Refusal) →
     AreJudged asset client.address history (earlier ++ j ∷ later) → j.fate ≡ fate.Refused refusal
     → IsTold asset client earlier j later refusal
 
--- of an admitted command between earlier and later items: its line stands at its place, if a rule with a log allowed one of its acts
+-- what is shown of an admitted command between earlier and later items: its line stands at its place, if a rule with a log allowed
+-- one of its acts
 pub record IsShown (asset : Asset) (client : Endpoint) (earlier : List Judged) (j : Judged) (later : List Judged) (admitted : Admission) : Type
     0 where
   pub in_log :
@@ -85,7 +86,7 @@ pub record IsShown (asset : Asset) (client : Endpoint) (earlier : List Judged) (
       ≡ lines asset client [] earlier
       ++ (admission_lines asset client j.moment (received asset earlier j.item) admitted ++ lines asset client (earlier ++ j ∷ []) later)
 
--- so it is of each admitted command of every history
+-- each admitted command of every history is shown so
 abbrev pub ShownAreTold : Type 0
 ShownAreTold =
     (asset : Asset) (client : Endpoint) (history : List Element) (earlier later : List Judged) (j : Judged) (admitted : Admission) →

@@ -105,7 +105,7 @@ is_finished s es = list_any (closes s) es
 abbrev pub are_finished : List Entry → Bool
 are_finished es = is_finished side.Client es && is_finished side.Controller es
 
--- how many answers Idle there are since the last Got, Took or End
+-- the number of answers Idle since the last Got, Took or End
 abbrev pub idle_after : ℕ → Entry → ℕ
 idle_after run (Met meeting) = run
 idle_after run (Moment moment) = run
@@ -115,11 +115,11 @@ idle_after run (Ended of) = 0
 idle_after run (Idle of) = suc run
 idle_after run (Finished of) = run
 
--- how many there are after more answers
+-- that number after more answers
 abbrev pub idles_after : ℕ → List Entry → ℕ
 idles_after run [] = run
 idles_after run (e ∷ es) = idles_after (idle_after run e) es
 
--- how many there are at the end of a list
+-- that number at the end of a list
 abbrev pub idle_run : List Entry → ℕ
 idle_run es = idles_after 0 es

@@ -112,7 +112,7 @@ abbrev pub IsMemoryEnd : Asset → (listen : ℕ) → (created same : Type 0) �
 IsMemoryEnd asset listen created same es =
     ((es ≡ []) × same) ⊎ (((client : Endpoint) × (es ≡ met_at listen asset.endpoint client ∷ [])) × created)
 
--- how a relay ended that no fault stopped
+-- the end of a relay that no fault stopped
 abbrev pub EndsAs : Asset → (listen most : ℕ) → LogContents → List Entry → RelayDone → RelayEnd → Type 0
 EndsAs asset listen most log es done ends.Done = IsDone asset listen most log es done
 EndsAs asset listen most log es done ends.IdleEnd = IsIdleEnd asset listen most log es done
@@ -138,7 +138,7 @@ file_log old new = record {
   Begins = λ ls. IsFileTold old → IsPartly (concat ls) old new;
 }
 
--- at the Idle end the pair counted so many answers Idle
+-- the answers Idle that the pair counted at the Idle end
 abbrev pub IdlesRoseAt : (most : ℕ) → (before now : ℕ) → RelayEnd → Type 0
 IdlesRoseAt most before now ends.Done = Unit {0}
 IdlesRoseAt most before now ends.IdleEnd = RoseBy most before now

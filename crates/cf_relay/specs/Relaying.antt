@@ -100,11 +100,11 @@ pub record IsSound (asset : Asset) (most : ℕ) (now : RelayingValue) : Type 0 w
       (length now.client_rest + length now.controller_rest) ≤ now.client_letters + now.controller_letters
   pub few : now.idle < most
 
--- how many letters were taken of both sides and how many bytes were given to both
+-- the letters that were taken of both sides and the bytes that were given to both
 abbrev pub moved : RelayingValue → ℕ
 moved now = now.client_letters + now.controller_letters + (now.to_client.acked + now.to_controller.acked)
 
--- it rises with each answer of a turn: with a letter that moves, or with an answer Idle where none does
+-- the progress of a relay, which rises with each answer of a turn: with a letter that moves, or with an answer Idle where none does
 abbrev pub progress : (most : ℕ) → RelayingValue → ℕ
 progress most now = moved now * most + now.idle
 

@@ -5,16 +5,16 @@ use Rattle.cf_view.specs.declared.Side.TheVariants as side
 use Rattle.cf_relay.specs.declared.sides.Sides.{Sides}
 use Rattle.cf_relay.specs.contracts.sides.Sides.{the_row}
 
--- that of a side
+-- the value of a side
 abbrev pub of_side : {T : Type 0} → Side → Sides T → T
 of_side side.Client both = both.client
 of_side side.Controller both = both.controller
 
--- with another in its place
+-- two values with another in the place of a side's
 abbrev pub with_side : {T : Type 0} → Side → Sides T → T → Sides T
 with_side side.Client both x = record both { client = x }
 with_side side.Controller both x = record both { controller = x }
 
--- once the borrow r ends, that of the side is what r shows last
+-- the value of a side as the borrow r of it shows last, once r ends
 abbrev pub LendsSide : (T : RattleType) → MutBor (Sides T.Denot) → Side → MutBor T.Denot → Fml
 LendsSide T both s r = Lends (the_row T) T both r (with_side s both.now)

@@ -25,7 +25,7 @@ pub record MayTakeNow (s : Side) (to_client to_controller : Queue) : Type 0 wher
   pub client : IsSmall to_client
   pub controller : IsSmall to_controller
 
--- how many letters of a side an answer brings
+-- the letters of a side that an answer brings
 abbrev pub letters_brought : (moment : ℕ) → Side → Entry → ℕ
 letters_brought moment s answer = letter_count (taken s (element_of moment answer))
 
@@ -84,7 +84,7 @@ StaysWhole (Err stop.Link) desk = desk.whole ≡ true
 StaysWhole (Err stop.Write) desk = Unit {0}
 StaysWhole (Err (stop.Cut reason)) desk = desk.whole ≡ true
 
--- by the limit on the streams: their numbers of letters, those taken of both sides and those of both queues
+-- the stop by the limit on the streams: their numbers of letters, those taken of both sides and those of both queues
 abbrev pub LimitBy : (client controller to_client to_controller : ℕ) → Result Unit Stop → Type 0
 LimitBy a b c d (Ok done) = limit_by LETTER_LIMIT a b c d ≡ None
 LimitBy a b c d (Err stop.Idle) = ⊥

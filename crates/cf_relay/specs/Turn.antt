@@ -81,7 +81,7 @@ pub record GivesQueued (s : Side) (queued : List ℕ) (answers : List Entry) : T
   pub took : TookPieces s queued pieces rest
   pub until : ((rest ≡ []) × (answers ≡ map (Took s) pieces)) ⊎ (HasBytes rest × (answers ≡ map (Took s) pieces ++ Idle s ∷ []))
 
--- the same, broken off where bytes are left
+-- answers that give what is queued, broken off where bytes are left
 pub record BeginsToGive (s : Side) (queued : List ℕ) (answers : List Entry) : Type 0 where
   pub pieces : List (List ℕ)
   pub rest : List ℕ
@@ -110,7 +110,7 @@ turn =
     Telling ∷ Taking side.Client ∷ Taking side.Controller ∷ Giving side.Controller ∷ Finishing side.Controller
     ∷ Giving side.Client ∷ Finishing side.Client ∷ []
 
--- so many turns
+-- the stages of so many turns
 abbrev pub turns : ℕ → List Stage
 turns zero = []
 turns (suc n) = turns n ++ turn

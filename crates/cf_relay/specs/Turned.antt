@@ -19,7 +19,7 @@ begun_list asset listen client moment answers = met_at listen asset.endpoint cli
 abbrev pub begun_lines : Asset → Endpoint → (moment : ℕ) → (base : Option (List (List ℕ))) → Option (List (List ℕ))
 begun_lines asset client moment base = with_lines base (line_about asset client moment Begun ∷ [])
 
--- it has made so many turns, and goes on
+-- a relay that has made so many turns, and goes on
 pub record HasTurned (asset : Asset) (listen most : ℕ) (client : Endpoint) (moment : ℕ) (base : Option (List (List ℕ)))
     (answers : List Entry) (now : RelayingValue) (own : Option (List (List ℕ))) : Type 0 where
   pub count : ℕ
@@ -27,7 +27,7 @@ pub record HasTurned (asset : Asset) (listen most : ℕ) (client : Endpoint) (mo
   pub stands : StandsFor asset (begun_lines asset client moment base) (begun_list asset listen client moment answers) now own
   pub few : now.idle < most
 
--- it stopped within a turn; a line that failed left a part after its own lines
+-- a relay that stopped within a turn; a line that failed left a part after its own lines
 pub record HasStopped (asset : Asset) (listen most : ℕ) (client : Endpoint) (moment : ℕ) (base : Option (List (List ℕ)))
     (answers : List Entry) (why : Stop) (now : RelayingValue) (own : Option (List (List ℕ))) (part : List ℕ) : Type 0 where
   pub count : ℕ

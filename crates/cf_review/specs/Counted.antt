@@ -8,7 +8,7 @@ use Rattle.cf_review.specs.declared.counting.Kind.{Kind}
 use Rattle.cf_review.specs.declared.counting.Kind.TheVariants as kind
 use Rattle.cf_review.specs.declared.reviewing.Reviewed.{Reviewed}
 
--- as what a refused command counts, by what decided
+-- the kind that a refused command counts as, by what decided
 abbrev pub kind_by : Decider → Kind
 kind_by (decider.Rule n) = kind.Rule
 kind_by (decider.Spent n) = kind.Rule
@@ -16,7 +16,7 @@ kind_by decider.Default = kind.Default
 kind_by decider.Station = kind.Station
 kind_by decider.Form = kind.Form
 
--- as what a remark counts
+-- the kind that a remark counts as
 abbrev pub kind_of : MatterValue → Kind
 kind_of (Refused refusal octets) = kind_by refusal.decider
 kind_of (Stray because) = kind.Stray
@@ -39,7 +39,7 @@ kind_number kind.Midstream = 7
 abbrev pub is_kind : Kind → MatterValue → Bool
 is_kind k what = kind_number k == kind_number (kind_of what)
 
--- how many remarks count so
+-- the number of remarks that count so
 abbrev pub count_of : List RemarkValue → Kind → ℕ
 count_of remarks k = count_by (λ r. is_kind k r.what) remarks
 

@@ -42,7 +42,7 @@ pub record IsRising (f : FlowValue) : Type 0 where
   pub count : length f.born ≡ length f.bytes
   pub rises : IsNonDecreasingBy (λ n. n) f.born
 
--- so it is of the flows of each capture, and of the parts of them that are read
+-- the flows of each capture, and the parts of them that are read, have their bytes in the order of records
 abbrev pub BytesComeInOrder : Type 0
 BytesComeInOrder =
     (scope : Scope) (assets : List Asset) (newest : List Record) (flows read : List FlowValue)
@@ -53,7 +53,7 @@ BytesComeInOrder =
 abbrev pub BeginsWithSyn : FlowValue → Type 0
 BeginsWithSyn f = f.midstream ≡ None
 
--- of flows that begin with a SYN and are read so, the judge's objection is the first remark of a review
+-- the judge's objection to flows that begin with a SYN and are read so is the first remark of a review
 abbrev pub JudgeTellsTheFirst : Type 0
 JudgeTellsTheFirst =
     (assets : List Asset) (readings : List Reading) (told : List RemarkValue) → AreReadBy assets readings

@@ -16,7 +16,7 @@ pub record IsFirstUnit (protocol : Protocol) (bytes : List ℕ) (place : ℕ) : 
   pub here : UnitBegins protocol (drop place bytes)
   pub none_before : (earlier : ℕ) → earlier < place → UnitBegins protocol (drop earlier bytes) → ⊥
 
--- at no place of a text a unit begins
+-- a text at no place of which a unit begins
 abbrev pub HasNoUnit : Protocol → List ℕ → Type 0
 HasNoUnit protocol bytes = (place : ℕ) → UnitBegins protocol (drop place bytes) → ⊥
 
@@ -28,7 +28,7 @@ IsReadFrom protocol bytes place = IsFirstUnit protocol bytes place ⊎ ((place �
 abbrev pub from_place : (place : ℕ) → FlowValue → FlowValue
 from_place place f = record f { bytes = drop place f.bytes; born = drop place f.born }
 
--- by the record with which a flow begins amid its stream, if it does
+-- the part of a flow that is read, by the record with which the flow begins amid its stream, if it does
 abbrev pub IsReadPartBy : Protocol → (midstream : Option ℕ) → (f read : FlowValue) → Type 0
 IsReadPartBy protocol None f read = read ≡ f
 IsReadPartBy protocol (Some number) f read = (place : ℕ) × IsReadFrom protocol f.bytes place × (read ≡ from_place place f)
@@ -37,7 +37,7 @@ IsReadPartBy protocol (Some number) f read = (place : ℕ) × IsReadFrom protoco
 abbrev pub IsReadPart : Protocol → (f read : FlowValue) → Type 0
 IsReadPart protocol f read = IsReadPartBy protocol f.midstream f read
 
--- that of a flow to the asset at its place
+-- the part that is read of a flow to the asset at its place
 abbrev pub IsReadPartAt : Option Asset → (f read : FlowValue) → Type 0
 IsReadPartAt None f read = ⊥
 IsReadPartAt (Some asset) f read = IsReadPart asset.protocol f read

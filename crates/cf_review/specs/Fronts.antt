@@ -26,7 +26,7 @@ AreTold asset carried from bytes (j ∷ js) ending =
     (unit : UnitValue) × (n : ℕ) × Begins (SpellsUnit asset.protocol) bytes unit n × (0 < n) × (j.item ≡ Took side.Client unit)
     × IsBornWith carried (from + n - 1) j.moment × AreTold asset carried (from + n) (drop n bytes) js ending
 
--- so it is of each flow of a capture, from where it is read on
+-- the remarks on each flow of a capture, from where it is read on, come in the order of records
 abbrev pub RecordsComeFirst : Type 0
 RecordsComeFirst =
     (asset : Asset) (w : Watched) (f read : FlowValue) (js : List Judged) (ending : Ending) → IsFlowOf w f

@@ -42,7 +42,7 @@ remark_line assets stamps r = line_by (slice_get assets r.asset) stamps r
 abbrev pub review_text : List Asset → (stamps : List ℕ) → List RemarkValue → List ℕ
 review_text assets stamps remarks = flat_map (remark_line assets stamps) remarks
 
--- of bytes that wait the first were moved to the end of a file, and these are left
+-- a file to whose end the first of the bytes that wait were moved, and the bytes that are left
 pub record MovesOn (waiting left : List ℕ) (old new : Content) : Type 0 where
   pub front : List ℕ
   pub parts : waiting ≡ front ++ left

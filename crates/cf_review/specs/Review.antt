@@ -51,12 +51,12 @@ abbrev pub conflict_remarks : FlowValue → Option ConflictOf → List RemarkVal
 conflict_remarks f None = []
 conflict_remarks f (Some c) = remark_on f c.at_record (Conflict c.position) ∷ []
 
--- that on a flow that begins amid its stream, if it does
+-- the remark on a flow that begins amid its stream, if it does
 abbrev pub midstream_remarks : FlowValue → Option ℕ → List RemarkValue
 midstream_remarks f None = []
 midstream_remarks f (Some number) = remark_on f number Midstream ∷ []
 
--- those on a flow whose bytes are these units and this ending
+-- the remarks on a flow whose bytes are these units and this ending
 abbrev pub flow_remarks : Asset → FlowValue → List Judged → Ending → List RemarkValue
 flow_remarks asset f js ending =
     midstream_remarks f f.midstream ++ (conflict_remarks f f.conflict ++ (in_turn (unit_remarks asset f) [] js ++ end_remarks f ending))
@@ -79,12 +79,12 @@ pub record AddsReview (asset : Asset) (f : FlowValue) (old new : List RemarkValu
   pub admitted_is : admitted ≡ admitted_in judged
   pub remarks : new ≡ old ++ flow_remarks asset read judged ending
 
--- those on a flow to the asset at its place
+-- the remarks on a flow to the asset at its place
 abbrev pub remarks_by : Option Asset → Reading → List RemarkValue
 remarks_by None r = []
 remarks_by (Some asset) r = flow_remarks asset r.flow r.judged r.ending
 
--- those on all flows, one after the other
+-- the remarks on all flows, one after the other
 abbrev pub remarks_on : List Asset → List Reading → List RemarkValue
 remarks_on assets readings = flat_map (λ r. remarks_by (slice_get assets r.flow.asset) r) readings
 
@@ -92,7 +92,7 @@ remarks_on assets readings = flat_map (λ r. remarks_by (slice_get assets r.flow
 abbrev pub is_at : (record_number : ℕ) → RemarkValue → Bool
 is_at number r = r.at_record == number
 
--- these are told in the order of their records: of each record all, and each as often and in the order in which it stood
+-- remarks told in the order of their records: of each record all, and each as often and in the order in which it stood
 pub record AreInOrder (all told : List RemarkValue) : Type 0 where
   pub rising : IsNonDecreasingBy (λ r. r.at_record) told
   pub of_each : (number : ℕ) → filter (is_at number) told ≡ filter (is_at number) all

@@ -16,7 +16,7 @@ begins_with_syn w = is_none w.midstream
 abbrev pub HasNoTag : Record → Type 0
 HasNoTag r = untagged r.link r.body ≡ r.body
 
--- in a capture without tags, in their order
+-- the flows of a capture without tags that begin with a SYN, in their order
 abbrev pub SynFlowsAreWatched : Type 0
 SynFlowsAreWatched =
     (assets : List Asset) (newest : List Record) → AllByRecursion HasNoTag newest →

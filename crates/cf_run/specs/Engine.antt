@@ -26,7 +26,7 @@ abbrev pub AreSound : List Asset → (limit : ℕ) → List Entry → Type 0
 AreSound assets limit [] = Unit {0}
 AreSound assets limit (entry ∷ table) = IsSoundEntry assets limit entry × AreSound assets limit table
 
--- none of these sessions is due before a moment
+-- sessions of which none is due before a moment
 abbrev pub AreDueFrom : (moment : ℕ) → List Entry → Type 0
 AreDueFrom moment table = All (λ entry. moment ≤ entry.due) table
 
@@ -78,7 +78,7 @@ pub record TickAll (assets : List Asset) (tick : ℕ) (table : List Session) (en
   pub told : new ≡ with_both old (flat_map sent_first ticks) (logged_ticks (kept tick table) ticks)
   pub cuts_is : cuts ≡ count_by (λ t. is_cut t.cut) ticks
 
--- the same of the first sessions alone: those in memory before this place are what became of them
+-- a tick of the first sessions alone: those in memory before this place are what became of them
 pub record TickSome (assets : List Asset) (tick : ℕ) (table : List Session) (entries : List Entry) (place : ℕ) (old new : Told) (cuts : ℕ) :
     Type 0 where
   pub done : List Session

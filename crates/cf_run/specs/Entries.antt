@@ -23,7 +23,7 @@ stays_by life.Closed = true
 stays_by life.Expired = false
 stays_by (life.Cut because) = false
 
--- its call cut it
+-- a session that its call cut
 abbrev pub cuts_by : Life → Bool
 cuts_by (life.Cut because) = true
 cuts_by life.Live = false
@@ -53,7 +53,7 @@ abbrev pub without_at : List Entry → (closed : Option ℕ) → List Entry
 without_at table None = table
 without_at table (Some place) = remove table place
 
--- how many they are
+-- the number of the others
 abbrev pub others : (sessions : ℕ) → (closed : Option ℕ) → ℕ
 others sessions None = sessions
 others sessions (Some place) = sessions - 1

@@ -12,7 +12,7 @@ RecordsFixEvents =
     → inputs_of events ≡ inputs_of others →
     events ≡ others
 
--- so two runs of one policy over the same records have the same output file, the same log and the same counts
+-- two runs of one policy over the same records have the same output file, the same log and the same counts
 abbrev pub RecordsFixRuns : Type 0
 RecordsFixRuns =
     (assets : List Asset) (limit : ℕ) (given : List Input) (out other_out log other_log : List ℕ) (summary other_summary : Summary) →

@@ -56,14 +56,14 @@ abbrev pub BeginsSession : List Asset → List Session → Result PacketValue Pa
 BeginsSession assets table (Err refusal) = ⊥
 BeginsSession assets table (Ok packet) = (flow : Flow) × (match_of assets table packet ≡ Begins flow)
 
--- that first half, where the packet after it begins a session
+-- the first half where the packet after it begins a session
 pub record IsHalfBeforeBeginning (assets : List Asset) (before : List Session) (input : Input) (half : Half) : Type 0 where
   pub ticks : List SessionEvent
   pub are : AreTicks (tick_of input) (kept (tick_of input) before) ticks
   pub is : half ≡ first_half (tick_of input) before ticks
   pub begins : BeginsSession assets (ticked ticks (tick_of input) before) input.packet
 
--- there is an event with the record that is right after this table
+-- the second half: there is an event with the record that is right after this table
 abbrev pub IsSecondHalf : List Asset → (limit : ℕ) → List Session → Input → Half → Type 0
 IsSecondHalf assets limit before input half = (event : RunEvent) × (event.input ≡ input) × IsRunEvent assets limit before event
     × (half ≡ second_half before event)

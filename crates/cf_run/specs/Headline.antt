@@ -43,7 +43,8 @@ pub record SendsUpToTheEdge (session : Session) : Type 0 where
   pub to_controller : IsSentUpTo (controller_ends session.flow).role (controllers session.events) (work_of session.events).to_controller
   pub to_client : IsSentUpTo (client_ends session.flow).role (clients session.events) (work_of session.events).to_client
 
--- so it is whatever copies of letters it takes of all segments that went to it; and no rule let more through than its rate
+-- the headline of one session: whatever copies of letters it takes of all segments that went to it; and no rule let more through than its
+-- rate
 pub record IsFaithful (session : Session) : Type 0 where
   pub judged : List Judged
   pub is_judged : IsJudged session judged
@@ -53,7 +54,7 @@ pub record IsFaithful (session : Session) : Type 0 where
       (taken : List Letter) → IsReassembly (parts_of (controller_ends session.flow).role (controllers session.events)) taken →
       Decodes session judged taken
 
--- so it is after each event of a run, of those in the table and those that left it
+-- the headline of a run: after each of its events, of the sessions in the table and those that left it
 abbrev pub HasHeadline : List RunEvent → Type 0
 HasHeadline [] = Unit {0}
 HasHeadline (event ∷ earlier) = Each IsFaithful (sessions_of (event ∷ earlier)) × HasHeadline earlier

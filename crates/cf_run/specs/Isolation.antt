@@ -54,7 +54,7 @@ begins_theirs client asset _ = false
 
 -- ---- what their session sends and logs in an event after the one in which it began
 
--- its first half, among those of all sessions
+-- the first half of a session, among those of all sessions
 abbrev pub ticks_of : (client asset : Endpoint) → (table : List Session) → (ticks : List SessionEvent) → List SessionEvent
 ticks_of client asset [] ticks = []
 ticks_of client asset (session ∷ table) [] = []
@@ -66,13 +66,13 @@ abbrev pub goes_to_theirs : (client asset : Endpoint) → List Session → Recei
 goes_to_theirs client asset table (Went place event) = is_theirs client asset (slice_get table place)
 goes_to_theirs client asset table _ = false
 
--- its output records, each with its moment
+-- the output records of a session, each with its moment
 abbrev pub sent_by : (client asset : Endpoint) → (before : List Session) → RunEvent → List Sent
 sent_by client asset before event =
     flat_map sent_first (ticks_of client asset (kept (tick_of event.input) before) event.ticks)
     ++ (if goes_to_theirs client asset (found before event) event.received then sent_received event.received else [])
 
--- its lines of the log
+-- the lines of a session in the log
 abbrev pub logged_by : (client asset : Endpoint) → (before : List Session) → RunEvent → List (List ℕ)
 logged_by client asset before event =
     logged_ticks (filter (is_between client asset) (kept (tick_of event.input) before))
@@ -81,12 +81,12 @@ logged_by client asset before event =
 
 -- ---- a session of a run, over the events that are considered
 
--- none of these events begins a session of theirs
+-- events of which none begins a session of theirs
 abbrev pub NoneBegins : (client asset : Endpoint) → List RunEvent → Type 0
 NoneBegins client asset [] = Unit {0}
 NoneBegins client asset (event ∷ earlier) = (begins_theirs client asset event.received ≡ false) × NoneBegins client asset earlier
 
--- in one of the events a session of this flow begins: of its asset and client, by its SYN. The events from that one on are considered
+-- a session of this flow that begins in one of the events: of its asset and client, by its SYN. The events from that one on are considered
 -- up to any one, if no other session of that client and asset begins in those after it
 pub record HasSession (flow : Flow) (events : List RunEvent) : Type 0 where
   -- the events after those that are considered
@@ -123,7 +123,7 @@ session_logged flow has = logged_over (client_of flow) flow.asset.endpoint has.f
 
 -- ---- two runs
 
--- at each of the events after the beginning the same packet is matched to both sessions, or none to either
+-- the same packet is matched to both sessions at each of the events after the beginning, or none to either
 abbrev pub AreMatched : List Asset → (client asset : Endpoint) → (here there : List RunEvent) → (events others : List RunEvent) → Type 0
 AreMatched assets client asset here there [] [] = Unit {0}
 AreMatched assets client asset here there [] (other ∷ others) = ⊥
@@ -133,7 +133,7 @@ AreMatched assets client asset here there (event ∷ events) (other ∷ others) 
     other)
     × AreMatched assets client asset here there events others
 
--- in each event after their beginning both sessions are matched the same packet, or none
+-- the same packet is matched to both sessions, or none, in each event after their beginning
 abbrev pub AreMatchedAlike : {events others : List RunEvent} → List Asset → (flow : Flow) → HasSession flow events → HasSession flow others
     → Type 0
 AreMatchedAlike assets flow one other =

@@ -38,7 +38,7 @@ abbrev pub AreTicked : (tick : ℕ) → List Session → Type 0
 AreTicked tick [] = Unit {0}
 AreTicked tick (session ∷ table) = HasTicked tick session.flow session.events × AreTicked tick table
 
--- how the counts have what became of a packet
+-- what became of a packet, as the counts have it
 abbrev pub IsOutcome : List Session → Outcome → Received → Type 0
 IsOutcome table outcome.Dropped Dropped = Unit {0}
 IsOutcome table outcome.Full NoRoom = Unit {0}
@@ -49,7 +49,7 @@ IsOutcome table (outcome.Went admitted refused cuts) (Went place event) =
     × (cuts ≡ one_if (is_cut event.cut))
 IsOutcome table _ _ = ⊥
 
--- how many sessions are in memory then
+-- the number of sessions in memory then
 abbrev pub IsSized : Outcome → (before after : ℕ) → Type 0
 IsSized outcome.Dropped before after = after ≡ before
 IsSized outcome.Full before after = after ≡ before

@@ -57,7 +57,7 @@ HasRunRecords untold form records last = Unit {0}
 HasRunRecords absent form records last = ⊥
 HasRunRecords (holds all) form records last = AreTimed form first_moment (first_place form) (drop (first_place form) all) records last
 
--- these are its first records
+-- the first records of a capture
 abbrev pub BeginsWithRecords : Content → Form → List Record → Type 0
 BeginsWithRecords file form records = (more : List Record) × (last : LastPlace) × HasRunRecords file form (records ++ more) last
 

@@ -20,13 +20,13 @@ abbrev pub session_at : List Session → Option ℕ → List Session
 session_at table None = []
 session_at table (Some place) = elim (slice_get table place) [ None ↦ [] | Some session ↦ session ∷ [] ]
 
--- those that leave the table as a packet comes: the closed one of a flow that begins anew, or one that is cut
+-- the sessions that leave the table as a packet comes: the closed one of a flow that begins anew, or one that is cut
 abbrev pub left_by_packet : Received → List Session → List Session
 left_by_packet (Begun flow event) table = session_at table (place_of (client_of flow) flow.asset.endpoint table)
 left_by_packet (Went place event) table = filter leaves (with_event_at place event table)
 left_by_packet _ table = []
 
--- those that leave it in an event: they have expired, are cut in its first half, or leave by the packet
+-- the sessions that leave it in an event: they have expired, are cut in its first half, or leave by the packet
 abbrev pub left_in : List Session → RunEvent → List Session
 left_in table event =
     filter (λ s. is_expired s.flow s.events (tick_of event.input)) table
@@ -52,7 +52,7 @@ HasEvents limit flow (event ∷ earlier) = AreSessionEvents flow limit (event �
 abbrev pub HasRightEvents : (limit : ℕ) → Session → Type 0
 HasRightEvents limit session = HasEvents limit session.flow session.events
 
--- so it is of each session of a list
+-- a fact of each session of a list
 abbrev pub Each : (Session → Type 0) → List Session → Type 0
 Each P [] = Unit {0}
 Each P (session ∷ table) = P session × Each P table

@@ -72,7 +72,7 @@ pub record IsEngineOf (assets : List Asset) (engine : EngineValue) (events : Lis
   pub all : AreAll assets engine.last engine.table (table_after events)
   pub counts : engine.summary ≡ summary_of events
 
--- it went on by one event
+-- a run that went on by one event
 pub record StepsOn (assets : List Asset) (now : ℕ) (packet : Result PacketValue PacketRefusal) (events : List RunEvent)
     (engine : EngineValue) (old new : Told) (event : RunEvent) :
     Type 0 where

@@ -12,7 +12,7 @@ abbrev pub work_before : Option Session → Work
 work_before None = no_work
 work_before (Some session) = work_of (behind session.events)
 
--- how many more commands of a kind the packet's session has after the event than before it
+-- the commands of a kind that the packet's session has more after the event than before it
 abbrev pub decided_in : (Work → ℕ) → List Session → Received → ℕ
 decided_in count table (Went place event) = count event.work - count (work_before (slice_get table place))
 decided_in count table _ = 0
@@ -48,7 +48,7 @@ abbrev pub was_cut : Received → Bool
 was_cut (Went place event) = is_cut event.cut
 was_cut _ = false
 
--- how many sessions an event cut, in both of its halves
+-- the number of sessions that an event cut, in both of its halves
 abbrev pub cuts_in : List Session → RunEvent → ℕ
 cuts_in before event = count_by (λ t. is_cut t.cut) event.ticks + one_if (was_cut event.received)
 

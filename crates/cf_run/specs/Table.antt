@@ -17,7 +17,7 @@ pub record Session : Type 0 where
   pub flow : Flow
   pub events : List SessionEvent
 
--- how many sessions a table has at most
+-- the sessions that a table has at most
 abbrev pub table_size : ℕ
 table_size = 256
 
@@ -33,7 +33,7 @@ place_of client asset table = position (is_between client asset) table
 abbrev pub without : (client asset : Endpoint) → List Session → List Session
 without client asset table = elim (place_of client asset table) [ Some place ↦ remove table place | None ↦ table ]
 
--- such a packet from an endpoint that is no asset's
+-- a packet that may begin a session: such a one from an endpoint that is no asset's
 abbrev pub may_begin : List Asset → PacketValue → Bool
 may_begin assets packet = is_opening packet && not (has_asset_at assets packet.source)
 
@@ -67,7 +67,7 @@ goes_from_client None controller = goes_from_controller controller
 abbrev pub goes : List Session → PacketValue → Match
 goes table packet = goes_from_client (place_of packet.source packet.dest table) (place_of packet.dest packet.source table)
 
--- it begins a session of a flow, where the table holds fewer than 256 others
+-- the beginning of a session of a flow, where the table holds fewer than 256 others
 abbrev pub begins_or_full : List Session → Flow → Match
 begins_or_full table flow =
     if nat_lt (length (without (client_of flow) flow.asset.endpoint table)) table_size then Begins flow else Full

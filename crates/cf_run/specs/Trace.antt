@@ -46,7 +46,7 @@ tick_of input = input.moment - 1
 
 -- ---- the table
 
--- there is a cut
+-- whether there is a cut
 abbrev pub is_cut : Option CutReason → Bool
 is_cut None = false
 is_cut (Some because) = true
@@ -110,7 +110,7 @@ abbrev pub GoesOnWith : (limit : ℕ) → Side → PacketValue → SessionEvent 
 GoesOnWith limit from packet event flow [] = ⊥
 GoesOnWith limit from packet event flow (half ∷ earlier) = IsPacket flow limit earlier half from packet event
 
--- so it is of the session at a place
+-- the session at a place goes on so
 abbrev pub GoesOnAt : (limit : ℕ) → Side → PacketValue → SessionEvent → Option Session → Type 0
 GoesOnAt limit from packet event None = ⊥
 GoesOnAt limit from packet event (Some session) = GoesOnWith limit from packet event session.flow session.events

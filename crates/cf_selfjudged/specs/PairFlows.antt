@@ -12,7 +12,7 @@ use Rattle.cf_watch.specs.Watched.{Watched, begins_anew, begun_by, with_packet}
 use Rattle.cf_selfjudged.specs.OneFlow.{Numbered, carried_on}
 use Rattle.cf_selfjudged.specs.Order.{SynsFirst}
 
--- it is from the one end for the other; where it has SYN, it is the session's SYN, and without ACK it has no letters
+-- a packet from the one end for the other; where it has SYN, it is the session's SYN, and without ACK it has no letters
 pub record GoesTo (flow : Flow) (p : PacketValue) : Type 0 where
   pub source : p.source ≡ flow.syn.source
   pub dest : p.dest ≡ flow.asset.endpoint

@@ -22,7 +22,7 @@ use Rattle.cf_watch.specs.FlowValue.{FlowValue}
 use Rattle.cf_watch.specs.Watch.{WatchesAs}
 use Rattle.cf_watch.specs.Watched.{watched}
 
--- whenever a run of a policy over records in time writes octets, every judgement of their flows under that policy has no objection: of the
+-- no judgement, under the policy of a run of records in time that writes octets, has an objection to the
 -- flows that are watched in the records of these octets, over the assets of the policy. A session is cut at no more than 2^30 letters
 abbrev pub RunsAreUnobjected : Type 0
 RunsAreUnobjected =
@@ -31,7 +31,7 @@ RunsAreUnobjected =
     (newest : List Record) → HasWrittenRecords out (reverse newest) → (flows : List FlowValue) → AreFlowsOf (watched assets newest) flows →
     (j : Judgement) → IsJudgementOf assets flows j → j.objection ≡ None
 
--- so it is of the flows that a watcher answers about a file that holds these octets
+-- no judgement has an objection to the flows that a watcher answers about a file that holds these octets
 abbrev pub WatchedRunsAreUnobjected : Type 0
 WatchedRunsAreUnobjected =
     (assets : List Asset) (limit : ℕ) (given : List Input) (out log : List ℕ) (summary : Summary) →

@@ -5,7 +5,7 @@ use Rattle.cf_session.specs.Session.{Flow, SessionEvent, controllers}
 use Rattle.cf_selfjudged.specs.OneFlow.{Numbered, packets_of}
 use Rattle.cf_selfjudged.specs.PairFlows.{IsSpoken, Spoken}
 
--- its packets with whatever numbers of records
+-- the packets of a flow with whatever numbers of records
 pub record SpeaksAs (flow : Flow) (events : List SessionEvent) (heard : List Numbered) : Type 0 where
   pub session : Spoken
   pub is_of : session.flow ≡ flow

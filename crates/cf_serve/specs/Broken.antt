@@ -23,7 +23,7 @@ use Rattle.cf_serve.specs.declared.door.Lobby.{Lobby}
 use Rattle.cf_serve.specs.declared.end.SessionEnd.{SessionEnd}
 use Rattle.cf_serve.specs.declared.table.Place.{Place}
 
--- of a line that failed the log has a beginning, behind its whole lines, or all of it
+-- a beginning of a line that failed, or all of it, which the log has behind its whole lines
 abbrev pub BeginsLine : (line : List ℕ) → (whole : List (List ℕ)) → (part : List ℕ) → Type 0
 BeginsLine line whole part = ((whole ≡ []) × ((some : ℕ) × (part ≡ take some line))) ⊎ ((whole ≡ line ∷ []) × (part ≡ []))
 
@@ -36,7 +36,7 @@ own_begun own part = record {
   Begins = λ all. (count some : ℕ) × (own ≡ take count all) × (part ≡ take some (concat (drop count all)));
 }
 
--- it was the last line of a session, which has all of its end but that
+-- a failed line that was the last one of a session, which has all of its end but that
 pub record LastLineFails (at : Listening) (most : ℕ) (client : Endpoint) (es : List Entry) (own : List (List ℕ)) (part : List ℕ) : Type 0
   where
     pub end : SessionEnd
@@ -52,7 +52,7 @@ abbrev pub FailsSo : Listening → (most : ℕ) → (client : Endpoint) → List
 FailsSo at most client es own part =
     LastLineFails at most client es own part ⊎ IsWriteEnd at.asset at.port most (own_begun own part) es
 
--- by its own answers and its own lines alone
+-- a client that failed by its own answers and its own lines alone
 abbrev pub IsFailedClient : List Listening → (most : ℕ) → List TurnOf → Seat → (part : List ℕ) → Type 0
 IsFailedClient places most past seat part =
     (at : Listening) → slice_get places seat.place ≡ Some at
@@ -152,7 +152,7 @@ Breaks places most told after log log' part =
     (entries : List LinksEntry) × ((lines : List (List ℕ)) × ((after ≡ option_map (λ es. es ++ entries) told)
     × ((log' ≡ with_lines log lines) × IsBroken places most entries lines part)))
 
--- so it is of a log that is gone on with; or that itself failed, and nothing was asked of the links
+-- a log that is gone on with; or one that itself failed, and nothing was asked of the links
 abbrev pub BreaksLog : List Place → (most : ℕ) → (told after : Option (List LinksEntry)) → (log log' : Content) → Type 0
 BreaksLog places most told after log log' =
     ((after ≡ told) × GoesOn log log' write.Failed)

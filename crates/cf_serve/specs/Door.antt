@@ -35,7 +35,7 @@ door_with door moment address =
     if is_due door moment address then record { last = Some (record { moment = moment; address = address }); since = 0 }
     else record { last = door.last; since = counted door.since }
 
--- its line, where it has one
+-- the line about a stranger, where it has one
 abbrev pub stranger_line : Listening → Door → Endpoint → (moment : ℕ) → List (List ℕ)
 stranger_line at door client moment =
     if is_due door moment client.address then line_about at.asset client moment (Stranger (counted door.since)) ∷ [] else []

@@ -27,7 +27,7 @@ was_relayed end.Unreached = false
 was_relayed end.Gone = false
 was_relayed end.NoMemory = false
 
--- it stands, or it ended and was a relay
+-- sessions that stand, or ended and were a relay
 abbrev pub AreRelayed : List SessionEnd → Type 0
 AreRelayed [] = Unit {0}
 AreRelayed (end ∷ ends) = was_relayed end ≡ true

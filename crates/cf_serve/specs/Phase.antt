@@ -102,7 +102,7 @@ IsSoundBegun at most reached.Waiting = Unit {0}
 IsSoundBegun at most (reached.Begun linked) = MayTurn at most (Some (linked_value linked))
 IsSoundBegun at most (reached.Ended end) = Unit {0}
 
--- how a session ends by what its relay answered, where that is no failed write
+-- the end of a session by what its relay answered, where that is no failed write
 abbrev pub end_of : Result Unit Stop → (closed : Bool) → Option SessionEnd
 end_of (Ok done) true = Some end.Closed
 end_of (Ok done) false = None

@@ -67,7 +67,7 @@ taken_of arrivals = flat_map taken_by arrivals
 abbrev pub round_entries : Round → List LinksEntry
 round_entries r = Woke r.moment ∷ (flat_map arrival_entries r.arrivals ++ flat_map turn_entries r.turns)
 
--- and its lines
+-- the lines of a round
 abbrev pub round_lines : Round → List (List ℕ)
 round_lines r = flat_map (λ (a : Arrival). a.lines) r.arrivals ++ flat_map (λ (t : TurnOf). t.lines) r.turns
 
@@ -79,7 +79,7 @@ turns_of rounds = flat_map (λ (r : Round). r.turns) rounds
 abbrev pub part : {A : Type 0} → (TurnOf → List A) → (session : ℕ) → List TurnOf → List A
 part of session past = flat_map (λ (t : TurnOf). if t.seat.session == session then of t else []) past
 
--- its answers, its lines, and its ends, of which there is one at most
+-- the answers of a session, its lines, and its ends, of which there is one at most
 abbrev pub answers_in : (session : ℕ) → List TurnOf → List Entry
 answers_in session past = part (λ (t : TurnOf). t.answers) session past
 
@@ -97,14 +97,14 @@ abbrev pub AreTurns : List TurnOf → Type 0
 AreTurns [] = Unit {0}
 AreTurns (t ∷ ts) = IsTurn t × AreTurns ts
 
--- how many of them are of a listening place
+-- 1 for a session of the listening place, and 0 for another
 abbrev pub is_of : (place : ℕ) → Seat → ℕ
 is_of place seat = if seat.place == place then 1 else 0
 
 abbrev pub count_of : (place : ℕ) → List Seat → ℕ
 count_of place standing = sum_by (is_of place) standing
 
--- there is a place for one more client: fewer than 256 sessions stand, and fewer than 32 of that listening place
+-- whether there is a place for one more client: fewer than 256 sessions stand, and fewer than 32 of that listening place
 abbrev pub has_place : List Seat → (place : ℕ) → Bool
 has_place standing place = nat_lt (length standing) 256 && nat_lt (count_of place standing) 32
 
@@ -144,7 +144,7 @@ pub record IsArrival (places : List Listening) (moment from : ℕ) (lobby : Lobb
   pub by_rules : a.named ≡ is_named at.asset a.seat.client.address
   pub own_lines : a.lines ≡ arrival_lines at lobby.door moment standing a
 
--- from a listening place on, each at its own
+-- arrivals from a listening place on, each at its own
 abbrev pub AreArrivals : List Listening → (moment : ℕ) → (from : ℕ) → (lobby : Lobby) → (standing : List Seat) → List Arrival → Type 0
 AreArrivals places moment from lobby standing [] = Unit {0}
 AreArrivals places moment from lobby standing (a ∷ more) =

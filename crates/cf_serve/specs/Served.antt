@@ -19,7 +19,7 @@ abbrev pub opened_from : (place : ℕ) → (moments : List ℕ) → List LinksEn
 opened_from place [] = []
 opened_from place (moment ∷ moments) = Opened place moment ∷ opened_from (place + 1) moments
 
--- and their lines
+-- the lines of listening places
 abbrev pub listen_lines : List Place → (moments : List ℕ) → List (List ℕ)
 listen_lines [] moments = []
 listen_lines (place ∷ places) [] = []
@@ -64,7 +64,7 @@ pub record OpensDo (places : List Place) (count : ℕ) (told told_after : Option
   pub tells : told_after ≡ option_map (λ entries. entries ++ opened_from 0 moments) told
   pub added : log_after ≡ with_lines log (listen_lines places moments)
 
--- after how many rounds a service answers so: after all that there are numbers for, or before the last of them is whole
+-- the rounds after which a service answers so: after all that there are numbers for, or before the last of them is whole
 abbrev pub HasMade : Result Unit ServeFault → (made : ℕ) → Type 0
 HasMade (Ok done) made = made ≡ 2 ^ 64 - 1
 HasMade (Err fault) made = made < 2 ^ 64 - 1

@@ -30,7 +30,7 @@ lost_line asset es admitted refused = line_about asset (client_of es) (moment_of
 abbrev pub own_log : (own : List (List ℕ)) → LogContents
 own_log own = record { Holds = λ all. own ≡ all; Begins = λ all. all ≡ own }
 
--- they are these and one more
+-- lines that are these and one more
 abbrev pub with_last : (own : List (List ℕ)) → (last : List ℕ) → LogContents
 with_last own last = record { Holds = λ all. own ≡ all ++ last ∷ []; Begins = λ all. all ≡ own }
 
@@ -62,7 +62,7 @@ EndsSo at most client es own end.NoMemory =
     (met : Endpoint) × ((es ≡ met_at at.port at.asset.endpoint met ∷ [])
     × ((moment : ℕ) × (own ≡ line_about at.asset met moment NoMemory ∷ [])))
 
--- by its own answers and its own lines alone
+-- a session by its own answers and its own lines alone
 abbrev pub IsSession : Listening → (most : ℕ) → (client : Endpoint) → List Entry → (own : List (List ℕ)) → List SessionEnd → Type 0
 IsSession at most client es own [] = StandsSo at most es own
 IsSession at most client es own (end ∷ more) = (more ≡ []) × EndsSo at most client es own end

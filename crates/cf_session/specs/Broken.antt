@@ -16,7 +16,7 @@ use Rattle.cf_session.specs.Told.{emitted, told, with_both}
 abbrev pub octets_of : (SentValue → List ℕ) → List Sent → List ℕ
 octets_of octets sent = flat_map (λ s. octets (emitted s)) sent
 
--- after what stands whole there stands what stood there before, or a beginning of the octets that come next
+-- what stood there before, behind what stands whole, or a beginning of the octets that come next
 abbrev pub IsPartOf : (next was now : List ℕ) → Type 0
 IsPartOf next was now = (now ≡ was) ⊎ ((some : ℕ) × (now ≡ take some next))
 

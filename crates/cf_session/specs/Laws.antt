@@ -70,7 +70,7 @@ parts_of r (e ∷ es) =
     parts_of r es ++ (parts_in (own_number r es) (letters_sent r es) e.fired ++ parts_in (own_number r (e ∷ es)) (letters_sent_at r es e)
     (sent_in e))
 
--- one of the parts has this letter at this place
+-- a letter that one of the parts has at this place
 pub record HasLetter (parts : List Part) (place : ℕ) (letter : Letter) : Type 0 where
   pub index : ℕ
   pub part : Part
@@ -92,12 +92,12 @@ pub record IsFront (whole : Stream) (taken : List Letter) : Type 0 where
   pub more : List Letter
   pub is : letters whole ≡ taken ++ more
 
--- none of the events cut the session
+-- events of which none cuts the session
 abbrev pub AreUncut : List SessionEvent → Type 0
 AreUncut [] = Unit {0}
 AreUncut (event ∷ earlier) = (event.cut ≡ None) × AreUncut earlier
 
--- none but perhaps the newest
+-- events of which none but perhaps the newest cuts the session
 abbrev pub AreUncutBefore : List SessionEvent → Type 0
 AreUncutBefore [] = Unit {0}
 AreUncutBefore (event ∷ earlier) = AreUncut earlier
@@ -108,14 +108,14 @@ pub record CarriesOneStream (role : Role) (events : List LegEvent) (whole : Stre
   pub goes_on : Extends said whole
   pub one : IsOneStream said role events
 
--- so it is towards the controller, and towards the client, of every session
+-- the segments of every session towards the controller carry one stream, and those towards the client too
 abbrev pub SegmentsCarryOneStream : Type 0
 SegmentsCarryOneStream =
     (flow : Flow) (limit : ℕ) (events : List SessionEvent) → limit ≤ 2 ^ 30 → AreEvents flow limit events → AreUncutBefore events →
     CarriesOneStream (controller_ends flow).role (controllers events) (work_of events).to_controller
     × CarriesOneStream (client_ends flow).role (clients events) (work_of events).to_client
 
--- so what either side puts together is a front of the stream to it
+-- what either side puts together is a front of the stream to it
 abbrev pub HasOneStream : Type 0
 HasOneStream =
     (flow : Flow) (limit : ℕ) (events : List SessionEvent) (taken : List Letter) → limit ≤ 2 ^ 30 → AreEvents flow limit events

@@ -17,7 +17,7 @@ pub record Sent : Type 0 where
 abbrev pub at : (now : ℕ) → List PacketValue → List Sent
 at now packets = map (λ p. record { moment = now; packet = p }) packets
 
--- nothing came in the event: it has its first half alone, in which a cut of it then falls
+-- an event in which nothing came: it has its first half alone, in which a cut of it then falls
 abbrev pub is_first_half : SessionEvent → Bool
 is_first_half event = is_idle event.controller.came && is_idle event.client.came
 
@@ -31,7 +31,7 @@ early first event = event.fired ++ (if first then said_by event.ending else [])
 abbrev pub late : (first : Bool) → LegEvent → List PacketValue
 late first event = greeted_by event.came ++ (if first then [] else said_by event.ending)
 
--- in each half the controller's segments stand before the client's
+-- the segments of each half, of which the controller's stand before the client's
 abbrev pub sent_first : SessionEvent → List Sent
 sent_first event = at event.client.tick (early (is_first_half event) event.controller ++ early (is_first_half event) event.client)
 

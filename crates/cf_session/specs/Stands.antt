@@ -121,7 +121,7 @@ expiry_of (Some moment) = min (moment + 60000000) (2 ^ 64 - 1)
 abbrev pub due_of : SessionValue → ℕ
 due_of s = min (expiry_of s.closed) (min (leg_due s.controller) (leg_due s.client))
 
--- before it is due the first half of an event sends and logs nothing, and the session as it is stands for the longer list of events
+-- the first half of an event before it is due sends and logs nothing, and the session as it is stands for the longer list of events
 abbrev pub AreQuietBeforeDue : Type 0
 AreQuietBeforeDue =
     (flow : Flow) (earlier : List SessionEvent) (event : SessionEvent) (s : SessionValue) (now : ℕ) (desk : Told)

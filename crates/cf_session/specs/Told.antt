@@ -19,6 +19,6 @@ emitted sent = record { moment = sent.moment; bytes = spelled sent.packet }
 abbrev pub with_more : {A : Type 0} → Option (List A) → List A → Option (List A)
 with_more told more = option_map (λ all. all ++ more) told
 
--- with more packets and more lines
+-- what is told, with more packets and more lines
 abbrev pub with_both : Told → List Sent → (lines : List (List ℕ)) → Told
 with_both t sent lines = record { packets = with_more t.packets (map emitted sent); lines = with_more t.lines lines }

@@ -111,7 +111,7 @@ pub record HandsOver (s : Side) (old new : Window) (lane lane' : LaneValue) (c c
 
 -- ---- a packet is heard
 
--- there is room for what a packet of a side may bring, whatever came before
+-- room for what a packet of a side may bring, whatever came before
 pub record MayHear (s : Side) (leg : LegValue) (lane : LaneValue) (c k : Queue) : Type 0 where
   pub base : base_of leg.window ≤ 2 ^ 30 + window_size
   pub is_open : leg.window.ended ≡ false → (other_queue s c k).ended ≡ false
@@ -240,7 +240,7 @@ pub record IsSteady (s : SessionValue) (cut : Option CutReason) : Type 0 where
 
 -- ---- both legs speak
 
--- in both directions at most 16,384 letters are not acknowledged
+-- whether in both directions at most 16,384 letters are not acknowledged
 abbrev pub is_roomy : SessionValue → Bool
 is_roomy s = is_small s.to_client && is_small s.to_controller
 
@@ -253,7 +253,7 @@ abbrev pub greetings : Flow → (number : Option ℕ) → List PacketValue
 greetings flow None = []
 greetings flow (Some number) = syn_ack_for (client_ends flow) flow.syn.seq number ∷ []
 
--- it may be greeted: it was not yet, and nothing came from it in the event
+-- a leg that may be greeted: it was not yet, and nothing came from it in the event
 abbrev pub MayGreet : (number : Option ℕ) → LegEvent → List LegEvent → Type 0
 MayGreet None event earlier = Unit {0}
 MayGreet (Some number) event earlier = (event.came ≡ Nothing) × (is_greeted earlier ≡ false)
@@ -286,7 +286,7 @@ pub record SaysBoth (flow : Flow) (now : ℕ) (number : Option ℕ) (controller 
       (record client { came = came_greeted flow number client.came; ending = Spoke to_client roomy outs_d } ∷ clients)
   pub told : new ≡ with_both old (at now (outs_c ++ (greetings flow number ++ outs_d))) []
 
--- nothing else of the session changed: of the windows the edges, of the queues what was sent
+-- a session of which only these changed: of the windows the edges, of the queues what was sent
 pub record OnlySpeaks (old new : SessionValue) : Type 0 where
   pub client_window : new.client.window ≡ record old.client.window { edge = new.client.window.edge }
   pub controller_window : new.controller.window ≡ record old.controller.window { edge = new.controller.window.edge }
@@ -340,7 +340,7 @@ pub record HearingAmid (s : Side) (ends : Ends) (asset : Asset) (client : Endpoi
   pub unended : ended_of s earlier ≡ true → letter_count letters ≡ 0
   pub follows : FollowsAmid asset client now s earlier before letters old new
 
--- the same for a session
+-- a packet that a session heard and amid which the desk failed
 pub record HeardAmid (flow : Flow) (earlier : List SessionEvent) (half : SessionEvent) (from : Side) (packet : PacketValue)
     (old new : DeskValue) : Type 0 where
   pub letters : Stream

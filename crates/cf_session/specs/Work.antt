@@ -29,7 +29,7 @@ pub record Work : Type 0 where
   -- why the first item that cuts does so
   pub cut : Option CutReason
 
--- nothing was taken, and nothing made of it
+-- the work of which nothing was taken, and nothing made
 abbrev pub no_work : Work
 no_work = record { to_client = no_letters; to_controller = no_letters; log = []; admitted = 0; refused = 0; cut = None }
 

@@ -2,7 +2,7 @@
 use Rattle.std.specs.Prelude.{◌≢◌, ℕ, List, [], ◌∷◌}
 use Rattle.cf_sift.specs.declared.names.SiftNames.{SiftNames}
 
--- where the stream is read, and the three outputs
+-- the names of the stream that is read, and of the three outputs
 pub record SiftNamesValue : Type 0 where
   pub stream : List ℕ
   pub out : List ℕ

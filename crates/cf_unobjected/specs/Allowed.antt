@@ -88,12 +88,12 @@ pub record IsAllowedFlow (assets : List Asset) (newest : List Record) (place : �
   pub here : slice_get assets w.asset ≡ Some asset
   pub decodes : DecodesToAllowed asset w.client.address whole.bytes
 
--- so it is of each flow that is watched in the records of a capture
+-- each flow that is watched in the records of a capture is allowed so
 abbrev pub AreAllowedFlows : List Asset → (newest : List Record) → Type 0
 AreAllowedFlows assets newest =
     (place : ℕ) (w : Watched) → slice_get (watched assets newest) place ≡ Some w → IsAllowedFlow assets newest place w
 
--- so it is where a judge objects to nothing in them
+-- flows to which a judge objects in nothing are allowed so
 abbrev pub UnobjectedAreAllowed : Type 0
 UnobjectedAreAllowed =
     (assets : List Asset) (newest : List Record) (j : Judgement) → IsJudgementOfRecords assets newest j → j.objection ≡ None →

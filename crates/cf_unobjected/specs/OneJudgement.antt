@@ -31,7 +31,7 @@ abbrev pub JudgementsAreOne : Type 0
 JudgementsAreOne =
     (assets : List Asset) (flows : List FlowValue) (j k : Judgement) → IsJudgementOf assets flows j → IsJudgementOf assets flows k → j ≡ k
 
--- so two judgements of the records of a capture are
+-- two judgements of the records of a capture are one
 abbrev pub RecordsHaveOneJudgement : Type 0
 RecordsHaveOneJudgement =
     (assets : List Asset) (newest : List Record) (j k : Judgement) → IsJudgementOfRecords assets newest j →

@@ -16,9 +16,9 @@ use Rattle.cf_lane.specs.declared.fate.Admission.{Admission}
 use Rattle.cf_lane.specs.declared.fate.Fate.TheVariants as fate
 use Rattle.cf_view.specs.declared.Side.TheVariants as side
 
--- by the verdict on each act, whatever rule was spent: an ADU is an admitted command; a frame is a served link status frame; an APDU,
--- whatever its numbers, is carried or an admitted command; a fragment has two octets or more, at most 2,048, and is a confirmation or an
--- admitted command
+-- what is rightly passed by the verdict on each act, whatever rule was spent: an ADU is an admitted command; a frame is a served link
+-- status frame; an APDU, whatever its numbers, is carried or an admitted command; a fragment has two octets or more, at most 2,048, and
+-- is a confirmation or an admitted command
 abbrev pub IsRightlyPassed : Asset → (client : ℕ) → Passed → Type 0
 IsRightlyPassed asset client (Whole (Adu a)) = (used : Admission) × HasCommandFate asset (verdict_of asset client) a (fate.Admitted used)
 IsRightlyPassed asset client (Whole (Frame x)) = (stray_of asset side.Client x ≡ None) × (is_data x ≡ false)

@@ -21,7 +21,7 @@ FrontsAreJudged =
     (assets : List Asset) (newer older : List Record) (objection : Option Objection) → HasObjection assets (newer ++ older) objection
     → HasObjection assets older (within (length older) objection)
 
--- these records begin with a front that ends with the record of the objection and has this objection, and each shorter front has none
+-- a front of these records that ends with the record of the objection and has this objection, where each shorter front has none
 pub record IsOfShortestFront (assets : List Asset) (newest : List Record) (o : Objection) : Type 0 where
   pub newer : List Record
   pub front : List Record

@@ -42,7 +42,7 @@ copy_of carried p = first_copy (map offer_of carried) p
 abbrev pub HasBytes : List Carried → List ℕ → Type 0
 HasBytes carried bytes = (ended : _) × IsTaken (copy_of carried) (record { bytes = bytes; ended = ended })
 
--- with a packet of this record the bytes reached past a place, and before it they did not
+-- the record that bore a place: with a packet of it the bytes reached past the place, and before it they did not
 pub record IsBornWith (carried : List Carried) (place number : ℕ) : Type 0 where
   pub newer : List Carried
   pub one : Carried
@@ -56,7 +56,7 @@ pub record IsBornWith (carried : List Carried) (place number : ℕ) : Type 0 whe
   pub has_now : HasBytes (one ∷ older) now
   pub reached : place < length now
 
--- so it is of each byte
+-- bytes each of which came with its record
 pub record AreBorn (carried : List Carried) (bytes born : List ℕ) : Type 0 where
   pub count : length born ≡ length bytes
   pub each : (place number : ℕ) → slice_get born place ≡ Some number → IsBornWith carried place number

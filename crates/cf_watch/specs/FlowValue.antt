@@ -5,8 +5,8 @@ use Rattle.cf_view.specs.declared.Endpoint.{Endpoint}
 use Rattle.cf_watch.specs.declared.flow.Conflict.{Conflict}
 use Rattle.cf_watch.specs.declared.flow.Flow.{Flow}
 
--- its client, the place of its asset in the policy, the record with which it begins where that is amid its stream, its bytes, for each of
--- them the number of the record with which they reached it, and its first conflict
+-- a flow: its client, the place of its asset in the policy, the record with which it begins where that is amid its stream, its bytes,
+-- for each of them the number of the record with which they reached it, and its first conflict
 pub record FlowValue : Type 0 where
   pub client : Endpoint
   pub asset : ℕ
@@ -26,7 +26,7 @@ flow_value f = record {
       f.conflict;
 }
 
--- its asset is a place of the policy, and each byte came with a record
+-- a flow whose asset is a place of the policy, and each byte of which came with a record
 pub record IsForAsset (assets : List Asset) (f : FlowValue) : Type 0 where
   pub asset : f.asset < length assets
   pub born : length f.born ≡ length f.bytes

@@ -48,7 +48,7 @@ goes_from scope number asset packet None flows =
     ∷ [] else goes_at number asset packet None flows
 goes_from scope number asset packet (Some place) flows = goes_at number asset packet (Some place) flows
 
--- those after a packet, which may be to no asset
+-- the flows after a packet, which may be to no asset
 abbrev pub goes_to_asset : Scope → (number : ℕ) → PacketValue → (asset : Option ℕ) → List Watched → List Watched
 goes_to_asset scope number packet None flows = flows
 goes_to_asset scope number packet (Some asset) flows = goes_from scope number asset packet (last_place packet.source asset flows) flows

@@ -22,7 +22,7 @@ pub record IsHeard (f : Flow) (t : Trail) (w : Watched) : Type 0 where
   pub top : t.top ≡ top_of w.carried
   pub knows : (p : ℕ) → known f.bytes.items t.ahead p ≡ copy_of w.carried p
 
--- by client address, then port, then asset
+-- the order of flows: by client address, then port, then asset
 abbrev pub key_cmp : FlowKey → FlowKey → Ordering
 key_cmp a b = ordering_then (nat_cmp a.address b.address) (ordering_then (nat_cmp a.port b.port) (nat_cmp a.asset b.asset))
 
@@ -41,6 +41,6 @@ pub record AreHeard (records : ℕ) (flows : List Flow) (trails : List Trail) (l
 abbrev pub IsWatchOf : (records : ℕ) → Watch → List Watched → Type 0
 IsWatchOf records watch ws = AreHeard records watch.flows.items watch.trails.items watch.last ws
 
--- it is a watch of some flows
+-- a watch that has heard some flows
 abbrev pub HasHeard : (records : ℕ) → Watch → Type 0
 HasHeard records watch = (ws : List Watched) × IsWatchOf records watch ws

@@ -48,7 +48,7 @@ pub record IsRecordingFor (scope : Scope) (assets : List Asset) (file : Content)
   pub are_flows : AreFlowsOf (seen_by scope assets newest) flows
   pub are_stamps : stamps ≡ map (λ r. r.stamp) ends.records
 
--- those of a recording
+-- the flows of a recording
 abbrev pub IsRecordingOf : List Asset → Content → List FlowValue → (stamps : List ℕ) → Type 0
 IsRecordingOf assets file flows stamps = IsRecordingFor scope.Recording assets file flows stamps
 

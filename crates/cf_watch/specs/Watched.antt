@@ -25,7 +25,7 @@ pub record Watched : Type 0 where
 
 -- ---- one packet
 
--- where the text of a packet begins: a SYN has a number, and the text begins after it
+-- the place at which the text of a packet begins: a SYN has a number, and the text begins after it
 abbrev pub text_place : (origin top : ℕ) → PacketValue → ℤ
 text_place origin top packet = position_of packet.seq origin top +ℤ (if has_syn packet then pos 1 else pos 0)
 

@@ -78,7 +78,7 @@ output_files (Relay policy asset port idles log) = log ∷ []
 output_files (World seed sessions policy names) = policy ∷ names.capture ∷ names.out ∷ names.log ∷ []
 output_files (Sift policy asset client names) = names.out ∷ names.replies ∷ names.log ∷ []
 
--- it asks the pair of streams for something
+-- a command that asks the pair of streams for something
 abbrev pub AsksPair : Command → Type 0
 AsksPair (Relay policy asset port idles log) = Unit {0}
 AsksPair _ = ⊥

@@ -10,7 +10,7 @@ printed_number text =
     let n = digits_value 10 text in
     if nat_lt n (2 ^ 64) && bytes_eq text (decimal n) then Some n else None
 
--- that number, if it is from low to high
+-- the number of a text, if it is from low to high
 abbrev pub printed_number_in : ℕ → ℕ → List ℕ → Option ℕ
 printed_number_in low high text = option_and_then (λ n. if nat_le low n && nat_le n high then Some n else None) (printed_number text)
 

@@ -19,7 +19,7 @@ record_octets r = head_octets r.stamp (length r.body) ++ r.body
 abbrev pub records_octets : List Record → List ℕ
 records_octets rs = flat_map record_octets rs
 
--- it is read again, whatever follows
+-- a record that is read again, whatever follows
 abbrev pub IsReadAgain : Record → Type 0
 IsReadAgain r = (rest : List ℕ) → record_of output_header (record_octets r ++ rest) ≡ Whole r.stamp r.body (16 + length r.body)
 
@@ -32,7 +32,7 @@ pub record IsMade (r : Record) : Type 0 where
   pub packet : HasPacket r
   pub again : IsReadAgain r
 
--- so are these records, the first of which is stamped no earlier than a least moment, and each other one at least 2 milliseconds
+-- records that are made, of which the first is stamped no earlier than a least moment, and each other one at least 2 milliseconds
 -- later than the one before
 abbrev pub AreMade : (least : ℕ) → List Record → Type 0
 AreMade least [] = Unit {0}

@@ -22,7 +22,7 @@ pub record HoldsPolicy (before after : Content) : Type 0 where
   pub means : IsDocument text
   pub in_file : after ≡ content_after_write before text
 
--- it is as it was, or was created and holds a beginning of such a text
+-- a content that is as it was, or was created and holds a beginning of such a text
 pub record HoldsPolicyPart (before after : Content) : Type 0 where
   pub text : List ℕ
   pub means : IsDocument text
@@ -36,7 +36,7 @@ pub record HoldsCapture (sessions : ℕ) (before after : Content) : Type 0 where
   pub begins : length records < RECORD_LIMIT → BeginsEach sessions records
   pub in_file : after ≡ content_after_write before octets
 
--- it is as it was, or was created and holds a beginning of a capture
+-- a content that is as it was, or was created and holds a beginning of a capture
 pub record HoldsCapturePart (before after : Content) : Type 0 where
   pub octets : List ℕ
   pub records : List Record
