@@ -20,8 +20,8 @@ pub data WhatValue : Type 0 where
   Partial : Side → (count : ℕ) → WhatValue
   Close : (admitted refused : ℕ) → WhatValue
   Cut : CutReason → WhatValue
-  Listen Full Unreached Gone : WhatValue
-  Stranger : (came : ℕ) → WhatValue
+  Listen Unreached Gone : WhatValue
+  Away Stranger : (came : ℕ) → WhatValue
   Lost Silent : (admitted refused : ℕ) → WhatValue
   NoMemory : WhatValue
 
@@ -42,7 +42,7 @@ what_value (what.Partial side count) = Partial side count
 what_value (what.Close admitted refused) = Close admitted refused
 what_value (what.Cut reason) = Cut reason
 what_value what.Listen = Listen
-what_value what.Full = Full
+what_value (what.Away came) = Away came
 what_value what.Unreached = Unreached
 what_value what.Gone = Gone
 what_value (what.Stranger came) = Stranger came
@@ -63,7 +63,7 @@ HasShortRule (Partial side count) = Unit {0}
 HasShortRule (Close admitted refused) = Unit {0}
 HasShortRule (Cut reason) = Unit {0}
 HasShortRule Listen = Unit {0}
-HasShortRule Full = Unit {0}
+HasShortRule (Away came) = Unit {0}
 HasShortRule Unreached = Unit {0}
 HasShortRule Gone = Unit {0}
 HasShortRule (Stranger came) = Unit {0}

@@ -5,8 +5,8 @@ use Rattle.hex.specs.Hex.{encode_lower}
 use Rattle.cf_view.specs.Text.{endpoint_text, moment_text}
 use Rattle.cf_view.specs.declared.Act.{Act}
 use Rattle.cf_audit.specs.Line.{Admit}
-use Rattle.cf_audit.specs.Line.{LineValue, WhatValue, Begun, Refuse, Stray, Partial, Close, Cut, Listen, Full, Unreached, Lost, Silent}
-use Rattle.cf_audit.specs.Line.{Gone, NoMemory, Stranger}
+use Rattle.cf_audit.specs.Line.{LineValue, WhatValue, Begun, Refuse, Stray, Partial, Close, Cut, Listen, Unreached, Lost, Silent}
+use Rattle.cf_audit.specs.Line.{Away, Gone, NoMemory, Stranger}
 use Rattle.cf_audit.specs.Names.{side_name, reason_name, why_name, break_name, mark}
 use Rattle.cf_audit.specs.declared.line.CutReason.{CutReason}
 use Rattle.cf_audit.specs.declared.line.CutReason.TheVariants as cut
@@ -55,7 +55,7 @@ what_text (Partial side count) = codes "partial " ++ side_name side ++ codes " "
 what_text (Close admitted refused) = codes "close" ++ counts_text admitted refused
 what_text (Cut reason) = codes "cut " ++ cut_text reason
 what_text Listen = codes "listen"
-what_text Full = codes "full"
+what_text (Away came) = codes "away" ++ came_text came
 what_text Unreached = codes "unreached"
 what_text Gone = codes "gone"
 what_text (Stranger came) = codes "stranger" ++ came_text came

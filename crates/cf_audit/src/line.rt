@@ -94,8 +94,11 @@ pub enum What<'a> {
     Cut(CutReason),
     /// A service began to listen for an asset.
     Listen,
-    /// A client took the last place that its asset, or the service, had.
-    Full,
+    /// A client came where its asset, or the service, had no place, and was closed; so many such came at the asset since its last line of
+    /// this kind.
+    Away {
+        came: u64,
+    },
     /// A client came and its controller took no connection.
     Unreached,
     /// A client came and had gone before its controller was reached.

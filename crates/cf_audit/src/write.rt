@@ -239,7 +239,10 @@ fn push_what<const N: usize>(out: &mut ArrayString<N>, what: &What<'_>)
             push_cut(out, reason);
         }
         What::Listen => out.push_str("listen"),
-        What::Full => out.push_str("full"),
+        What::Away { came } => {
+            out.push_str("away");
+            push_came(out, *came);
+        }
         What::Unreached => out.push_str("unreached"),
         What::Gone => out.push_str("gone"),
         What::Stranger { came } => {

@@ -1,8 +1,8 @@
 -- The lines of the log, `lines`: one for each refused command, each admitted one that a rule with a log allowed, each stray frame, and
 -- bytes that are left at an end.
 use Rattle.cf_audit.specs.Line.{Admit}
-use Rattle.cf_audit.specs.Line.{Begun, Close, Cut, Full, LineValue, Listen, Lost, NoMemory, Partial, Refuse, Silent, Stray, Unreached}
-use Rattle.cf_audit.specs.Line.{Gone, Stranger, WhatValue}
+use Rattle.cf_audit.specs.Line.{Begun, Close, Cut, LineValue, Listen, Lost, NoMemory, Partial, Refuse, Silent, Stray, Unreached}
+use Rattle.cf_audit.specs.Line.{Away, Gone, Stranger, WhatValue}
 use Rattle.cf_audit.specs.Text.{line_text}
 use Rattle.cf_lane.specs.Dnp3.{frame_octets, is_fragment_unfinished}
 use Rattle.cf_lane.specs.Iec104.{apdu_octets}
@@ -106,7 +106,7 @@ HasPlainRule (Partial side count) = Unit {0}
 HasPlainRule (Close admitted refused) = Unit {0}
 HasPlainRule (Cut reason) = Unit {0}
 HasPlainRule Listen = Unit {0}
-HasPlainRule Full = Unit {0}
+HasPlainRule (Away came) = Unit {0}
 HasPlainRule Unreached = Unit {0}
 HasPlainRule Gone = Unit {0}
 HasPlainRule (Stranger came) = Unit {0}
