@@ -228,8 +228,7 @@ check("one that never reads is silent", bool(re.fullmatch(r"silent admitted \d+ 
 check("one that resets is lost", of_client(broken_port) == ["open", "lost admitted 0 refused 0"])
 for port in quiet_ports:
     text = of_client(port)
-    check("those that say nothing", text in (["open", "silent admitted 0 refused 0"], ["open", "full", "silent admitted 0 refused 0"],
-                                             ["full", "open", "silent admitted 0 refused 0"], ["open"], []))
+    check("those that say nothing", text in (["open", "silent admitted 0 refused 0"], ["open"], []) or text[0].startswith("away came "))
 check("at most 32 sessions of one asset", sum(of_client(port) != [] for port in quiet_ports) >= 32)
 check("a client without its controller is unreached", of_client(gone_port) == ["unreached"])
 check("the session with the one that came back", of_client(back_port) == ["open", "close admitted 1 refused 0"])

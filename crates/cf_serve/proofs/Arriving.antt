@@ -6,12 +6,10 @@ use Rattle.std.specs.List.{AllByRecursion}
 use Rattle.std.proofs.lemmas.Grind.{flat_map-append}
 use Rattle.std.proofs.lemmas.List.{append-nil, append_assoc, length-append, map-append}
 use Rattle.std.proofs.lemmas.Option.{same_Some}
-use Rattle.cf_audit.specs.Line.{Full, Stranger}
 use Rattle.cf_lane.specs.Handled.{MayHaveMore}
 use Rattle.cf_lane.specs.Log.{line_about, with_lines}
 use Rattle.cf_links.specs.Links.{Came, Left, LinksEntry, LinksPlace, Woke}
 use Rattle.cf_links.specs.Service.{GetsSession, LosesSession}
-use Rattle.cf_outside.specs.Faults.{counted}
 use Rattle.cf_relay.proofs.Lined.{lines_none}
 use Rattle.cf_view.specs.declared.Endpoint.{Endpoint}
 use Rattle.cf_view.specs.declared.WriteFault.{WriteFault}
@@ -21,10 +19,11 @@ use Rattle.cf_serve.proofs.Numbers.{all_join, all_map, all_zip, above, below, hi
 use Rattle.cf_serve.proofs.Rounding.{more_none, more_twice}
 use Rattle.cf_serve.specs.Failing.{MissesArrival}
 use Rattle.cf_serve.specs.Phase.{Phase}
-use Rattle.cf_serve.specs.Door.{door_with, is_due, is_named, stranger_line}
-use Rattle.cf_serve.specs.Rounds.{Arrival, AreArrivals, IsArrival, Seat, TurnOf, full_lines, has_place, lobby_behind, lobby_with}
+use Rattle.cf_serve.specs.Door.{came_by, closed_lines, closing_value, has_line, lobby_closed}
+use Rattle.cf_serve.specs.Rounds.{Arrival, AreArrivals, IsArrival, Seat, TurnOf, arrival_lines, closing_of, lobby_behind, lobby_with}
 use Rattle.cf_serve.specs.Rounds.{taken_by, taken_of}
-use Rattle.cf_serve.specs.declared.door.Door.{Door}
+use Rattle.cf_serve.specs.declared.door.Closing.{Closing}
+use Rattle.cf_serve.specs.declared.door.Closing.TheVariants as closing
 use Rattle.cf_serve.specs.declared.door.Lobby.{Lobby}
 use Rattle.cf_serve.specs.Session.{Listening}
 use Rattle.cf_serve.specs.Table.{Arrive, IfOver, IsBetween, IsHeld, IsTable, Keeps, MayGo, RoundDoes, TurnsDo, new_phase, seats_of}
@@ -105,7 +104,11 @@ table_away places most next next' ps old mid new one gets lost t = subst (λ n. 
   free = free_away next old mid new t.free gets lost;
 })
 
--- whether a stranger has a line
+closed_next : (why : Closing) (lobby : Lobby) (place moment address : ℕ) → (lobby_closed why lobby place moment address).next ≡ lobby.next + 1
+closed_next closing.Stranger lobby place moment address = refl
+closed_next closing.Away lobby place moment address = refl
+
+-- whether one that is closed has a line
 pub not_due : (b : Bool) (n : ℕ) (o : Option ℕ) → o ≡ (if b then Some n else None) → o ≡ None → b ≡ false
 not_due true n o says none = let e : Some n ≡ None = sym says ∙ none in cc
 not_due false n o says none = refl
@@ -115,7 +118,7 @@ due true n m o says some = (refl, sym (same_Some n m (sym says ∙ some)))
 due false n m o says some = let e : None ≡ Some m = sym says ∙ some in cc
 
 module _ (places : List Listening) (most moment place : ℕ) (lobby : Lobby) (told : Option (List LinksEntry)) (log : Option (List (List ℕ))) (ps : List Phase) where
-  -- none came, or there was no place
+  -- none came
   pub none_came : (after : Option (List LinksEntry)) → after ≡ told → Arrive places most moment place (place + 1) lobby lobby told after log log ps ps
   none_came after same = record {
     arrivals = [];
@@ -128,84 +131,82 @@ module _ (places : List Listening) (most moment place : ℕ) (lobby : Lobby) (to
     keeps = λ past k. k;
   }
 
-  module _ (client : Endpoint) (after : Option (List LinksEntry)) (log' : Option (List (List ℕ))) (lobby' : Lobby) (room : has_place (seats_of ps) place ≡ true)
-      (at : Listening) (there : slice_get places place ≡ Some at) where
+  module _ (client : Endpoint) (after : Option (List LinksEntry)) (log' : Option (List (List ℕ))) (lobby' : Lobby) (at : Listening)
+      (there : slice_get places place ≡ Some at) where
     abbrev its : Seat
     its = (new_phase lobby.next place client).seat
 
-    -- one that no rule names
-    module _ (mid : Option (List LinksEntry)) (came : mid ≡ option_map (λ es. es ++ Came lobby.next place client ∷ []) told)
-        (left : after ≡ option_map (λ es. es ++ Left lobby.next ∷ []) mid) (stranger : is_named at.asset client.address ≡ false)
-        (one : lobby' ≡ record { next = lobby.next + 1; door = door_with lobby.door moment client.address }) where
+    abbrev comer : Option Closing → List (List ℕ) → Arrival
+    comer closed lines = record { seat = its; closed = closed; lines = lines }
+
+    come_is : (closed : Option Closing) (lines : List (List ℕ)) → closed ≡ closing_of at.asset (seats_of ps) place client.address →
+        lines ≡ arrival_lines at lobby moment (comer closed lines) → AreArrivals places moment place lobby (seats_of ps) (comer closed lines ∷ [])
+    come_is closed lines why own = (
+      record {
+        later = omega arith;
+        at = at;
+        listens = there;
+        number = refl;
+        why = why;
+        own_lines = own;
+      },
+      tt,
+    )
+
+    -- one that is closed
+    module _ (why : Closing) (is_closed : Some why ≡ closing_of at.asset (seats_of ps) place client.address) (mid : Option (List LinksEntry))
+        (came : mid ≡ option_map (λ es. es ++ Came lobby.next place client ∷ []) told)
+        (left : after ≡ option_map (λ es. es ++ Left lobby.next ∷ []) mid) (one : lobby' ≡ lobby_closed why lobby place moment client.address) where
       both : after ≡ option_map (λ es. es ++ Came lobby.next place client ∷ Left lobby.next ∷ []) told
       both = left ∙ ap (option_map (λ es. es ++ Left lobby.next ∷ [])) came ∙ more_twice told (Came lobby.next place client ∷ []) (Left lobby.next ∷ [])
 
       kept_out : (past : List TurnOf) → Keeps places most lobby.next past ps → Keeps places most lobby'.next past ps
-      kept_out past k = subst (λ (f : Lobby). Keeps places most f.next past ps) (sym one) (keeps_more places most lobby.next past ps k)
+      kept_out past k = subst (λ n. Keeps places most n past ps) (sym (ap (λ (f : Lobby). f.next) one ∙ closed_next why lobby place moment client.address))
+          (keeps_more places most lobby.next past ps k)
 
-      away_with : log' ≡ with_lines log (stranger_line at lobby.door client moment) → Arrive places most moment place (place + 1) lobby lobby' told after log log' ps ps
-      away_with added = record {
-        arrivals = record { seat = its; named = false; lines = stranger_line at lobby.door client moment } ∷ [];
+      closed_with : log' ≡ with_lines log (closed_lines why at lobby place client moment) → Arrive places most moment place (place + 1) lobby lobby' told after log log' ps ps
+      closed_with added = record {
+        arrivals = comer (Some why) (closed_lines why at lobby place client moment) ∷ [];
         tells = both;
         added = simp (added, append-nil);
-        come = (
-          record {
-            later = omega arith;
-            at = at;
-            listens = there;
-            number = refl;
-            room = room;
-            by_rules = sym stranger;
-            own_lines = refl;
-          },
-          tt,
-        );
+        come = come_is (Some why) (closed_lines why at lobby place client moment) is_closed refl;
         below = (omega arith, tt);
         seats = sym (append-nil (seats_of ps));
         counts = one;
         keeps = kept_out;
       }
 
+      abbrev its_line : List ℕ
+      its_line = line_about at.asset client moment (closing_value why (came_by why lobby place))
+
       -- it has no line
-      pub away_quiet : log' ≡ log → is_due lobby.door moment client.address ≡ false → Arrive places most moment place (place + 1) lobby lobby' told after log log' ps ps
-      away_quiet same not = away_with (same ∙ lines_none log ∙ ap (λ (b : Bool). with_lines log (if b then line_about at.asset client moment (Stranger (counted lobby.door.since)) ∷ [] else [])) (sym not))
+      pub closed_quiet : log' ≡ log → has_line why lobby place moment client.address ≡ false → Arrive places most moment place (place + 1) lobby lobby' told after log log' ps ps
+      closed_quiet same not = closed_with (same ∙ lines_none log ∙ ap (λ (b : Bool). with_lines log (if b then its_line ∷ [] else [])) (sym not))
 
       -- it has one
-      module _ (words : (is_due lobby.door moment client.address ≡ true)) where
-        spoken : line_about at.asset client moment (Stranger (counted lobby.door.since)) ∷ [] ≡ stranger_line at lobby.door client moment
-        spoken = ap (λ (b : Bool). if b then line_about at.asset client moment (Stranger (counted lobby.door.since)) ∷ [] else []) (sym words)
+      module _ (words : has_line why lobby place moment client.address ≡ true) where
+        spoken : its_line ∷ [] ≡ closed_lines why at lobby place client moment
+        spoken = ap (λ (b : Bool). if b then its_line ∷ [] else []) (sym words)
 
-        pub away_said : (r : Result Unit WriteFault) → OnOk r (log' ≡ with_lines log (line_about at.asset client moment (Stranger (counted lobby.door.since)) ∷ [])) →
+        pub closed_said : (r : Result Unit WriteFault) → OnOk r (log' ≡ with_lines log (its_line ∷ [])) →
             OnOk r (Arrive places most moment place (place + 1) lobby lobby' told after log log' ps ps)
-        away_said (Ok u) added = away_with (added ∙ ap (with_lines log) spoken)
-        away_said (Err e) added = tt
+        closed_said (Ok u) added = closed_with (added ∙ ap (with_lines log) spoken)
+        closed_said (Err e) added = tt
 
-        pub away_missed : (part : List ℕ) → MayHaveMore (line_about at.asset client moment (Stranger (counted lobby.door.since)) ∷ []) log log' part →
+        pub closed_missed : (part : List ℕ) → MayHaveMore (its_line ∷ []) log log' part →
             MissesArrival places most moment place lobby lobby' told after log log' part ps ps
-        away_missed part may =
-            let line = line_about at.asset client moment (Stranger (counted lobby.door.since)) in
-            let w = begins_line line log log' part may in
+        closed_missed part may =
+            let w = begins_line its_line log log' part may in
             record {
-              arrivals = record { seat = its; named = false; lines = w.0 } ∷ [];
+              arrivals = comer (Some why) w.0 ∷ [];
               tells = both;
               added = simp (w.1.0, append-nil);
               fails = record {
                 before = [];
                 seat = its;
-                named = false;
-                line = line;
-                come = (
-                  record {
-                    later = omega arith;
-                    at = at;
-                    listens = there;
-                    number = refl;
-                    room = room;
-                    by_rules = sym stranger;
-                    own_lines = spoken;
-                  },
-                  tt,
-                );
+                closed = Some why;
+                line = its_line;
+                come = come_is (Some why) (its_line ∷ []) is_closed spoken;
                 whole = w.0;
                 are = refl;
                 begins = w.1.1;
@@ -215,90 +216,24 @@ module _ (places : List Listening) (most moment place : ℕ) (lobby : Lobby) (to
             }
 
     -- one that is taken
-    module _ (new : List Phase) (came : after ≡ option_map (λ es. es ++ Came lobby.next place client ∷ []) told) (known : is_named at.asset client.address ≡ true)
-        (is : new ≡ ps ++ new_phase lobby.next place client ∷ []) (one : lobby' ≡ record { next = lobby.next + 1; door = lobby.door }) where
-      seats_new : seats_of new ≡ seats_of ps ++ its ∷ []
-      seats_new = ap seats_of is ∙ map-append (λ (p : Phase). p.seat) ps (new_phase lobby.next place client ∷ [])
-
-      own_line : has_place (seats_of new) place ≡ false → line_about at.asset client moment Full ∷ [] ≡ full_lines at moment (seats_of new) place client
-      own_line full = ap (λ (b : Bool). if b then [] else line_about at.asset client moment Full ∷ []) (sym full)
-
-      its_lines : full_lines at moment (seats_of new) place client ≡ full_lines at moment (seats_of ps ++ its ∷ []) place client
-      its_lines = ap (λ (ss : List Seat). full_lines at moment ss place client) seats_new
-
+    module _ (new : List Phase) (came : after ≡ option_map (λ es. es ++ Came lobby.next place client ∷ []) told)
+        (is_taken : None ≡ closing_of at.asset (seats_of ps) place client.address) (is : new ≡ ps ++ new_phase lobby.next place client ∷ [])
+        (one : lobby' ≡ record lobby { next = lobby.next + 1 }) where
       kept_in : (past : List TurnOf) → Keeps places most lobby.next past ps → Keeps places most lobby'.next past new
       kept_in past k = subst (λ (f : Lobby). Keeps places most f.next past new) (sym one)
           (subst (Keeps places most (lobby.next + 1) past) (sym is) (keeps_new places most lobby.next place client ps past k))
 
-      came_with : (lines : List (List ℕ)) → log' ≡ with_lines log lines → lines ≡ full_lines at moment (seats_of new) place client →
-          Arrive places most moment place (place + 1) lobby lobby' told after log log' ps new
-      came_with lines added full = record {
-        arrivals = record { seat = its; named = true; lines = lines } ∷ [];
+      pub came_in : log' ≡ log → Arrive places most moment place (place + 1) lobby lobby' told after log log' ps new
+      came_in same = record {
+        arrivals = comer None [] ∷ [];
         tells = came;
-        added = simp (added, append-nil);
-        come = (
-          record {
-            later = omega arith;
-            at = at;
-            listens = there;
-            number = refl;
-            room = room;
-            by_rules = sym known;
-            own_lines = full ∙ its_lines;
-          },
-          tt,
-        );
+        added = same ∙ lines_none log;
+        come = come_is None [] is_taken refl;
         below = (omega arith, tt);
-        seats = seats_new;
+        seats = ap seats_of is ∙ map-append (λ (p : Phase). p.seat) ps (new_phase lobby.next place client ∷ []);
         counts = one;
         keeps = kept_in;
       }
-
-      pub came_in : log' ≡ log → has_place (seats_of new) place ≡ true → Arrive places most moment place (place + 1) lobby lobby' told after log log' ps new
-      came_in same more = came_with [] (same ∙ lines_none log) (ap (λ (b : Bool). if b then [] else line_about at.asset client moment Full ∷ []) (sym more))
-
-      pub came_last : has_place (seats_of new) place ≡ false → (r : Result Unit WriteFault) →
-          OnOk r (log' ≡ with_lines log (line_about at.asset client moment Full ∷ [])) → OnOk r (Arrive places most moment place (place + 1) lobby lobby' told after log log' ps new)
-      came_last full (Ok u) added = came_with (line_about at.asset client moment Full ∷ []) added (own_line full)
-      came_last full (Err e) added = tt
-
-      -- it took the last, and its line failed
-      pub came_missed : has_place (seats_of new) place ≡ false → (part : List ℕ) →
-          MayHaveMore (line_about at.asset client moment Full ∷ []) log log' part → MissesArrival places most moment place lobby lobby' told after log log' part ps new
-      came_missed full part may =
-          let line = line_about at.asset client moment Full in
-          let w = begins_line line log log' part may in
-          record {
-            arrivals = record { seat = its; named = true; lines = w.0 } ∷ [];
-            tells = came;
-            added = simp (w.1.0, append-nil);
-            fails = record {
-              before = [];
-              seat = its;
-              named = true;
-              line = line;
-              come = (
-                record {
-                  later = omega arith;
-                  at = at;
-                  listens = there;
-                  number = refl;
-                  room = room;
-                  by_rules = sym known;
-                  own_lines = own_line full ∙ its_lines;
-                },
-                tt,
-              );
-              whole = w.0;
-              are = refl;
-              begins = w.1.1;
-            };
-            seats = seats_new;
-            keeps = kept_in;
-          }
-
-abbrev pub with_door : ℕ → Door → Lobby
-with_door next door = record { next = next; door = door }
 
 pub for_all : {E : Type 0} (P : ℕ → Type 0) (r : Result Unit E) → ((most : ℕ) → OnOk r (P most)) → OnOk r ((most : ℕ) → P most)
 for_all P (Ok u) h = h
@@ -319,8 +254,7 @@ lower_from places moment from from' lobby standing (a ∷ cs) h (is, rest) = (
     at = is.at;
     listens = is.listens;
     number = is.number;
-    room = is.room;
-    by_rules = is.by_rules;
+    why = is.why;
     own_lines = is.own_lines;
   },
   rest,
@@ -385,8 +319,8 @@ module _ (places : List Listening) (most moment : ℕ) (lobby : Lobby) (told : O
       MissesArrival places most moment 0 lobby lobby2 told told2 log log2 part old new
   arrive_missed place lobby1 lobby2 told1 told2 log1 log2 part mid new a b =
       let f = b.fails in
-      let last : List Arrival = record { seat = f.seat; named = f.named; lines = f.line ∷ [] } ∷ [] in
-      let cut : List Arrival = record { seat = f.seat; named = f.named; lines = f.whole } ∷ [] in
+      let last : List Arrival = record { seat = f.seat; closed = f.closed; lines = f.line ∷ [] } ∷ [] in
+      let cut : List Arrival = record { seat = f.seat; closed = f.closed; lines = f.whole } ∷ [] in
       record {
         arrivals = a.arrivals ++ b.arrivals;
         tells = simp (b.tells, a.tells, more_twice, flat_map-append);
@@ -394,7 +328,7 @@ module _ (places : List Listening) (most moment : ℕ) (lobby : Lobby) (told : O
         fails = record {
           before = a.arrivals ++ f.before;
           seat = f.seat;
-          named = f.named;
+          closed = f.closed;
           line = f.line;
           come = subst (AreArrivals places moment 0 lobby (seats_of old)) (sym (append_assoc a.arrivals f.before last))
               (come_join places moment 0 place lobby (seats_of old) a.arrivals (f.before ++ last) (omega arith) a.come a.below

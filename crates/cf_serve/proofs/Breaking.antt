@@ -16,8 +16,9 @@ use Rattle.cf_serve.proofs.Whole.{all_ended, all_seats, all_stand, one_stands, o
 use Rattle.cf_serve.specs.Broken.{Breaks, BreaksOff, FailsSo, IsFailedClient, TurnFails}
 use Rattle.cf_serve.specs.Failing.{MissesArrival, MissesRound, MissesRounds, MissesSeat, MissesStep, MissesTurns}
 use Rattle.cf_serve.specs.Phase.{Phase, listenings, phase_of}
+use Rattle.cf_serve.specs.Door.{first_lobby}
 use Rattle.cf_serve.specs.Rounds.{AreTurns, IsTurn, Round, Seat, TurnOf, answers_in, lines_in, round_entries, round_lines}
-use Rattle.cf_serve.specs.Rounds.{first_lobby, stays, turns_of}
+use Rattle.cf_serve.specs.Rounds.{stays, turns_of}
 use Rattle.cf_serve.specs.declared.door.Lobby.{Lobby}
 use Rattle.cf_serve.specs.Served.{IfEnded, IsClient, OpensDo, left_of, listen_lines, opened_from}
 use Rattle.cf_serve.specs.Session.{Listening}

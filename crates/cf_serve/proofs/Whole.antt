@@ -13,8 +13,9 @@ use Rattle.cf_relay.proofs.Turned.{turned_stands}
 use Rattle.cf_serve.proofs.Numbers.{all_map, all_zip}
 use Rattle.cf_serve.proofs.Rounding.{flat_one, more_twice}
 use Rattle.cf_serve.specs.Phase.{LinkedValue, MayTurn, Phase, StandsAs, listenings}
+use Rattle.cf_serve.specs.Door.{first_lobby}
 use Rattle.cf_serve.specs.Rounds.{AreRounds, AreTurns, Arrival, IsTurn, Round, Seat, TurnOf, answers_in, arrival_entries, left_by}
-use Rattle.cf_serve.specs.Rounds.{first_lobby, round_entries, round_lines, turn_entries, turns_of}
+use Rattle.cf_serve.specs.Rounds.{round_entries, round_lines, turn_entries, turns_of}
 use Rattle.cf_serve.specs.declared.door.Lobby.{Lobby}
 use Rattle.cf_serve.specs.Served.{IfEnded, IsClient, OpensDo, Serves, left_of, listen_lines, opened_from}
 use Rattle.cf_serve.specs.Session.{Listening, StandsSo}
@@ -64,13 +65,13 @@ module _ (k : ℕ) where
       ∙ ap (λ xs. own_of t ++ xs) (of_turns ts are)
 
   -- a client that was taken, or closed
-  of_one : (named : Bool) (c : Arrival) (cs : List LinksEntry) → answers_of k ((Came c.seat.session c.seat.place c.seat.client ∷ (if named then [] else Left c.seat.session ∷ [])) ++ cs) ≡ answers_of k cs
+  of_one : (closed : Option Closing) (c : Arrival) (cs : List LinksEntry) → answers_of k ((Came c.seat.session c.seat.place c.seat.client ∷ left_by c.seat.session closed) ++ cs) ≡ answers_of k cs
   of_one true c cs = refl
   of_one false c cs = refl
 
   of_arrivals : (cs : List Arrival) → answers_of k (flat_map arrival_entries cs) ≡ []
   of_arrivals [] = refl
-  of_arrivals (c ∷ cs) = of_one c.named c (flat_map arrival_entries cs) ∙ of_arrivals cs
+  of_arrivals (c ∷ cs) = of_one c.closed c (flat_map arrival_entries cs) ∙ of_arrivals cs
 
   of_round : (r : Round) → AreTurns r.turns → answers_of k (round_entries r) ≡ answers_in k r.turns
   of_round r are =

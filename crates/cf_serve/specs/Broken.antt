@@ -15,10 +15,12 @@ use Rattle.std.specs.List.{AllByRecursion, concat, flat_map}
 use Rattle.std.specs.Prelude.{Bool, List, None, Option, Some, [], drop, length, map, option_map, slice_get, take, true, ℕ, ◌++◌}
 use Rattle.std.specs.Prelude.{◌-◌, ◌<◌, ◌^◌, ◌∷◌, ◌≡◌, ◌⊎◌}
 use Rattle.cf_serve.specs.Phase.{listenings}
+use Rattle.cf_serve.specs.Door.{first_lobby}
 use Rattle.cf_serve.specs.Rounds.{AreArrivals, AreRounds, AreTurns, Arrival, Round, Seat, TurnOf, answers_in, lines_in, round_entries}
-use Rattle.cf_serve.specs.Rounds.{first_lobby, round_lines, stays, taken_of, turns_of}
+use Rattle.cf_serve.specs.Rounds.{round_lines, stays, taken_of, turns_of}
 use Rattle.cf_serve.specs.Served.{IfEnded, IsClient, left_of, listen_lines, opened_from}
 use Rattle.cf_serve.specs.Session.{EndsSo, Listening}
+use Rattle.cf_serve.specs.declared.door.Closing.{Closing}
 use Rattle.cf_serve.specs.declared.door.Lobby.{Lobby}
 use Rattle.cf_serve.specs.declared.end.SessionEnd.{SessionEnd}
 use Rattle.cf_serve.specs.declared.table.Place.{Place}
@@ -60,17 +62,17 @@ IsFailedClient places most past seat part =
 
 -- ---- the round that breaks off
 
--- a client took the last place, or no rule names it, and its line failed: it is the last that came
+-- a client was closed, and its line failed: it is the last that came
 pub record ComingFails (places : List Listening) (moment from : ℕ) (lobby : Lobby) (standing : List Seat) (arrivals : List Arrival)
     (part : List ℕ) : Type 0 where
   pub before : List Arrival
   pub seat : Seat
-  pub named : Bool
+  pub closed : Option Closing
   pub line : List ℕ
   -- all who came, with the lines that were theirs
-  pub come : AreArrivals places moment from lobby standing (before ++ record { seat = seat; named = named; lines = line ∷ [] } ∷ [])
+  pub come : AreArrivals places moment from lobby standing (before ++ record { seat = seat; closed = closed; lines = line ∷ [] } ∷ [])
   pub whole : List (List ℕ)
-  pub are : arrivals ≡ before ++ record { seat = seat; named = named; lines = whole } ∷ []
+  pub are : arrivals ≡ before ++ record { seat = seat; closed = closed; lines = whole } ∷ []
   pub begins : BeginsLine line whole part
 
 -- the round breaks off there: no session had its turn, and each stands as it stood

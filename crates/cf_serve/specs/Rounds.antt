@@ -1,21 +1,22 @@
 -- The rounds of a service: what the links answered and what the log got, in the order of the loop. The main definitions are `Round`,
 -- `round_entries`, `round_lines` and `AreRounds`. This project's own.
 --
--- In a round at most one client comes at each listening place: it is taken, or closed where no rule of its asset names it. Then each
+-- In a round at most one client comes at each listening place: it is taken, or closed where no rule of its asset names it or there is no
+-- place for it. Then each
 -- session that stands has one place, in the order in which the sessions came: a turn where the links say that something can move for
 -- it, and else nothing.
-use Rattle.cf_audit.specs.Line.{Full}
-use Rattle.cf_lane.specs.Log.{line_about}
 use Rattle.cf_links.specs.Links.{Came, Left, LinksEntry, Of, Ready, Woke}
 use Rattle.cf_outside.specs.Pair.{Entry}
+use Rattle.cf_policy.specs.declared.Asset.{Asset}
 use Rattle.cf_view.specs.declared.Endpoint.{Endpoint}
 use Rattle.std.specs.List.{flat_map, sum_by}
 use Rattle.std.specs.Prelude.{Bool, List, None, Option, Some, [], false, if◌then◌else◌, length, map, nat_lt, option_to_list}
 use Rattle.std.specs.Prelude.{slice_get, ℕ, ◌&&◌, ◌++◌, ◌+◌}
-use Rattle.std.specs.Prelude.{◌∷◌, ◌≡◌, ◌≤◌, ◌==◌, true}
-use Rattle.cf_serve.specs.Door.{door_with, is_named, stranger_line}
+use Rattle.std.specs.Prelude.{◌∷◌, ◌≡◌, ◌≤◌, ◌==◌}
+use Rattle.cf_serve.specs.Door.{closed_lines, is_named, lobby_closed}
 use Rattle.cf_serve.specs.Session.{Listening}
-use Rattle.cf_serve.specs.declared.door.Door.{Door}
+use Rattle.cf_serve.specs.declared.door.Closing.{Closing}
+use Rattle.cf_serve.specs.declared.door.Closing.TheVariants as closing
 use Rattle.cf_serve.specs.declared.door.Lobby.{Lobby}
 use Rattle.cf_serve.specs.declared.end.SessionEnd.{SessionEnd}
 
@@ -25,10 +26,10 @@ pub record Seat : Type 0 where
   pub place : ℕ
   pub client : Endpoint
 
--- a client that came: some rule of its asset names it, and it was taken; or none does, and it was closed
+-- a client that came, and why it was closed as it came; else it was taken
 pub record Arrival : Type 0 where
   pub seat : Seat
-  pub named : Bool
+  pub closed : Option Closing
   pub lines : List (List ℕ)
 
 -- what a round was to one session: its answers, the lines that it got, and its end where this was its last
@@ -45,7 +46,7 @@ pub record Round : Type 0 where
   pub arrivals : List Arrival
   pub turns : List TurnOf
 
-abbrev pub left_by : ℕ → Option SessionEnd → List LinksEntry
+abbrev pub left_by : {A : Type 0} → ℕ → Option A → List LinksEntry
 left_by session None = []
 left_by session (Some end) = Left session ∷ []
 
@@ -54,11 +55,11 @@ turn_entries t =
     if t.ready then Ready t.seat.session ∷ (map (Of t.seat.session) t.answers ++ left_by t.seat.session t.end) else []
 
 abbrev pub arrival_entries : Arrival → List LinksEntry
-arrival_entries a = Came a.seat.session a.seat.place a.seat.client ∷ (if a.named then [] else Left a.seat.session ∷ [])
+arrival_entries a = Came a.seat.session a.seat.place a.seat.client ∷ left_by a.seat.session a.closed
 
 -- the clients that were taken
 abbrev pub taken_by : Arrival → List Seat
-taken_by a = if a.named then a.seat ∷ [] else []
+taken_by a = elim a.closed [ None ↦ a.seat ∷ [] | Some why ↦ [] ]
 
 abbrev pub taken_of : List Arrival → List Seat
 taken_of arrivals = flat_map taken_by arrivals
@@ -108,41 +109,36 @@ count_of place standing = sum_by (is_of place) standing
 abbrev pub has_place : List Seat → (place : ℕ) → Bool
 has_place standing place = nat_lt (length standing) 256 && nat_lt (count_of place standing) 32
 
--- the line of a client that was taken, where there is no place for another behind it
-abbrev pub full_lines : Listening → (moment : ℕ) → (standing : List Seat) → (place : ℕ) → Endpoint → List (List ℕ)
-full_lines at moment standing place client = if has_place standing place then [] else line_about at.asset client moment Full ∷ []
+-- why a client is closed as it comes to a listening place, if it is: no rule of the asset names it, or there is no place for it
+abbrev pub closing_of : Asset → (standing : List Seat) → (place address : ℕ) → Option Closing
+closing_of asset standing place address =
+    if is_named asset address then if has_place standing place then None else Some closing.Away else Some closing.Stranger
 
 -- the line of a client that came at a listening place, if it has one
-abbrev pub arrival_lines : Listening → Door → (moment : ℕ) → (standing : List Seat) → Arrival → List (List ℕ)
-arrival_lines at door moment standing a =
-    if a.named then full_lines at moment (standing ++ a.seat ∷ []) a.seat.place a.seat.client
-    else stranger_line at door a.seat.client moment
+abbrev pub arrival_lines : Listening → Lobby → (moment : ℕ) → Arrival → List (List ℕ)
+arrival_lines at lobby moment a =
+    elim a.closed [ None ↦ [] | Some why ↦ closed_lines why at lobby a.seat.place a.seat.client moment ]
 
 -- what is kept of all clients behind one more, and behind more of them
 abbrev pub lobby_with : Lobby → (moment : ℕ) → Arrival → Lobby
-lobby_with lobby moment a = record {
-  next = lobby.next + 1;
-  door = if a.named then lobby.door else door_with lobby.door moment a.seat.client.address;
-}
+lobby_with lobby moment a = elim a.closed [
+    None ↦ record lobby { next = lobby.next + 1 }
+  | Some why ↦ lobby_closed why lobby a.seat.place moment a.seat.client.address
+  ]
 
 abbrev pub lobby_behind : Lobby → (moment : ℕ) → List Arrival → Lobby
 lobby_behind lobby moment [] = lobby
 lobby_behind lobby moment (a ∷ more) = lobby_behind (lobby_with lobby moment a) moment more
 
--- no client came yet
-abbrev pub first_lobby : Lobby
-first_lobby = record { next = 0; door = record { last = None; since = 0 } }
-
--- a client came at a listening place, one from a number on: it has the next number, and there is a place for it; whether it was taken
--- is what the rules of the asset say; and it has its line where it took the last place, or was closed and a line is due
+-- a client came at a listening place, one from a number on: it has the next number; whether it is closed is what the rules of the asset
+-- and the sessions that stand say; and it has its line where it is closed and a line is due
 pub record IsArrival (places : List Listening) (moment from : ℕ) (lobby : Lobby) (standing : List Seat) (a : Arrival) : Type 0 where
   pub later : from ≤ a.seat.place
   pub at : Listening
   pub listens : slice_get places a.seat.place ≡ Some at
   pub number : a.seat.session ≡ lobby.next
-  pub room : has_place standing a.seat.place ≡ true
-  pub by_rules : a.named ≡ is_named at.asset a.seat.client.address
-  pub own_lines : a.lines ≡ arrival_lines at lobby.door moment standing a
+  pub why : a.closed ≡ closing_of at.asset standing a.seat.place a.seat.client.address
+  pub own_lines : a.lines ≡ arrival_lines at lobby moment a
 
 -- arrivals from a listening place on, each at its own
 abbrev pub AreArrivals : List Listening → (moment : ℕ) → (from : ℕ) → (lobby : Lobby) → (standing : List Seat) → List Arrival → Type 0

@@ -6,7 +6,8 @@ use Rattle.std.specs.List.{AllByRecursion, flat_map}
 use Rattle.std.specs.Prelude.{Err, List, None, Ok, Option, Result, Some, [], length, map, option_map, slice_get, ℕ, ◌++◌, ◌+◌, ◌-◌}
 use Rattle.std.specs.Prelude.{◌<◌, ◌^◌, ◌∷◌, ◌≡◌, ◌⊎◌}
 use Rattle.cf_serve.specs.Phase.{listenings}
-use Rattle.cf_serve.specs.Rounds.{AreRounds, Round, Seat, TurnOf, answers_in, ends_in, first_lobby, lines_in, round_entries, round_lines}
+use Rattle.cf_serve.specs.Door.{first_lobby}
+use Rattle.cf_serve.specs.Rounds.{AreRounds, Round, Seat, TurnOf, answers_in, ends_in, lines_in, round_entries, round_lines}
 use Rattle.cf_serve.specs.Rounds.{turns_of}
 use Rattle.cf_serve.specs.Session.{IsSession, Listening}
 use Rattle.cf_serve.specs.declared.door.Lobby.{Lobby}

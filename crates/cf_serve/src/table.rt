@@ -11,13 +11,14 @@ ghost use Rattle.cf_relay.specs.declared.limit.TheConstants.{MOST_BYTES};
 ghost use Rattle.cf_serve.specs.Phase.{KeepsPlace, MayTurn, Phase, SeatDoes, StandsAs, listening_at, listening_of, listenings, phase_of};
 ghost use Rattle.cf_serve.specs.Failing.{MissesArrival, MissesRound, MissesRounds, MissesSeat, MissesStep, MissesTurns};
 ghost use Rattle.cf_serve.specs.Served.{HasMade, left_of};
-ghost use Rattle.cf_serve.specs.Rounds.{TurnOf, first_lobby, has_place};
+ghost use Rattle.cf_serve.specs.Door.{first_lobby};
+ghost use Rattle.cf_serve.specs.Rounds.{TurnOf, closing_of, has_place};
 ghost use Rattle.cf_serve.specs.Table.{Arrive, IfWhole, IsTable, Keeps, MayLeave, RoundDoes, RoundsDo, StepDoes, TurnsDo, new_phase};
 ghost use Rattle.cf_serve.specs.Table.{seats_of};
 ghost use Rattle.cf_serve.specs.declared.table.Place.{Place as PlaceOf};
 ghost use Rattle.std.specs.List.{AllByRecursion};
 
-use crate::door::{Door, Lobby, names_client};
+use crate::door::{Closing, Lobby, names_client};
 use crate::fault::ServeFault;
 use crate::session::{Served, Terms};
 use cf_audit::What;
@@ -117,13 +118,9 @@ impl Table {
         ensures room { IfOk result (λ table. 256 ≤ vec_capacity (Table.sessions table)) }
     {
         let sessions = Vec::with_capacity(alloc, SESSION_LIMIT)?;
-        let door = Door {
-            last: None,
-            since: 0,
-        };
         Ok(Table {
             sessions,
-            lobby: Lobby { next: 0, door },
+            lobby: Lobby::new(),
         })
     }
 
@@ -255,7 +252,20 @@ impl Table {
         self.sessions.len() < SESSION_LIMIT && count < PLACE_LIMIT
     }
 
-    /// Takes a client at one place, where one came and there is a place for it; one that no rule of the asset names is closed.
+    /// Why a client of this address is closed as it comes to a listening place of the asset, if it is.
+    fn closing(&self, asset: &Asset, place: usize, address: u32) -> Option<Closing>
+        ensures { result ≡ closing_of asset.now (seats_of (map phase_of self.now.sessions.items)) place address }
+    {
+        if !names_client(asset, address) {
+            Some(Closing::Stranger)
+        } else if self.has_place(place) {
+            None
+        } else {
+            Some(Closing::Away)
+        }
+    }
+
+    /// Takes a client at one place, where one came; one that no rule of the asset names, or for which there is no place, is closed.
     fn arrive<L: Service, D: Desk>(
         &mut self,
         place: usize,
@@ -286,7 +296,7 @@ impl Table {
         ensures log { WritesLog (D.value desk.old) (D.value desk.new) }
         ensures cause { HasCause (DeskValue.faults (D.value desk.old)) (DeskValue.faults (D.value desk.new)) (IsErr result) }
     {
-        if self.lobby.next == u64::MAX || !self.has_place(place) {
+        if self.lobby.next == u64::MAX {
             return Ok(());
         }
         let client = match links.arrive(place as u32, self.lobby.next) {
@@ -294,19 +304,15 @@ impl Table {
             ArriveAnswer::Nobody => return Ok(()),
         };
         let at = place_of(places, place);
-        if !names_client(at.asset, client.address) {
-            links.leave(self.lobby.next);
-            self.lobby.next += 1;
-            return match self.lobby.door.note(moment, client.address) {
-                Some(came) => log_line(at.asset, client, moment, What::Stranger { came }, desk),
-                None => Ok(()),
-            };
-        }
-        self.take_in(place, client);
-        if self.has_place(place) {
+        let Some(closing) = self.closing(at.asset, place, client.address) else {
+            self.take_in(place, client);
             return Ok(());
+        };
+        links.leave(self.lobby.next);
+        match self.lobby.close(closing, place, moment, client.address) {
+            Some(came) => log_line(at.asset, client, moment, closing.line(came), desk),
+            None => Ok(()),
         }
-        log_line(at.asset, client, moment, What::Full, desk)
     }
 
     /// A client has its place in the table, under the next number.
@@ -328,7 +334,7 @@ impl Table {
         self.lobby.next += 1;
     }
 
-    /// Takes a client at each listening place that has one, and a place for it.
+    /// Takes a client at each listening place that has one, or closes it.
     fn arrivals<L: Service, D: Desk>(
         &mut self,
         places: &[Place<'_>],
@@ -362,7 +368,7 @@ impl Table {
         Ok(())
     }
 
-    /// One round: a client at most is taken at each place, and then each session has its turn.
+    /// One round: a client at most is taken or closed at each place, and then each session has its turn.
     pub(crate) fn round<L: Service, D: Desk>(
         &mut self,
         alloc: Global,

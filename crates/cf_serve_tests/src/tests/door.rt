@@ -148,15 +148,26 @@ log
 12.000000 10.0.0.8:49152 pump stranger came 1
 5.000000 10.0.0.8:49152 pump stranger came 1
 
-a stranger that comes where its asset is full is not taken
+a stranger where there is no place for anybody
 place: 0
 clients: 5*32 8
 step: 1000000
 stands: 1
 gives
-came 32 turns 0 left 32
+came 33 turns 0 left 33
 log
-39.000000 10.0.0.5:49152 pump full";
+40.000000 10.0.0.8:49152 pump stranger came 1
+
+four clients for whom there is no place, the last of them a second behind the first
+place: 0
+clients: 5*36
+step: 400000
+stands: 1
+gives
+came 36 turns 0 left 36
+log
+20.200000 10.0.0.5:49152 pump away came 1
+21.400000 10.0.0.5:49152 pump away came 3";
 
 /// Rows as those above, of which all is wanted that the links tell and the log has; `fails` has the number of an append that fails, and
 /// how many bytes of it are left.

@@ -18,41 +18,39 @@ use std::process::Abort;
 /// rounds the first has no turn; and how many rounds there are. After `gives` stand how many came and were left in the rounds, those in
 /// a row that are alike in one line, and what the log has behind the lines of the places.
 const ROWS: &str =
-    "257 clients: nine a round at nine places, and four, of which the last takes the last place; one more as the first has left
+    "258 clients: nine a round at nine places, and six, of whom the last two find no place
 places: 0 1 2 3 4 5 6 7 8
-clients: 257
+clients: 258
 first: 39
 rounds: 45
 gives
 28 rounds: came 9 left 0
-1 rounds: came 4 left 0
+1 rounds: came 6 left 2
 10 rounds: came 0 left 0
 1 rounds: came 0 left 1
-1 rounds: came 1 left 0
-3 rounds: came 0 left 0
-1 rounds: came 0 left 256
+4 rounds: came 0 left 0
+1 rounds: came 0 left 255
 log
-7.000000 10.0.1.255:49152 pump full
+7.000000 10.0.2.0:49152 rtu away came 1
+7.000000 10.0.2.1:49152 sub away came 1
 7.000000 10.0.1.0:49152 pump unreached
-7.000000 10.0.2.0:49152 rtu full
 
-33 clients of one place, and one of another before the last of them, who waits until the first has left
-places: 0*32 1 0
-clients: 34
+32 clients of one place, one of another, and nine more of the first, of whom the last comes once a place is free
+places: 0*32 1 0*9
+clients: 42
 first: 39
 rounds: 45
 gives
 31 rounds: came 1 left 0
 1 rounds: came 2 left 0
-7 rounds: came 0 left 0
-1 rounds: came 0 left 1
+7 rounds: came 1 left 1
+1 rounds: came 1 left 2
 1 rounds: came 1 left 0
 3 rounds: came 0 left 0
 1 rounds: came 0 left 33
 log
-7.000000 10.0.1.31:49152 pump full
-7.000000 10.0.1.0:49152 pump unreached
-7.000000 10.0.1.33:49152 pump full";
+7.000000 10.0.1.33:49152 pump away came 1
+7.000000 10.0.1.0:49152 pump unreached";
 
 /// The clients of a row.
 fn clients(rt: &impl Abort, alloc: Global, row: &str) -> Vec<MemoryClient> {
@@ -181,7 +179,7 @@ fn found(rt: &impl Abort, alloc: Global, policy: &Policy, row: &str) -> String
 }
 
 #[test]
-fn clients_wait_for_a_place(rt: HostRuntime) {
+fn clients_without_a_place_are_closed(rt: HostRuntime) {
     let alloc = rt.alloc();
     let policy = policy(&rt, alloc);
     for row in ROWS.split("\n\n") {
