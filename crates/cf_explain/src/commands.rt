@@ -77,17 +77,52 @@ pub(crate) fn first_of_commands(
         left: MOST,
     };
     for code in 0..CODES {
-        for kind in kinds(ours.protocol, code) {
-            match search.of_kind(alloc, code, kind)? {
-                Found::Nothing => {}
-                found => return Ok(found),
-            }
+        match search.of_code(alloc, code)? {
+            Found::Nothing => {}
+            found => return Ok(found),
         }
     }
     Ok(Found::Nothing)
 }
 
+/// The first such act of each code, of so many codes at most; where there are too many acts to look at, those that were found before.
+pub(crate) fn firsts_of_commands(
+    alloc: Global,
+    ours: &Asset,
+    other: &Asset,
+    most: usize,
+) -> Result<Vec<Shown>, AllocError> {
+    let mut search = Search {
+        ours,
+        other,
+        left: MOST,
+    };
+    let mut firsts = Vec::new(alloc);
+    for code in 0..CODES {
+        if firsts.len() >= most {
+            break;
+        }
+        match search.of_code(alloc, code)? {
+            Found::Beyond(shown) => firsts.push(shown)?,
+            Found::Nothing => {}
+            Found::TooMany => break,
+        }
+    }
+    Ok(firsts)
+}
+
 impl Search<'_> {
+    /// The first of the acts of a code.
+    fn of_code(&mut self, alloc: Global, code: u16) -> Result<Found, AllocError> {
+        for kind in kinds(self.ours.protocol, code) {
+            match self.of_kind(alloc, code, kind)? {
+                Found::Nothing => {}
+                found => return Ok(found),
+            }
+        }
+        Ok(Found::Nothing)
+    }
+
     /// The first of the acts of a kind.
     fn of_kind(&mut self, alloc: Global, code: u16, kind: &Kind) -> Result<Found, AllocError> {
         let corners = self.corners(alloc, code, kind)?;

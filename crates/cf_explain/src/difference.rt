@@ -159,7 +159,7 @@ fn push_difference(
 }
 
 /// An act, the rule that allows it there, and what refuses it here.
-fn push_shown(
+pub(crate) fn push_shown(
     out: &mut Page,
     ours: &PolicyFile<'_>,
     other: &PolicyFile<'_>,

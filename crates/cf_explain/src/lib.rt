@@ -9,6 +9,7 @@ mod capture;
 mod code_words;
 mod commands;
 mod difference;
+mod differences;
 mod entries;
 mod foreign;
 mod found;
@@ -33,6 +34,7 @@ mod wrong;
 
 pub use capture::capture_message;
 pub use difference::{PolicyFile, inclusion_message};
+pub use differences::differences_text;
 pub use found::{What, findings, sound_rules_have_reads};
 pub use kept::kept_text;
 pub use outputs::{asset_message, outputs_message};

@@ -46,6 +46,8 @@ enum Subject {
     Reason,
     /// The rules of two policies whose rates or logs differ.
     Kept,
+    /// Where else one policy is not included in another.
+    Differences,
     /// What a policy is written as.
     Rewritten,
     /// What is learned of flows.
@@ -67,8 +69,9 @@ fn found(alloc: Global, subject: Subject, given: &str) -> Result<String, Fail> {
         Subject::Line => lines::line(alloc, given),
         Subject::Comparison => compare::compared(alloc, given),
         Subject::Cells => compare::counted(alloc, given),
-        Subject::Reason => compare::reason(alloc, given),
-        Subject::Kept => compare::kept(alloc, given),
+        Subject::Reason => compare::said(alloc, given, compare::Said::Reason),
+        Subject::Kept => compare::said(alloc, given, compare::Said::Kept),
+        Subject::Differences => compare::said(alloc, given, compare::Said::Differences),
         Subject::Rewritten => rewritten::rewritten(alloc, given),
         Subject::Learned => learned::learned(alloc, given),
     }
@@ -138,6 +141,7 @@ fn policies_are_compared(rt: HostRuntime) -> Result<(), Fail> {
     let rows = compare::CELLS.replace(alloc, "\n    ", " ")?;
     play_lines(&rt, alloc, Subject::Cells, &rows)?;
     play_blocks(&rt, alloc, Subject::Reason, compare::REASONS)?;
+    play_blocks(&rt, alloc, Subject::Differences, compare::DIFFERENCES)?;
     play_blocks(&rt, alloc, Subject::Kept, compare::KEPT)
 }
 

@@ -8,8 +8,8 @@ use crate::remark::{
 };
 use crate::say::{say, say_lines};
 use cf_explain::{
-    PolicyFile, asset_message, capture_message, inclusion_message, outputs_message, policy_message,
-    policy_warnings, words_message,
+    PolicyFile, asset_message, capture_message, differences_text, inclusion_message,
+    outputs_message, policy_message, policy_warnings, words_message,
 };
 use cf_machine::{LinkFault, Part, RealFiles, Withheld};
 use cf_outside::{Files, ReadAnswer, WholeFault, read_whole};
@@ -452,7 +452,8 @@ fn explain_inclusion_of<R: FileSystem + Eprint + AllocGlobal>(
                 text: &text,
                 policy: &policy,
             };
-            say(rt, inclusion_message(rt.alloc(), ours, &other))
+            say(rt, inclusion_message(rt.alloc(), ours, &other))?;
+            say_lines(rt, differences_text(rt.alloc(), ours, &other))
         }
         None => Ok(()),
     }

@@ -5,7 +5,7 @@ ghost use Rattle.cf_policy.specs.Within.{IsWithin};
 
 use crate::tests::changes::policy_octets;
 use cf_compare::{cells, compare};
-use cf_explain::{PolicyFile, inclusion_message, kept_text};
+use cf_explain::{PolicyFile, differences_text, inclusion_message, kept_text};
 use cf_policy::Policy;
 use cf_policylang::read_policy;
 use std::alloc::Global;
@@ -200,28 +200,42 @@ values: values = ["0..500"] / most = 1 / seconds = 60 ; name: name = "pomp"
 p:14:1: note: asset 1 "pump", rule 2 "set" has no rate, and no log; in q it has most = 1 and seconds = 60, and no log
 ."#;
 
-/// The rules of two policies whose rates or logs differ, and a point after the last line.
-pub(super) fn kept(alloc: Global, given: &str) -> Result<String, Fail> {
-    let (ours, other) = given.split_once(" ; ").unwrap_or((given, given));
-    let (text, other_text) = (octets(alloc, ours)?, octets(alloc, other)?);
-    let (ours, other) = (policy(alloc, ours)?, policy(alloc, other)?);
-    let ours = PolicyFile {
-        name: "p",
-        text: text.as_slice(),
-        policy: &ours,
-    };
-    let other = PolicyFile {
-        name: "q",
-        text: other_text.as_slice(),
-        policy: &other,
-    };
-    let mut text = kept_text(alloc, &ours, &other)?;
-    text.push_str(".")?;
-    Ok(text)
+/// A row: the same, of each code of an asset the first act of a command that only the first policy allows, and a point.
+pub(super) const DIFFERENCES: &str = r#"- ; -
+.
+
+set: [[asset.rule]] / name = "set" / action = "allow" / codes = [6] ; values: values = ["0..400"]
+.
+
+- ; values: values = ["0..400"]
+p allows more that q refuses; of each code of an asset the first act that a command has, at most 20:
+p:14:1: asset 1 "pump", rule 2 "set" allows code 6 (write single register), group 0, point 40, value 401 from 0.0.0.0
+  q: asset 1 "pump": no allow rule with its client, code, group and point has the value, so default refuses it
+p:14:1: asset 1 "pump", rule 2 "set" allows code 16 (write multiple registers), group 0, point 40, value 401 from 0.0.0.0
+  q: asset 1 "pump": no allow rule with its client, code, group and point has the value, so default refuses it
+.
+
+set: [[asset.rule]] / name = "set" / action = "allow" / codes = [6] | last: [[asset]] / name = "b" / address = "10.0.0.7" / port = 502 / protocol = "modbus" / station = 1 / [[asset.rule]] / name = "poll" / action = "allow" / codes = [3] ; values: values = ["0..400"] | last: [[asset]] / name = "b" / address = "10.0.0.7" / port = 502 / protocol = "modbus" / station = 1
+p allows more that q refuses; of each code of an asset the first act that a command has, at most 20:
+p:14:1: asset 1 "pump", rule 2 "set" allows code 6 (write single register), group 0, point 40, value 401 from 0.0.0.0
+  q: asset 1 "pump": no allow rule with its client, code, group and point has the value, so default refuses it
+p:26:1: asset 2 "b", rule 1 "poll" allows code 3 (read holding registers), group 0, point 0, without a value from 0.0.0.0
+  q: asset 2 "b": no allow rule has its client, code and group, so default refuses it
+."#;
+
+/// What is said of two policies.
+#[derive(Clone, Copy)]
+pub(super) enum Said {
+    /// Why the first is not included in the second.
+    Reason,
+    /// The rules whose rates or logs differ, and a point after the last line.
+    Kept,
+    /// Of each code the first difference, and a point after the last line.
+    Differences,
 }
 
-/// Why the first of two policies is not included in the second.
-pub(super) fn reason(alloc: Global, given: &str) -> Result<String, Fail> {
+/// What is said of two policies, in the files p and q.
+pub(super) fn said(alloc: Global, given: &str, what: Said) -> Result<String, Fail> {
     let (ours, other) = given.split_once(" ; ").unwrap_or((given, given));
     let (text, other_text) = (octets(alloc, ours)?, octets(alloc, other)?);
     let (ours, other) = (policy(alloc, ours)?, policy(alloc, other)?);
@@ -235,7 +249,13 @@ pub(super) fn reason(alloc: Global, given: &str) -> Result<String, Fail> {
         text: other_text.as_slice(),
         policy: &other,
     };
-    Ok(inclusion_message(alloc, &ours, &other)?)
+    let mut text = match what {
+        Said::Reason => return Ok(inclusion_message(alloc, &ours, &other)?),
+        Said::Kept => kept_text(alloc, &ours, &other)?,
+        Said::Differences => differences_text(alloc, &ours, &other)?,
+    };
+    text.push_str(".")?;
+    Ok(text)
 }
 
 /// What the comparison of two policies says.
