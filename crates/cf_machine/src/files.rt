@@ -1,4 +1,5 @@
 //! Real files.
+//! A file that has gone between two calls, and a name that is a folder, are read faults like any other.
 ghost use Rattle.std.specs.Prelude.{◌≡◌, ◌≤◌, IfErr, IfOk, false, length, true};
 ghost use Rattle.cf_outside.specs.Faults.{HasCause};
 ghost use Rattle.cf_outside.specs.Files.{untold};

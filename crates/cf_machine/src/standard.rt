@@ -1,4 +1,7 @@
 //! Standard error, for which nothing waits, and the descriptors that every program begins with.
+//! Before each line `poll` is asked whether standard error takes octets; then it goes out in one write of at most 240, since a
+//! pipe that takes any has a page free, a socket three quarters of its buffer, a terminal 256 octets. What is left is that
+//! another program writes to the same pipe meanwhile. The signal of a pipe that nobody reads is not taken.
 
 use arrayvec::ArrayString;
 use libc::net as c;

@@ -1,4 +1,5 @@
 //! Whether two names stand for one file.
+//! Names are followed to device and inode, or to the folder where a file is not there yet.
 
 use std::alloc::{AllocError, Global};
 use std::os::unix::fs::MetadataExt;

@@ -1,4 +1,7 @@
 //! The two connections of a session of a service.
+//! One that was left is read for two seconds, so that what was given to it gets there before the system answers unread octets
+//! with a reset. One that failed ends its session in the next turn, by the take or give that meets it, or, where a queue is full,
+//! by the moment. A side that has ended has not failed: what is queued for the other goes out.
 ghost use Rattle.std.specs.List.{HoldsAt};
 ghost use Rattle.std.specs.Prelude.{◌≡◌, ◌<◌, IfOk, IfSome, length};
 ghost use Rattle.cf_machine.specs.Moved.{IsOn};
