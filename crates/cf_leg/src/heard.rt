@@ -14,6 +14,7 @@ ghost use Rattle.cf_leg.specs.Told.{answers_syn};
 use crate::ends::{Advertised, EndState, LegAnswer, Role};
 use cf_packet::{ACK, Packet, RST, SYN, sequence_number};
 
+/// Whether FIN is set. RFC 9293, section 3.1.
 pub(crate) fn has_fin(packet: &Packet<'_>) -> bool
     ensures { result ≡ has_fin (packet_value packet.now) }
 {

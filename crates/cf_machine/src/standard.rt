@@ -19,7 +19,7 @@ pub(crate) struct ErrorLines {
 }
 
 impl ErrorLines {
-    /// None was dropped yet.
+    /// Lines of which none was dropped yet.
     pub fn new() -> Self {
         ErrorLines { dropped: 0 }
     }
@@ -46,7 +46,7 @@ impl ErrorLines {
     }
 }
 
-/// Whether a line on standard error would not have to wait.
+/// Whether a line on standard error would not have to wait, as `poll` says of descriptor 2.
 pub fn takes_lines() -> bool {
     let mut asked = [pollfd {
         fd: libc::STDERR_FILENO,
