@@ -1,4 +1,5 @@
 //! APDUs in a stream.
+//! Whether an I frame commands is for the reader above.
 ghost use Rattle.std.specs.Prelude.{◌≡◌, ℕ, ◌<◌, ◌≤◌, MatchOption, false, List, length, take, slice_index};
 ghost use Rattle.cf_view.specs.Framing.{Begins, IsPartial, BreaksAt, Frames, HasFront, framed_value, IsPrefixFree};
 ghost use Rattle.cf_view.specs.Octets.{IsOctets};

@@ -1,4 +1,5 @@
 //! The ASDU of a command.
+//! A cause is kept as it came, so that an ASDU and its octets tell each other.
 ghost use Rattle.std.specs.Prelude.{◌≡◌, ℕ, ◌≤◌, List, length, Result};
 ghost use Rattle.cf_asdu.specs.Asdu.{AsduValue, asdu_value, SpellsAsdu, Reads, asdu_answer, has_objects, is_command_cause};
 ghost use Rattle.cf_asdu.specs.Asdu.{refusal_reason};

@@ -1,4 +1,7 @@
 //! `packets CAPTURE`: the packets of a capture are listed line by line.
+//! Lines are gathered up to 32 KiB, and put before the next one may not fit, at the end, and before what is printed of a refusal,
+//! a cut or a failed read: a failed put of them is 4 also there, since they come first in the order of the work. A read that
+//! fails is 3, behind the lines of the records before it.
 ghost use Rattle.std.specs.Prelude.{◌≡◌, ◌+◌, ◌≤◌, ◌⊎◌, ◌++◌, ℕ, List, IsErrOf, Err, Ok, take};
 ghost use Rattle.arrayvec.specs.ArrayVec.{array_vec_len};
 ghost use Rattle.cf_words.specs.Command.{Packets};

@@ -1,4 +1,6 @@
 //! The corners of the axes: the numbers at which some rule begins to take or has stopped taking.
+//! A span outside its axis, which no policy that was read has, makes the corners that lie on the axis. A write that the second
+//! policy allows at every value is shown without one where the first states no values.
 ghost use Rattle.std.specs.Prelude.{◌≡◌, ◌++◌, ◌∷◌, [], ◌*◌, ◌+◌, ◌≤◌, map, min, length, filter, IfOk, OnOk};
 ghost use Rattle.std.specs.List.{flat_map};
 ghost use Rattle.cf_compare.specs.Cells.{is_on, turns, stated_spans, most_cells};

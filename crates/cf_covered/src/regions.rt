@@ -1,4 +1,5 @@
 //! Regions of acts: clients, groups, points and values from one number to another each.
+//! Of a rule's acts ranges of clients, groups, points and values are taken apart, and of each the lowest act is looked at.
 ghost use Rattle.std.specs.Prelude.{◌≡◌, ℕ, ◌++◌, IfSome, IfOk, OnOk, true, false};
 ghost use Rattle.std.specs.List.{flat_map};
 ghost use Rattle.cf_view.specs.declared.base.Act.{Act};

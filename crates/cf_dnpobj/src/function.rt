@@ -1,4 +1,5 @@
 //! Function codes and the control octet of a fragment. IEEE 1815-2012, sections 4.2 and 4.4.
+//! A confirmation has no acts.
 
 /// FIR and FIN, of the only fragment of a message.
 pub(crate) const SINGLE: u8 = 0xC0;

@@ -1,4 +1,7 @@
 //! Fragments put together.
+//! A segment is judged by all segments of its side so far: one with no octet changes nothing; one out of order, a repeat too, or
+//! too long leaves nothing unfinished; FIR begins anew with any sequence; one with FIR and FIN may itself have up to 2,048
+//! octets.
 ghost use Rattle.std.specs.Prelude.{◌≡◌, ℕ, ◌+◌, ◌<◌, ◌≤◌, ◌↔◌, true, List, [], ◌∷◌, ◌++◌, length, take, drop, IfOk};
 ghost use Rattle.std.specs.Prelude.{Some, IsSome, IsTrue};
 ghost use Rattle.cf_dnptrans.specs.Transport.{answer_to, unfinished, last_fragment};

@@ -1,4 +1,5 @@
 //! The test of the lengths.
+//! It stands behind each element of a history: whether one of the two sides, or of the two streams, has 2^30 letters by then.
 ghost use Rattle.std.specs.Prelude.{◌≡◌};
 ghost use Rattle.cf_lane.specs.Limit.{limit_by};
 ghost use Rattle.cf_outq.specs.SendQueue.{IsQueue, queue_length};

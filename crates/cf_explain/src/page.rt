@@ -40,6 +40,7 @@ impl Page {
         self.is_whole = false;
     }
 
+    /// Puts a piece; from where memory ran out on nothing more is put.
     pub(crate) fn push(&mut self, piece: &str) {
         if self.is_whole {
             self.is_whole = self.text.push_str(piece).is_ok();
@@ -63,18 +64,21 @@ impl Page {
         }
     }
 
+    /// Puts a character.
     pub(crate) fn push_char(&mut self, character: char) {
         if self.is_whole {
             self.is_whole = self.text.push(character).is_ok();
         }
     }
 
+    /// Puts a decimal number.
     pub(crate) fn push_number(&mut self, number: u64) {
         if self.is_whole {
             self.is_whole = write!(self.text, "{number}").is_ok();
         }
     }
 
+    /// Puts a decimal number, with its sign where that is a minus.
     pub(crate) fn push_signed(&mut self, number: i64) {
         if self.is_whole {
             self.is_whole = write!(self.text, "{number}").is_ok();
@@ -87,6 +91,7 @@ impl Page {
         self.push_number(number);
     }
 
+    /// Puts a number with its sign behind a piece.
     pub(crate) fn push_signed_after(&mut self, piece: &str, number: i64) {
         self.push(piece);
         self.push_signed(number);

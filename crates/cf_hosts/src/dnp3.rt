@@ -1,4 +1,5 @@
 //! The hosts that speak DNP3: a master that operates relays directly, and an outstation that answers with the objects.
+//! A response has its request's sequence number, and the relay is latched on once for 100 milliseconds.
 ghost use Rattle.cf_dnplink.specs.LinkFrame.{IsFrame, frame_value};
 
 use crate::commands::{Commands, point_of};

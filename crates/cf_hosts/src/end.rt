@@ -1,5 +1,7 @@
 //! A host's end of a TCP connection. RFC 9293; it keeps to what the hosts of a world need: one text at a time is under way, all
 //! is repeated 300 milliseconds after it was sent, and of what is heard whole units alone are taken.
+//! A host takes nothing of what it hears while its own text is under way, and acknowledges what it had before; its acknowledgment
+//! number stands behind the last whole unit, and is that of the moment at which a segment became ready.
 ghost use Rattle.std.specs.Prelude.{◌≡◌, ◌≢◌, ◌≤◌, ◌<◌, ◌↔◌, true, IsSome, length};
 ghost use Rattle.arrayvec.specs.ArrayVec.{array_vec_len};
 ghost use Rattle.cf_hosts.specs.Hosts.{StaysOwed, TakesInside};

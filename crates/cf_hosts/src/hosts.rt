@@ -1,4 +1,5 @@
 //! The hosts of a world: a client and a controller for each session.
+//! The client speaks behind an empty segment, and closes behind the answer to its last command, the controller as it hears that.
 ghost use Rattle.std.specs.Prelude.{◌≡◌, ◌≤◌, ◌<◌, ◌⊎◌, IfSome, IsSome, Some, length};
 ghost use Rattle.cf_hosts.specs.SilentDesk.{silent_desk};
 

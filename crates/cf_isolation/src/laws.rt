@@ -1,4 +1,6 @@
 //! Laws of a run's files: each is the contract of a function that does nothing.
+//! All sessions of one client and asset are told apart by their time alone, so the laws on lines ask for assets with distinct
+//! names.
 ghost use Rattle.cf_isolation.specs.Isolated.{CapturesAreIsolated, CapturesHoldSessions, CapturesHoldToTheNext};
 ghost use Rattle.cf_isolation.specs.Isolated.{SentIsIsolated, SentIsOfSessions, SentToTheNext};
 ghost use Rattle.cf_isolation.specs.Lives.{AlikeInLines, AlikeInRecords, EachHasALife, EachHasRecords, EachLogged, EachSent};

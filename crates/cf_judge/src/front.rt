@@ -1,4 +1,5 @@
 //! What stands at the front of a client's bytes, and what it counts for.
+//! A break has the record of the octet that no unit has there.
 ghost use Rattle.std.specs.Prelude.{◌≡◌, ◌+◌, ℕ, List, [], ◌∷◌, ◌++◌, IfOk, true, false};
 ghost use Rattle.cf_apci.specs.Apdu.{SpellsApdu};
 ghost use Rattle.cf_modbus.specs.Adu.{SpellsAdu};

@@ -14,6 +14,7 @@ use cf_lane::kind_of;
 use cf_policy::{Asset, CodeIndex, Decider};
 use cf_view::{Reason, View};
 
+/// What an APDU counts for: an I frame by its ASDU; S and U frames count for nothing. IEC 60870-5-104, section 5.
 pub(crate) fn judge_apdu(asset: &Asset, index: &CodeIndex, apdu: &Apdu<'_>) -> Ruling
     requires fits { Fits (apdu_value apdu.now) }
     ensures ruling { (client : ℕ) → IsIndexOf asset.now client index.now

@@ -1,4 +1,7 @@
 //! The filter of one session's two streams, without TCP.
+//! A broken octet is the last item of its side: what comes later, an End too, completes nothing. The line of an admitted command
+//! is written as it is put into its queue, and a queue is emptied behind that. Where a line cannot be written, the log has the
+//! first lines of a history that ends with its unit.
 ghost use Rattle.std.specs.Prelude.{◌≡◌, ℕ, ◌+◌, ◌*◌, ◌^◌, ◌<◌, ◌≤◌, ◌++◌, [], ◌∷◌, Bool, false, true, None, Option, IfOk, OnOk, OnErr};
 ghost use Rattle.std.specs.Prelude.{IsErr, List, length, drop};
 ghost use Rattle.cf_outq.specs.SendQueue.{Queue, IsQueueOf, after_push};

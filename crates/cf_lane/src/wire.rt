@@ -1,4 +1,6 @@
 //! What a lane keeps for its protocol.
+//! What an unfinished fragment may still put out is counted with its queue: one of n octets goes on in frames of at most n + n/4
+//! + 16 octets, so one that is begun owes 5n/4.
 ghost use Rattle.std.specs.Prelude.{◌≡◌, [], IfOk};
 ghost use Rattle.cf_lane.specs.Kept.{IsWireOf, KnowsWire, of_side, wire_debt};
 ghost use Rattle.cf_policy.specs.declared.Asset.{Asset};

@@ -1,4 +1,6 @@
 //! The rules that allow exactly what was seen.
+//! A rule without a value has every value, since code and group settle whether an act has one (`values_are_settled` of
+//! `cf_acts`). Runs of points that touch are one span, and a group of more than 64 goes on in the next rule.
 ghost use Rattle.std.specs.Prelude.{◌≡◌, ◌≤◌, ◌+◌, ◌++◌, ◌∷◌, [], length, All, Err, IfOk, OnOk};
 ghost use Rattle.cf_learn.specs.Seen.{AllowsSeen, IsSeenWithin};
 ghost use Rattle.cf_learn.specs.Greatest.{IsGrouped};

@@ -1,4 +1,7 @@
 //! What a packet is to a TCP end.
+//! On an end that is not open an RST is tested first, and every other wrong packet is ignored without a challenge; a SYN ACK
+//! opens also with FIN or text, which are not taken. With window 0 an RST at the base, which is then the edge, resets. An
+//! acknowledgement below what was acknowledged still counts, and its position plus window may raise the edge.
 ghost use Rattle.std.specs.Prelude.{◌≡◌, ◌-◌, ◌^◌, ◌≤◌, length, pos, negsuc, ◌≤ℤ◌};
 ghost use Rattle.std.specs.Prelude.{int_lt};
 ghost use Rattle.cf_packet.specs.Packet.{packet_value};
@@ -11,6 +14,7 @@ ghost use Rattle.cf_leg.specs.Told.{answers_syn};
 use crate::ends::{Advertised, EndState, LegAnswer, Role};
 use cf_packet::{ACK, Packet, RST, SYN, sequence_number};
 
+/// Whether FIN is set. RFC 9293, section 3.1.
 pub(crate) fn has_fin(packet: &Packet<'_>) -> bool
     ensures { result ≡ has_fin (packet_value packet.now) }
 {

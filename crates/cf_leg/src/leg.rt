@@ -1,4 +1,6 @@
 //! One end of a TCP connection.
+//! A deadline counts from the moment of its event, and one that runs goes on, also of an end that opens with window 0 while
+//! letters wait; only a speech starts the timer.
 ghost use Rattle.std.specs.Prelude.{◌≡◌, ◌<◌, ◌≤◌, not, true, List, []};
 ghost use Rattle.std.specs.Prelude.{length, IfOk};
 ghost use Rattle.cf_rebuild.specs.ReceiveWindow.{Consumes, IsWindow, base_of};

@@ -1,4 +1,6 @@
 //! Segments that go out.
+//! An empty segment goes out where no piece was sent and an acknowledgement is owed, or what is to be told differs from what was
+//! told. The End of a piece goes only where the shown edge is past it.
 ghost use Rattle.std.specs.Prelude.{◌≡◌, ◌+◌, ◌-◌, ◌^◌, ◌<◌, ◌≤◌, min, max, not, nat_lt, ◌&&◌, if◌then◌else◌};
 ghost use Rattle.std.specs.Prelude.{true, false, List, ℕ, [], ◌∷◌, length, take, IfOk, OnErr, OnOk, pos, ◌≤ℤ◌};
 ghost use Rattle.cf_outside.specs.Desk.{DeskValue};

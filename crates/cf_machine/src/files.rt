@@ -1,4 +1,5 @@
 //! Real files.
+//! A file that has gone between two calls, and a name that is a folder, are read faults like any other.
 ghost use Rattle.std.specs.Prelude.{◌≡◌, ◌≤◌, IfErr, IfOk, false, length, true};
 ghost use Rattle.cf_outside.specs.Faults.{HasCause};
 ghost use Rattle.cf_outside.specs.Files.{untold};
@@ -66,7 +67,7 @@ pub struct RealFiles<'a, R: FileSystem> {
 }
 
 impl<'a, R: FileSystem> RealFiles<'a, R> {
-    /// Both counts of faults are 0, and no file is open.
+    /// Files of which none is open, with no name noted. Both counts of faults are 0.
     pub fn new(rt: &'a R, alloc: Global, gather: Gather) -> Self
         ensures counts { (result.read_faults ≡ 0) × (result.write_faults ≡ 0) }
         ensures whole { result.is_short ≡ false }
@@ -103,6 +104,7 @@ impl<'a, R: FileSystem> RealFiles<'a, R> {
         self.note(name, Use::Output)
     }
 
+    /// Notes a name, what it leads to now, and what is done with it. The error is want of memory.
     fn note(&mut self, name: &str, used: Use) -> io::Result<()>
         ensures reads { self.new.read_faults ≡ self.old.read_faults }
         ensures writes { self.new.write_faults ≡ self.old.write_faults }
@@ -112,12 +114,12 @@ impl<'a, R: FileSystem> RealFiles<'a, R> {
         Ok(())
     }
 
-    /// Whether the file of this name was made anew.
+    /// Whether the file of this name was made anew by this work, and so is no longer as it was.
     pub fn is_begun(&self, name: &str) -> bool {
         is_begun(&self.places, name)
     }
 
-    /// The last call that failed, if one did.
+    /// The last call that failed, if one did, with the error of the system; nothing where memory ran out for its name.
     pub fn fault(&self) -> Option<&Fault> {
         self.fault.as_ref()
     }
@@ -219,7 +221,7 @@ impl<'a, R: FileSystem> RealFiles<'a, R> {
         self.named(name, found)
     }
 
-    /// What came of a call, with the file's name where it failed.
+    /// What came of a call, with the file's name where it failed; without a fault where memory ran out for the name.
     fn named(&self, name: &str, done: io::Result<()>) -> Result<(), Option<Fault>> {
         match done {
             Ok(()) => Ok(()),

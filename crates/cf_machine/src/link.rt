@@ -13,7 +13,8 @@ use std::time::{Clock, Duration, SystemTime};
 /// How many seconds the controller has to take the connection.
 const CONNECT_SECONDS: u64 = 10;
 
-/// Where a call failed.
+/// Which part of a relay a call failed for: binding the port and taking its client, a connection that stands, or the clock of the
+/// machine. This project's own.
 #[derive(Clone, Copy)]
 pub enum Part {
     Port,
@@ -22,7 +23,7 @@ pub enum Part {
     Clock,
 }
 
-/// A call that failed: where, and what the system said.
+/// The last call that failed: which part of the relay it was for, and the error of the system, as `Connection refused`.
 #[derive(Drop)]
 pub struct LinkFault {
     pub part: Part,
@@ -42,7 +43,7 @@ pub struct LinkPair<'a, R: Net + Clock + AllocGlobal> {
 }
 
 impl<'a, R: Net + Clock + AllocGlobal> LinkPair<'a, R> {
-    /// A pair that is not connected. Both counts are 0.
+    /// A pair that is not connected: the port that `meet` is told is bound by `meet`. Both counts are 0.
     pub fn new(rt: &'a R) -> Self
         ensures { (result.faults ≡ 0) × (result.idles ≡ 0) }
     {
@@ -56,7 +57,7 @@ impl<'a, R: Net + Clock + AllocGlobal> LinkPair<'a, R> {
         }
     }
 
-    /// The same, where the port is already bound; the one that `meet` is told is then not read.
+    /// The same, over a listener of IPv4 that is bound already; the port that `meet` is told is then not used.
     pub fn over(rt: &'a R, listener: R::Listener) -> Self
         ensures { (result.faults ≡ 0) × (result.idles ≡ 0) }
     {
@@ -65,12 +66,13 @@ impl<'a, R: Net + Clock + AllocGlobal> LinkPair<'a, R> {
         pair
     }
 
-    /// The last call that failed, if one did.
+    /// The last call that failed, if one did. A later call that does not fail leaves it.
     pub fn fault(&self) -> Option<&LinkFault> {
         self.fault.as_ref()
     }
 
-    /// Leaves both sides, after the last call; what was given to them gets there.
+    /// Leaves both sides, after the last call: closes them for sending, and reads away what they sent, so that the system does not
+    /// drop what was given to them. Nothing, where no connection was made.
     pub fn leave(&mut self) {
         if let Some(streams) = &mut self.streams {
             streams.leave();
@@ -110,7 +112,8 @@ impl<'a, R: Net + Clock + AllocGlobal> LinkPair<'a, R> {
         Ok((stream, endpoint_of(from)))
     }
 
-    /// Connects to the controller, and keeps both streams.
+    /// Connects to the controller, which has ten seconds to take the connection, and keeps both streams, whose reads and writes do
+    /// not wait.
     fn take_controller(&mut self, client: R::Stream, peer: SocketAddr) -> io::Result<()>
         ensures faults { self.new.faults ≡ self.old.faults }
         ensures idles { self.new.idles ≡ self.old.idles }
@@ -121,7 +124,8 @@ impl<'a, R: Net + Clock + AllocGlobal> LinkPair<'a, R> {
         Ok(())
     }
 
-    /// Microseconds since 1970, as a turn begins.
+    /// Microseconds since 1970 by the clock that may be set, once a turn can move something, or 5 milliseconds have passed.
+    /// `InvalidData` where the clock stands before 1970.
     fn now(&mut self) -> io::Result<u64>
         ensures faults { self.new.faults ≡ self.old.faults }
         ensures idles { self.new.idles ≡ self.old.idles }
@@ -160,7 +164,7 @@ impl<'a, R: Net + Clock + AllocGlobal> LinkPair<'a, R> {
         }
     }
 
-    /// Ends what is sent to a side, which may send on.
+    /// Ends what is sent to a side (`shutdown` for writing), which may send on.
     fn close(&self, side: Side) -> io::Result<()> {
         match &self.streams {
             Some(streams) => streams.close(side),
@@ -169,6 +173,7 @@ impl<'a, R: Net + Clock + AllocGlobal> LinkPair<'a, R> {
     }
 }
 
+/// The error of a call before `meet` has made both connections.
 fn not_connected() -> io::Error {
     io::Error::from(io::ErrorKind::NotConnected)
 }

@@ -29,7 +29,7 @@ use std::net::{IpAddr, Ipv4Addr, Net, SocketAddr};
 use std::time::Clock;
 pub use supervisor::Supervisor;
 
-/// What standard error says of a service as it begins.
+/// What standard error says of a service as it begins, without the name of the program and without line feeds.
 #[derive(Drop)]
 pub struct Announcement {
     /// What each place is for, in their order.
@@ -55,7 +55,8 @@ pub struct RealLinks<'a, R: Net + Clock> {
 }
 
 impl<'a, R: Net + Clock> RealLinks<'a, R> {
-    /// Of no place and no session. All counts are 0.
+    /// Links of no place and no session, whose supervisor is told from `wait` on. All counts are 0. An error is that of the clock
+    /// or of making the `poll`, or want of memory: room for 256 sessions is taken here.
     pub fn new(
         rt: &'a R,
         alloc: Global,
@@ -123,7 +124,7 @@ fn say_place(errors: &mut ErrorLines, announced: &Announcement, place: u32, here
     }
 }
 
-/// Says what is said once, behind the places.
+/// Says what is said once, as the first wait begins, and so once the service listens at all places.
 fn say_rest(errors: &mut ErrorLines, announced: &mut Announcement) {
     for line in announced.rest.iter() {
         errors.say(line.as_str());

@@ -15,7 +15,7 @@ const LAST_READS: u32 = 4096;
 /// How often it is read at most before others have their turn.
 const DRAIN_READS: u32 = 16;
 
-/// A connection whose reads and writes do not wait.
+/// A connection whose reads and writes do not wait, and what `poll` has said of it. This project's own.
 #[derive(Drop)]
 pub struct Peer<S: Read + Write + OpenStream + AsRawFd + Drop> {
     stream: S,
@@ -38,8 +38,8 @@ pub struct Peer<S: Read + Write + OpenStream + AsRawFd + Drop> {
 }
 
 impl<S: Read + Write + OpenStream + AsRawFd + Drop> Peer<S> {
-    /// Over a connection that was just made, whose reads and writes it keeps from waiting. What becomes ready is reported to the
-    /// registry under the token.
+    /// Over a connection that was just made, whose reads and writes it keeps from waiting, and whose segments from being gathered
+    /// (`TCP_NODELAY`). What becomes ready is reported to the registry under the token. An error is that of one of these calls.
     pub fn new(stream: S, registry: &Registry, token: Token) -> io::Result<Self> {
         stream.set_nonblocking(true)?;
         stream.set_nodelay(true)?;
@@ -58,7 +58,8 @@ impl<S: Read + Write + OpenStream + AsRawFd + Drop> Peer<S> {
         })
     }
 
-    /// Begins a turn. Where the turn before moved nothing, one that was not asked in it will not be in this one.
+    /// Begins a turn; `moved` says whether the turn before moved something. Where it moved nothing, one that was not asked in it
+    /// will not be in this one.
     pub fn begin_turn(&mut self, moved: bool) {
         self.is_lost = self.has_failed && !moved && !self.is_asked;
         self.is_watched = moved || self.is_asked;
@@ -71,12 +72,14 @@ impl<S: Read + Write + OpenStream + AsRawFd + Drop> Peer<S> {
         ((moved || self.is_asked) && self.may_read) || self.takes_again || self.has_failed
     }
 
-    /// Whether the turn can move something.
+    /// Whether the turn that has begun can move something: a read of one that is watched may find something, or it takes bytes
+    /// again.
     pub fn has_news(&self) -> bool {
         (self.is_watched && self.may_read) || self.takes_again
     }
 
-    /// Notes what the system says of it.
+    /// Notes an event of `poll` of this connection: a failure, the end of what comes, something to read, or room to write where it
+    /// had taken no bytes.
     pub fn note(&mut self, event: &Event) {
         self.has_failed = self.has_failed || event.is_error();
         self.is_ending = self.is_ending || event.is_read_closed() || event.is_error();
@@ -103,7 +106,7 @@ impl<S: Read + Write + OpenStream + AsRawFd + Drop> Peer<S> {
         }
     }
 
-    /// Has the next read ask the system, whatever it said.
+    /// Has the next read ask the system, also where no event said that it finds something.
     pub fn look_again(&mut self) {
         self.may_read = true;
     }
@@ -126,7 +129,8 @@ impl<S: Read + Write + OpenStream + AsRawFd + Drop> Peer<S> {
         Ok(count)
     }
 
-    /// Writes what it takes now; nothing where it takes none.
+    /// Writes what it takes now, and how many octets that are; nothing where it would have to wait, and then `poll` says when it
+    /// takes some again.
     pub fn write(&mut self, bytes: &[u8]) -> io::Result<Option<usize>>
         ensures { IfOk result (λ count. IfSome count (λ n. n ≤ length bytes.now)) }
     {
@@ -135,12 +139,12 @@ impl<S: Read + Write + OpenStream + AsRawFd + Drop> Peer<S> {
         Ok(count)
     }
 
-    /// Ends what is sent to it; it may send on.
+    /// Ends what is sent to it (`shutdown` for writing); it may send on.
     pub fn close(&self) -> io::Result<()> {
         self.stream.shutdown(Shutdown::Write)
     }
 
-    /// Reads away a part of what came; whether nothing more will come.
+    /// Reads away up to 16 times 4,096 octets of what came; whether nothing more will come, as it ended or failed.
     pub fn drain(&mut self) -> bool {
         let mut rest = [0u8; 4096];
         for _ in 0..DRAIN_READS {
@@ -153,7 +157,8 @@ impl<S: Read + Write + OpenStream + AsRawFd + Drop> Peer<S> {
         false
     }
 
-    /// Leaves it: what was sent to it gets there, which the system would drop where something that came was not read.
+    /// Closes it for sending, and reads away up to 4,096 times 4,096 octets of what came, without waiting: the system would drop
+    /// what was sent to it where something that came was not read.
     pub fn leave(&mut self) {
         let mut rest = [0u8; 4096];
         let _ = self.close();

@@ -29,7 +29,7 @@ pub struct RealSink<W: Write + Drop> {
 }
 
 impl<W: Write + Drop> RealSink<W> {
-    /// A sink whose count of faults is 0.
+    /// A sink over a writer, with nothing held back. Its count of faults is 0.
     pub fn new(writer: W, printing: Printing) -> Self
         ensures { result.faults ≡ 0 }
     {
@@ -58,7 +58,8 @@ impl<W: Write + Drop> RealSink<W> {
         self.writer.write_all(self.last.as_slice()).is_ok() && self.writer.flush().is_ok()
     }
 
-    /// Writes bytes, or holds them back; whether it did.
+    /// Writes bytes and flushes, or holds them back: at most 300 octets, of a sink that writes what was put last at the end.
+    /// Whether that was done.
     fn take(&mut self, bytes: &[u8]) -> bool
         ensures { self.new.faults ≡ self.old.faults }
     {

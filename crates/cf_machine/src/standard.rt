@@ -1,4 +1,7 @@
 //! Standard error, for which nothing waits, and the descriptors that every program begins with.
+//! Before each line `poll` is asked whether standard error takes octets; then it goes out in one write of at most 240, since a
+//! pipe that takes any has a page free, a socket three quarters of its buffer, a terminal 256 octets. What is left is that
+//! another program writes to the same pipe meanwhile. The signal of a pipe that nobody reads is not taken.
 
 use arrayvec::ArrayString;
 use libc::net as c;
@@ -16,7 +19,7 @@ pub(crate) struct ErrorLines {
 }
 
 impl ErrorLines {
-    /// None was dropped yet.
+    /// Lines of which none was dropped yet.
     pub fn new() -> Self {
         ErrorLines { dropped: 0 }
     }
@@ -43,7 +46,7 @@ impl ErrorLines {
     }
 }
 
-/// Whether a line on standard error would not have to wait.
+/// Whether a line on standard error would not have to wait, as `poll` says of descriptor 2.
 pub fn takes_lines() -> bool {
     let mut asked = [pollfd {
         fd: libc::STDERR_FILENO,

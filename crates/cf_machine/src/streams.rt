@@ -33,7 +33,8 @@ pub struct Streams<S: Read + Write + OpenStream + AsRawFd + Drop> {
 }
 
 impl<S: Read + Write + OpenStream + AsRawFd + Drop> Streams<S> {
-    /// Over two connections that were just made.
+    /// Over two connections that were just made. An error is that of a call that makes the `poll` or enters them, or want of
+    /// memory.
     pub fn new(net: &impl Net, alloc: Global, client: S, controller: S) -> io::Result<Self> {
         let poll = Poll::new(net)?;
         Ok(Streams {
@@ -59,6 +60,7 @@ impl<S: Read + Write + OpenStream + AsRawFd + Drop> Streams<S> {
         self.wait(clock)
     }
 
+    /// Whether the turn that has begun can move something on either side.
     fn has_news(&self) -> bool {
         self.client.has_news() || self.controller.has_news()
     }
@@ -123,14 +125,14 @@ impl<S: Read + Write + OpenStream + AsRawFd + Drop> Streams<S> {
         self.has_moved = self.has_moved || moved;
     }
 
-    /// Ends what is sent to a side, which may send on.
+    /// Ends what is sent to a side (`shutdown` for writing), which may send on.
     pub fn close(&self, side: Side) -> io::Result<()> {
         match side {
             Side::Client => self.client.close(),
             Side::Controller => self.controller.close(),
         }
     }
-    /// Leaves both sides; what was given to them gets there.
+    /// Leaves both sides: closes them for sending and reads away what they sent, so that what was given to them gets there.
     pub fn leave(&mut self) {
         self.client.leave();
         self.controller.leave();

@@ -1,4 +1,5 @@
 //! Application data units: their framing in a stream, by the MBAP header.
+//! A length whose high octet is not 0 breaks at that octet, before the low one is there.
 ghost use Rattle.std.specs.Prelude.{◌≡◌, ℕ, ◌<◌, ◌≤◌, ◌↔◌, ◌++◌, IfSome, IsTrue, List, length, slice_index};
 ghost use Rattle.cf_view.specs.Octets.{IsOctets};
 ghost use Rattle.cf_view.specs.Units.{HasUnits, IsUnitsThenBreak, IsUnitsThenRest};

@@ -1,4 +1,6 @@
 //! A desk: where packets and log lines go.
+//! One over a log is whole where nothing stands behind the log's last line feed: one that ends in `abc` and gets `x` and a line
+//! feed has the line `abcx`.
 ghost use Rattle.std.specs.Prelude.{◌≡◌, ◌<◌, ◌≤◌, ◌↔◌, IsTrue, true, length};
 ghost use Rattle.cf_outside.specs.Desk.{DeskValue, Emits, PutsLine, line_desk};
 ghost use Rattle.cf_outside.specs.Files.{Appends};

@@ -54,6 +54,7 @@ pub(crate) fn script(rt: &impl Abort, alloc: Global, text: &str) -> Vec<Fail> {
     fails
 }
 
+/// The word for the answer of a write in a line of a test.
 pub(crate) fn write_word(answer: WriteAnswer) -> &'static str {
     match answer {
         WriteAnswer::Done => "done",

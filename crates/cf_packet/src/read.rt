@@ -1,4 +1,5 @@
 //! Packets read from the octets of a record.
+//! An empty record of raw IP is short, and so is an Ethernet header with nothing behind it: what is not there has no version.
 ghost use Rattle.std.specs.Prelude.{◌≡◌, ◌≤◌, IfOk, length, option_copied};
 ghost use Rattle.cf_packet.specs.Ipv4.{ethernet_payload};
 ghost use Rattle.cf_packet.specs.Packet.{read_ipv4, packet_answer, read_record};

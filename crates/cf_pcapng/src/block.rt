@@ -1,4 +1,6 @@
 //! The tests of a block, and what it says.
+//! Place 2^40 is tested on a block's type and first length before its own tests, and on its other octets once its length is
+//! allowed.
 ghost use Rattle.std.specs.Prelude.{◌≡◌, ◌≤◌, ◌↔◌, ◌∷◌, [], IsTrue, Some, None, if◌then◌else◌, length, take};
 ghost use Rattle.cf_pcapng.specs.Answers.{HasLimits, HasRoom, HoldsPlaced, SizesRight, block_size_value, whole_block_value};
 ghost use Rattle.cf_pcapng.specs.Block.{captured_at, differs, is_allowed, is_section, is_served, is_wrong_section, kind_at};

@@ -1,4 +1,6 @@
 //! The blocks of a file, read one after the other.
+//! The first section header is tested before outputs are made, and read again as the first block; fewer than 28 octets of a later
+//! one are a cut. The place of a cut or a refusal is the block's own.
 ghost use Rattle.std.specs.Prelude.{◌≡◌, IfOk, slice_get};
 ghost use Rattle.cf_pcapng.specs.Answers.{HasLimits, IsInside, answer_of, block_answer_value, block_size_value};
 ghost use Rattle.cf_pcapng.specs.Block.{block_at, size_at};

@@ -210,6 +210,7 @@ fn rule_of<'a>(
     Some((number, rules.get(number)?))
 }
 
+/// The first of these pairs whose rule has the act by group, point and value; their rules have its client and code already.
 pub(crate) fn first_place(pairs: &[CodePair], rules: &[Rule], act: &Act) -> Option<usize>
     ensures { result ≡ position (λ p. rule_at rules.now p.rule (λ r. has_group_to_value r act.now)) pairs.now }
 {

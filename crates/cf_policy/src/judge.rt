@@ -39,6 +39,8 @@ fn first_number(rules: &[Rule], client: u32, act: &Act) -> Option<usize>
     rules.iter().position(|rule| has_act(rule, client, act))
 }
 
+/// The reason that a rule which refuses gives: that of the last list that it states, among values and points, else the function.
+/// This project's own.
 pub(crate) fn rule_reason(rule: &Rule) -> Reason
     ensures { result ≡ rule_reason rule.now }
 {
@@ -95,6 +97,7 @@ fn has_function(rule: &Rule, client: u32, act: &Act) -> bool
         && takes(&rule.groups, i64::from(act.group))
 }
 
+/// Whether a rule's values take that of an act: an act without one is taken only where the rule states none.
 pub(crate) fn takes_value(spans: &Items<Span>, value: Option<i64>) -> bool
     ensures { result ≡ takes_value spans.now value }
 {

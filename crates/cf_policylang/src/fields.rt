@@ -51,12 +51,14 @@ pub(crate) fn stated(key: Key, table: &Table) -> Option<&Value>
     table.get(key.as_str())
 }
 
+/// The value at a key; where the table has none, refusal 3.
 pub(crate) fn required(key: Key, place: Place, table: &Table) -> Result<&Value, PolicyRefusal>
     ensures { AnswersPlainly (λ v. view v.now) (required key place (table_view table.now)) result }
 {
     stated(key, table).ok_or(refusal(Cause::MissingKey, key, place))
 }
 
+/// The text that a value is; of another kind it is refusal 4.
 pub(crate) fn as_text(key: Key, place: Place, value: &Value) -> Result<&str, PolicyRefusal>
     ensures { AnswersPlainly (λ s. s.now) (as_text key place (view value.now)) result }
 {
@@ -66,6 +68,7 @@ pub(crate) fn as_text(key: Key, place: Place, value: &Value) -> Result<&str, Pol
     }
 }
 
+/// The integer of 64 bits that a value is; of another kind it is refusal 4.
 pub(crate) fn as_number(key: Key, place: Place, value: &Value) -> Result<i64, PolicyRefusal>
     ensures { result ≡ as_number key place (view value.now) }
 {
@@ -75,6 +78,7 @@ pub(crate) fn as_number(key: Key, place: Place, value: &Value) -> Result<i64, Po
     }
 }
 
+/// The truth value that a value is; of another kind it is refusal 4.
 pub(crate) fn as_flag(key: Key, place: Place, value: &Value) -> Result<bool, PolicyRefusal>
     ensures { result ≡ as_flag key place (view value.now) }
 {
@@ -84,6 +88,7 @@ pub(crate) fn as_flag(key: Key, place: Place, value: &Value) -> Result<bool, Pol
     }
 }
 
+/// The table that a value is; of another kind it is refusal 4.
 pub(crate) fn as_table(key: Key, place: Place, value: &Value) -> Result<&Table, PolicyRefusal>
     ensures { AnswersPlainly (λ t. table_view t.now) (as_table key place (view value.now)) result }
 {

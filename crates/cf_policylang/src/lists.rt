@@ -1,4 +1,6 @@
 //! The lists of a rule.
+//! A client's range is split at its first `..`: a part that is no address is 5, and 6 comes only where the first is above the
+//! second.
 ghost use Rattle.std.specs.Prelude.{◌≡◌, []};
 ghost use Rattle.toml.specs.View.{view, table_view, array_view};
 ghost use Rattle.cf_policylang.specs.Tested.{Answers, AnswersPlainly};

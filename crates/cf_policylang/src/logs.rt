@@ -1,4 +1,5 @@
 //! The key by which what a rule admits is written to the log.
+//! It is read last of a rule, behind the rate.
 ghost use Rattle.std.specs.Prelude.{◌≡◌};
 ghost use Rattle.toml.specs.View.{table_view};
 ghost use Rattle.cf_policylang.specs.Logs.{log};

@@ -1,4 +1,6 @@
 //! The names of codes and groups in policies of version 3.
+//! They are spent while the text is read, as sets are. A group is read as a number first, and as a name where it is none: no text
+//! is both.
 ghost use Rattle.std.specs.Prelude.{◌≡◌, option_map};
 ghost use Rattle.cf_policylang.specs.Names.{cause_named, code_name, code_named, group_named, is_called, variation_named, variation_of};
 ghost use Rattle.cf_policy.specs.declared.policy.Protocol.{Protocol};

@@ -55,6 +55,7 @@ fn octets(a: &str, b: &str, c: &str, d: &str) -> Option<u32>
     Some(((a * 256 + b) * 256 + c) * 256 + d)
 }
 
+/// The number from 0 to 255 that a part of an address is, without a sign or leading zeros.
 pub(crate) fn octet(text: &str) -> Option<u32>
     ensures value { result ≡ octet text.now }
     ensures small { IfSome result (λ n. n < 256) }
@@ -92,6 +93,7 @@ fn has_spare(text: &[u8]) -> bool
     text.starts_with(b"+") || text.starts_with(b"-0") || (text.len() > 1 && text.starts_with(b"0"))
 }
 
+/// The number itself, where it is from `low` to `high`.
 pub(crate) fn within(low: i64, high: i64, number: i64) -> Option<i64>
     ensures value { result ≡ within low high number }
     ensures above { IfSome result (λ z. low ≤ℤ z) }

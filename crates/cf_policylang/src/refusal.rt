@@ -206,6 +206,7 @@ pub(crate) struct Place {
 }
 
 impl Place {
+    /// The document itself, in no asset and no rule.
     pub(crate) const DOCUMENT: Place = Place { asset: 0, rule: 0 };
 
     /// The set of this number in the document.
@@ -218,6 +219,7 @@ impl Place {
         }
     }
 
+    /// The asset of this number, from 1, in none of its rules.
     pub(crate) fn asset(asset: u32) -> Place
         ensures { result ≡ record { asset = asset; rule = 0 } }
     {

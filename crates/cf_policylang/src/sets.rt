@@ -1,4 +1,7 @@
 //! The sets of points that a document of version 2 names, and the points of a rule beside them.
+//! They are spent while the text is read, by one chain of tests for all versions: nothing that judges, compares or learns knows
+//! them. A list is tested for its length as it is written, and again with the points of its sets in place, so the first bad entry
+//! is told before the second count.
 ghost use Rattle.std.specs.Prelude.{◌≡◌, ◌≤◌, ◌++◌, [], IfOk, Ok, bytes_eq, option_map, vec_len, find};
 ghost use Rattle.toml.specs.View.{view, table_view, array_view};
 ghost use Rattle.cf_policylang.specs.declared.sets.TheConstants.{MOST_SETS};

@@ -1,4 +1,5 @@
 //! The two forms of capture files.
+//! One that begins with 0A0D0D0A is pcapng; one of fewer than four octets is refused with 1 as either.
 ghost use Rattle.std.specs.Prelude.{◌≡◌, Err, true};
 ghost use Rattle.cf_pcapng.specs.Block.{is_section};
 ghost use Rattle.cf_records.specs.Form.{FormsAs, classic_form, first_place, room_of};

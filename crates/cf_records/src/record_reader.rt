@@ -1,4 +1,5 @@
 //! The records of a capture file, read one after the other.
+//! An octet that the file does not have stands nowhere, so a file that ends is cut (7), and not too large.
 ghost use Rattle.std.specs.Prelude.{◌≡◌, ℕ, ◌^◌, ◌≤◌, IsErrOf, length};
 ghost use Rattle.cf_outside.specs.Frames.{OnlyReads};
 ghost use Rattle.cf_records.specs.Form.{interface_of, room_of};

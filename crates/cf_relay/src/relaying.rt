@@ -1,4 +1,5 @@
 //! A relay between two stages of a turn, and each stage. This project's own.
+//! A session's moment in the log is the greatest that was told so far.
 ghost use Rattle.std.specs.Prelude.{◌≡◌, ℕ, ◌<◌, [], ◌∷◌, List, Option, true, IfErr, OnOk, length};
 ghost use Rattle.cf_links.specs.LinkValue.{link_value};
 ghost use Rattle.cf_links.specs.Links.{LinksPlace};

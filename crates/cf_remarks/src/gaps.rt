@@ -72,6 +72,7 @@ pub struct Gap {
 }
 
 impl Sent {
+    /// What no client has sent yet.
     pub(crate) fn new(alloc: Global, begins: Begins) -> Sent {
         Sent {
             begins,

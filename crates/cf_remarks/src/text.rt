@@ -58,6 +58,7 @@ pub(crate) enum Piece<'a> {
 use Piece::{Number, Words};
 
 impl Lines {
+    /// No line yet.
     pub(crate) fn new(alloc: Global) -> Lines {
         Lines {
             text: String::new(alloc),
@@ -65,6 +66,7 @@ impl Lines {
         }
     }
 
+    /// The text; an error where memory ran out for a part of it.
     pub(crate) fn finish(self) -> Result<String, AllocError> {
         if self.is_whole {
             Ok(self.text)
@@ -80,14 +82,17 @@ impl Lines {
         self.end();
     }
 
+    /// Begins a line with the word with which each remark begins.
     pub(crate) fn begin(&mut self) {
         self.push("note: ");
     }
 
+    /// Ends a line.
     pub(crate) fn end(&mut self) {
         self.push("\n");
     }
 
+    /// Puts pieces, one after the other; numbers are decimal.
     pub(crate) fn push_all(&mut self, pieces: &[Piece<'_>]) {
         for piece in pieces {
             match piece {

@@ -1,4 +1,5 @@
 //! The marks of frames that are not acknowledged.
+//! Refused frames with no unacknowledged admitted frame before them keep no mark, and do not count as outstanding.
 ghost use Rattle.std.specs.Prelude.{◌≡◌, ◌+◌, ◌<◌, ◌≤◌, [], ◌∷◌, ◌++◌, length, drop, IfSome, IfNone, count_by};
 ghost use Rattle.circular_buffer.specs.Buffer.{buffer};
 ghost use Rattle.cf_renumber.specs.Counts.{controllers_among, is_controllers};

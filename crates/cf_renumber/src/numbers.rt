@@ -1,4 +1,5 @@
 //! The numbers of one session.
+//! After a refusal of a number only the drop may follow.
 ghost use Rattle.std.specs.Prelude.{◌≡◌, ℕ, ◌+◌, ◌%◌, ◌<◌, ◌≤◌, ◌↔◌, length, List, [], ◌∷◌, IfOk, IfSome, OnErr, MatchResult};
 ghost use Rattle.std.specs.Prelude.{IsSome, IsTrue, Some, None, count_by};
 ghost use Rattle.cf_renumber.specs.Counts.{NumberEvent, Started, Stopped, Admitted, Refused, ClientAck, Carried, ControllerAck};

@@ -1,4 +1,5 @@
 //! A desk over two lent files: packets go to a capture file, lines to a log.
+//! A record is read back only where the box would have spelled it so: a capture has many spellings of one packet.
 ghost use Rattle.std.specs.Prelude.{◌≡◌, ◌<◌, ◌≤◌, ◌+◌, ◌++◌, ◌∷◌, [], List, length, ℕ};
 ghost use Rattle.cf_outside.specs.Files.{Appends};
 ghost use Rattle.cf_outside.specs.Frames.{OnlyWrites};

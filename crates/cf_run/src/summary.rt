@@ -1,4 +1,5 @@
 //! What is counted over events.
+//! A count that has reached 2^64 - 1 stays there.
 ghost use Rattle.std.specs.Prelude.{◌≡◌};
 ghost use Rattle.cf_run.specs.Counted.{counted};
 

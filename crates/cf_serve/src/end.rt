@@ -1,4 +1,6 @@
 //! How a session of a service ends.
+//! Of a silent or lost one the last line has the greatest moment that it told, 0 before its first; the lines of a client that
+//! took the last place, of a controller that was not reached and of want of memory have the round's.
 
 use cf_audit::CutReason;
 

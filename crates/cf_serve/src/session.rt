@@ -1,4 +1,6 @@
 //! A session of a service, and its turns.
+//! A client is looked at once, for a round, before its controller is asked, since the system tells an end a round after the
+//! client was taken.
 ghost use Rattle.std.specs.Prelude.{◌≡◌, ◌<◌, ◌∷◌, [], IfOk, IsErr, Err, None, Ok, OnErr, OnOk, Some, length, true};
 ghost use Rattle.cf_audit.specs.Line.{what_value};
 ghost use Rattle.cf_lane.specs.Handled.{WritesLog};

@@ -1,4 +1,5 @@
 //! The sessions of a service that stand, and their turns in a round.
+//! A round is data: its moment, the clients that came, and a turn for each session that stands.
 ghost use Rattle.std.specs.Prelude.{◌≡◌, ◌<◌, ◌≤◌, ◌+◌, ◌-◌, false, ◌^◌, ◌++◌, ◌∷◌, [], if◌then◌else◌, IfOk, Err, IsErr, List, OnErr};
 ghost use Rattle.std.specs.Prelude.{OnOk, Some, length, map, option_map, slice_get, true, vec_capacity, vec_len, ℕ};
 ghost use Rattle.cf_lane.specs.Handled.{WritesLog};

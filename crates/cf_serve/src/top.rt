@@ -1,4 +1,6 @@
 //! The service: the places are opened, and then round follows round.
+//! Room for all sessions is taken before anything is asked of the links; the queues and the lane of one as its controller is
+//! reached.
 ghost use Rattle.std.specs.Prelude.{◌≡◌, ◌≤◌, ◌*◌, Err, OnOk, false, length, true, ℕ};
 ghost use Rattle.std.specs.List.{AllByRecursion};
 ghost use Rattle.cf_lane.specs.Handled.{WritesLog};

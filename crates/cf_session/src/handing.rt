@@ -1,4 +1,5 @@
 //! The bytes that a side's window has taken are handed to the lane.
+//! Text and FIN behind a side's End count on its TCP end and draw an acknowledgement; the lane is not called for them.
 ghost use Rattle.std.specs.Prelude.{◌≡◌, ℕ, ◌+◌, ◌*◌, ◌^◌, ◌<◌, ◌≤◌, Bool, true, false, List, ◌++◌, length, drop, IfOk, OnErr, OnOk, None};
 ghost use Rattle.std.specs.Result.{is_err};
 ghost use Rattle.cf_lane.specs.Follows.{IsEndBehindCut, Rests, rest_of, with_rest};

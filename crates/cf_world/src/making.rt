@@ -1,4 +1,6 @@
 //! The making of the capture, record by record.
+//! At most 1,000 segments are lost between two records, and at most 10 seconds lie between them. Neither is ever reached, so the
+//! making ends.
 ghost use Rattle.std.specs.Prelude.{◌≡◌, ◌≤◌, ◌<◌, ◌+◌, ◌∷◌, [], IsErrOf, OnOk, length};
 ghost use Rattle.cf_outside.specs.Frames.{OnlyWrites};
 ghost use Rattle.cf_policy.specs.Within.{AreAssetsWithin};

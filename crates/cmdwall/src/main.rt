@@ -1,4 +1,6 @@
 //! The program `cmdwall`: the words that it was given, over the files, the standard output and the streams of the machine.
+//! `--help` and `--version`, alone, are answered here: for `box_main` they are words of no form. A word that is not UTF-8 makes
+//! the words unreadable, which is 2.
 #![tactic(auto)]
 
 mod service;

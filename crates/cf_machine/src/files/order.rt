@@ -19,7 +19,7 @@ pub(crate) struct Order {
 }
 
 impl Order {
-    /// Nothing is gathered.
+    /// An order in which nothing is gathered.
     pub(crate) fn new(alloc: Global) -> Self {
         Order {
             runs: Vec::new(alloc),
@@ -67,7 +67,7 @@ impl Order {
         all
     }
 
-    /// Forgets all.
+    /// Forgets all octets, once they are written or given up.
     pub(crate) fn clear(&mut self) {
         self.runs.clear();
     }

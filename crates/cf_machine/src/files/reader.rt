@@ -1,4 +1,5 @@
 //! A file that is read.
+//! Of a pipe a header can be read before the first record: what was read ahead is kept, and the last 64 octets that it gave.
 ghost use Rattle.std.specs.Prelude.{◌≤◌, IfOk, length};
 
 use arrayvec::ArrayVec;

@@ -1,11 +1,12 @@
 //! Whether two names stand for one file.
+//! Names are followed to device and inode, or to the folder where a file is not there yet.
 
 use std::alloc::{AllocError, Global};
 use std::os::unix::fs::MetadataExt;
 use std::rt::Files as FileSystem;
 use std::{fs, io};
 
-/// A file or folder of the machine, whatever its names are.
+/// A file or folder of the machine, whatever its names are: its device and its inode.
 #[derive(Clone, Copy, PartialEq, Eq)]
 pub(crate) struct Node {
     device: u64,
@@ -13,7 +14,7 @@ pub(crate) struct Node {
 }
 
 impl Node {
-    /// That of which this is known.
+    /// The one of which the system tells this (`stat`).
     pub(crate) fn of(known: &impl MetadataExt) -> Self {
         Node {
             device: known.dev(),
@@ -30,7 +31,7 @@ enum Leads {
     Nowhere,
 }
 
-/// What the work does with a file.
+/// What the work does with the file of a name.
 #[derive(Clone, Copy, PartialEq, Eq)]
 pub(crate) enum Use {
     Read,
@@ -48,14 +49,15 @@ pub(crate) struct Place {
     used: Use,
 }
 
-/// Two names of one file.
+/// Two names of a command that lead to one file, of which one is an output's.
 #[derive(Drop)]
 pub struct Twins {
     pub name: String,
     pub other: String,
 }
 
-/// Where a name leads.
+/// A name with what it leads to now: a file, a name in a folder that is there, or nothing that could be the same as another. The
+/// error is want of memory.
 pub(crate) fn place_of<R: FileSystem>(
     rt: &R,
     alloc: Global,
@@ -124,7 +126,7 @@ fn twin_of<R: FileSystem>(
     Ok(None)
 }
 
-/// Whether a place leads to where a name leads.
+/// Whether a place leads to where a name leads: to one file, or to one last part in one folder.
 fn is_same(place: &Place, leads: Leads, name: &str) -> bool {
     match (place.leads, leads) {
         (Leads::File(one), Leads::File(other)) => one == other,
@@ -135,6 +137,7 @@ fn is_same(place: &Place, leads: Leads, name: &str) -> bool {
     }
 }
 
+/// Where a name leads, links followed: what is no file, as a folder, a pipe or a terminal, is nowhere.
 fn leads_of<R: FileSystem>(rt: &R, name: &str) -> Leads {
     match fs::metadata(rt, name) {
         Ok(known) if known.is_file() => Leads::File(Node::of(&known)),
@@ -150,7 +153,7 @@ fn folder_of<R: FileSystem>(rt: &R, folder: &str) -> Leads {
     }
 }
 
-/// The folder of a name.
+/// The folder of a name: `.` where it has none.
 fn folder_part(name: &str) -> &str {
     match name.rsplit_once('/') {
         Some(("", _)) => "/",

@@ -92,7 +92,7 @@ pub(crate) struct Writers<R: FileSystem> {
 }
 
 impl<R: FileSystem> Writers<R> {
-    /// No file is open.
+    /// Writers of which none is open; at most four will be.
     pub(crate) fn new(alloc: Global) -> Self {
         Writers {
             alloc,
@@ -140,7 +140,7 @@ impl<R: FileSystem> Writers<R> {
         done
     }
 
-    /// Makes a file empty, and keeps it open.
+    /// Makes a file empty, or anew where it is not there, and keeps it open as the latest.
     pub(crate) fn create(&mut self, rt: &R, name: &str) -> Result<(), Option<Fault>> {
         self.close(name)?;
         let opened = OpenOptions::new()
@@ -275,7 +275,7 @@ fn follow<R: FileSystem>(rt: &R, writer: &mut Writer<R::File>) -> io::Result<()>
     Ok(())
 }
 
-/// The second, by a clock that only goes forward.
+/// The second by `CLOCK_MONOTONIC`, which only goes forward.
 fn second() -> i64 {
     let mut now = timespec {
         tv_sec: 0,

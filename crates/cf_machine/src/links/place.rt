@@ -22,7 +22,8 @@ pub(crate) struct Place {
 }
 
 impl Place {
-    /// Binds, and listens.
+    /// Binds to an address and port of this machine, and listens; 0.0.0.0 is every address of IPv4. An error is that of the system:
+    /// the port is in use, or there is no right to it.
     pub fn new(
         net: &impl Net,
         at: SocketAddr,
@@ -39,12 +40,12 @@ impl Place {
         })
     }
 
-    /// Where it listens.
+    /// The address and port at which it listens, as the system tells it.
     pub fn address(&self) -> io::Result<SocketAddr> {
         self.listener.local_addr()
     }
 
-    /// Notes that a client waits.
+    /// Notes an event of `poll`: a client waits, or the listener has failed, which the next `accept` tells.
     pub fn note(&mut self, event: &Event) {
         self.may_accept = self.may_accept || event.is_readable() || event.is_error();
     }
@@ -54,12 +55,12 @@ impl Place {
         self.is_asked = true;
     }
 
-    /// Begins a round.
+    /// Begins a round, in which it was not asked for a client yet.
     pub fn begin_round(&mut self) {
         self.is_asked = false;
     }
 
-    /// How many milliseconds may pass before it is asked again; nothing where the system says when.
+    /// How many milliseconds may pass before it is asked again, 1,000 at most; nothing where the system says when, or none asks.
     pub fn longest_wait(&self, now: u64) -> Option<u64> {
         if self.may_accept && self.is_asked {
             Some(self.rests_until.saturating_sub(now))
@@ -68,7 +69,8 @@ impl Place {
         }
     }
 
-    /// Takes a client, if one waits. One that the system could not take is asked for again later.
+    /// Takes a client, if one waits; `now` is in milliseconds. Where the system could not take one, for want of descriptors say,
+    /// the place rests for a second, and is asked again then.
     pub fn accept(&mut self, now: u64) -> Option<(TcpStream, SocketAddr)> {
         self.is_asked = true;
         if !self.may_accept || now < self.rests_until {

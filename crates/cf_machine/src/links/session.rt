@@ -1,4 +1,7 @@
 //! The two connections of a session of a service.
+//! One that was left is read for two seconds, so that what was given to it gets there before the system answers unread octets
+//! with a reset. One that failed ends its session in the next turn, by the take or give that meets it, or, where a queue is full,
+//! by the moment. A side that has ended has not failed: what is queued for the other goes out.
 ghost use Rattle.std.specs.List.{HoldsAt};
 ghost use Rattle.std.specs.Prelude.{◌≡◌, ◌<◌, IfOk, IfSome, length};
 ghost use Rattle.cf_machine.specs.Moved.{IsOn};
@@ -27,7 +30,7 @@ const IDLE_MILLIS: u64 = 500;
 /// How long a connection that is left is read, in milliseconds.
 const LEAVE_MILLIS: u64 = 2000;
 
-/// The connection with the controller.
+/// How far the connection with the controller is.
 #[derive(Drop)]
 enum Reach {
     /// It was not begun: before the client's own turn to be heard of, or behind it.
@@ -43,7 +46,7 @@ enum Reach {
     Reached(ControllerStream),
 }
 
-/// What came of asking for a controller.
+/// What came of asking for a controller, where the system told no error.
 #[derive(Clone, Copy)]
 pub(crate) enum Reached {
     Waiting,
@@ -52,7 +55,8 @@ pub(crate) enum Reached {
     Met(Endpoint),
 }
 
-/// A client and its controller.
+/// A client's connection and that with its controller, by the number of the session. Times are milliseconds since the service
+/// began. This project's own.
 #[derive(Drop)]
 pub(crate) struct Session {
     pub number: u64,
@@ -94,7 +98,8 @@ pub(crate) fn session_of(sessions: &[Session], number: u64) -> Option<usize>
 }
 
 impl Session {
-    /// Of a client that just came.
+    /// A session of a client that just came, whose controller is not asked for yet. An error is that of making the connection's
+    /// calls not wait, or of entering it in the registry.
     pub fn new(
         number: u64,
         client_at: Endpoint,
@@ -115,8 +120,9 @@ impl Session {
         })
     }
 
-    /// Begins to connect, once the system has had a round to say that the client has gone, and then says whether the controller took the
-    /// connection. A client that has gone before is not connected, and what it sent is read by nobody.
+    /// Begins to connect, once the system has had a round to say that the client has gone, and then says whether the controller
+    /// took the connection; it has ten seconds, and then the error is `TimedOut`. A client that has gone before is not connected,
+    /// and what it sent is read by nobody.
     pub fn reach(
         &mut self,
         net: &impl Net,
@@ -160,7 +166,8 @@ impl Session {
         }
     }
 
-    /// Whether a connection that was begun is made.
+    /// Whether a connection that was begun is made, which is asked where the system has said something of it. The error is that of
+    /// the connection, or `TimedOut` at the moment `until`.
     fn look_at(
         &mut self,
         registry: &Registry,
@@ -203,7 +210,7 @@ impl Session {
         }
     }
 
-    /// Notes what the system says of a side.
+    /// Notes an event of `poll` of a side's connection; of a controller that is not reached, that the system has said something.
     pub fn note(&mut self, side: Side, event: &Event) {
         match side {
             Side::Client => self.client.peer.note(event),
@@ -215,6 +222,7 @@ impl Session {
         }
     }
 
+    /// Whether its next turn can move something, ask for its controller, or tell of a failure, so that nothing waits.
     fn has_news(&self) -> bool {
         let moved = self.has_moved || !self.is_used;
         match &self.controller {
@@ -226,7 +234,7 @@ impl Session {
         }
     }
 
-    /// How many milliseconds may pass before its next turn.
+    /// How many milliseconds may pass before its next turn: 0 where that can move something.
     pub fn longest_wait(&self, now: u64) -> u64 {
         if self.has_news() {
             0
@@ -235,7 +243,8 @@ impl Session {
         }
     }
 
-    /// The latest moment of its next turn, in milliseconds.
+    /// The latest moment of its next turn, in milliseconds: a second after its last one, or half a second for each of its idle
+    /// answers, and where its controller is asked for no later than the end of the ten seconds.
     fn next_turn(&self) -> u64 {
         let pause = match self.idles {
             0 => TURN_MILLIS,
@@ -310,7 +319,8 @@ impl Session {
         }
     }
 
-    /// Ends what is sent to a side, which may send on.
+    /// Ends what is sent to a side (`shutdown` for writing), which may send on. `NotConnected` for a controller that is not
+    /// reached.
     pub fn close(&self, side: Side) -> io::Result<()> {
         match side {
             Side::Client => self.client.peer.close(),
@@ -321,7 +331,7 @@ impl Session {
         }
     }
 
-    /// Ends what is sent to both sides; what was given to them gets there.
+    /// Ends what is sent to both sides, and leaves them to be read away for two seconds; what was given to them gets there.
     pub fn leave(self, now: u64) -> Leaving {
         let _ = self.client.peer.close();
         let controller = match self.controller {
@@ -349,7 +359,8 @@ pub(crate) struct Leaving {
 }
 
 impl Leaving {
-    /// Reads away what came; whether both are gone.
+    /// Reads away a part of what came (65,536 octets a side at most); whether both connections are gone, as they ended, or two
+    /// seconds have passed.
     pub fn drain(&mut self, now: u64) -> bool {
         if now >= self.until || is_over(&mut self.client) {
             self.client = None;
@@ -360,7 +371,7 @@ impl Leaving {
         self.client.is_none() && self.controller.is_none()
     }
 
-    /// How many milliseconds may pass before it is over.
+    /// How many milliseconds of the two seconds are left.
     pub fn longest_wait(&self, now: u64) -> u64 {
         self.until.saturating_sub(now)
     }
@@ -373,6 +384,7 @@ fn is_over(peer: &mut Option<Peer<TcpStream>>) -> bool {
     }
 }
 
+/// A stream of IPv4 that was just made, of which the system finds out where its peer vanishes.
 fn peer_of(stream: Begun, registry: &Registry, token: Token) -> io::Result<Peer<TcpStream>> {
     let stream = TcpStream::from(OwnedFd::from(stream));
     watch_over(stream.as_raw_fd());

@@ -15,13 +15,13 @@ pub(crate) struct Moved {
     pub(crate) count: usize,
 }
 
-/// The stream of a client.
+/// The connection of a client, as a type of its own: what moves on it is told as the client's.
 #[derive(Drop)]
 pub(crate) struct ClientStream {
     pub(crate) peer: Peer<TcpStream>,
 }
 
-/// The stream of a controller.
+/// The connection of a controller, as a type of its own: what moves on it is told as the controller's.
 #[derive(Drop)]
 pub(crate) struct ControllerStream {
     pub(crate) peer: Peer<TcpStream>,
@@ -59,7 +59,7 @@ impl ControllerStream {
     }
 }
 
-/// As many octets, of a side of a session.
+/// So many octets, with the side of the session on which they moved; nothing where none could move.
 fn moved_on(session: u64, side: Side, count: Option<usize>) -> Option<Moved>
     ensures { IfSome result (λ moved. (moved.session ≡ session) × ((moved.side ≡ side) × (count ≡ Some moved.count))) }
 {

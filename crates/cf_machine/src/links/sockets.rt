@@ -22,7 +22,7 @@ const SESSIONS: usize = 256;
 /// How many sessions that were left are read away at once at most.
 const LEAVING: usize = 256;
 
-/// The places, the sessions, and those that were left.
+/// The places in their order, the sessions, and those that were left, over one `poll`. This project's own.
 #[derive(Drop)]
 pub(crate) struct Sockets<'a, R: Net + Clock> {
     rt: &'a R,
@@ -43,7 +43,8 @@ pub(crate) struct Sockets<'a, R: Net + Clock> {
 }
 
 impl<'a, R: Net + Clock> Sockets<'a, R> {
-    /// Of no place and no session.
+    /// Sockets of no place and no session, with room for 256 sessions and as many that were left. An error is that of the clock or
+    /// of making the `poll`, or want of memory.
     pub fn new(rt: &'a R, alloc: Global, supervisor: Option<Supervisor>) -> io::Result<Self> {
         let begun_at = wall_moment(rt)?;
         Ok(Sockets {
@@ -72,13 +73,14 @@ impl<'a, R: Net + Clock> Sockets<'a, R> {
         self.sessions[at].failure()
     }
 
-    /// Where the client of a session came from.
+    /// The address and port from which the client of a session came; nothing of a number that no session has.
     pub fn client_of(&self, session: u64) -> Option<Endpoint> {
         let at = session_of(&self.sessions, session)?;
         Some(self.sessions[at].client_at)
     }
 
-    /// Whether a session has a turn now, which begins with this.
+    /// Whether a session has a turn now, which begins with this. One of a number that no session has has one, so that its next call
+    /// tells.
     pub fn begin_turn(&mut self, session: u64) -> bool {
         match session_of(&self.sessions, session) {
             Some(at) => self.sessions[at].begin_turn(self.now),
@@ -86,7 +88,7 @@ impl<'a, R: Net + Clock> Sockets<'a, R> {
         }
     }
 
-    /// Listens at an address; tells where that is, and the moment.
+    /// Listens at an address, as the next place; tells at which the system listens, and the moment in microseconds since 1970.
     pub fn open(&mut self, at: SocketAddr) -> io::Result<(SocketAddr, u64)> {
         let token = place_token(self.places.len());
         let place = Place::new(self.rt, at, self.poll.registry(), token)?;
@@ -131,6 +133,7 @@ impl<'a, R: Net + Clock> Sockets<'a, R> {
         wait
     }
 
+    /// Reads the clock that only goes forward, for the round: milliseconds since the service began, and the moment since 1970.
     fn read_clock(&mut self) -> io::Result<()> {
         let passed = self.begun.elapsed(self.rt)?;
         self.now = u64::try_from(passed.as_millis()).unwrap_or(u64::MAX);
@@ -157,7 +160,8 @@ impl<'a, R: Net + Clock> Sockets<'a, R> {
         }
     }
 
-    /// Takes a client that waits at a place.
+    /// Takes a client that waits at a place, counted from 0, as the session of this number; nobody where none waits or there is no
+    /// such place. An error is that of its socket, or want of memory: the client is then closed.
     pub fn take_client(&mut self, place: u32, session: u64) -> io::Result<Option<Endpoint>> {
         let Some(place) = self.places.get_mut(place as usize) else {
             return Ok(None);
@@ -171,7 +175,8 @@ impl<'a, R: Net + Clock> Sockets<'a, R> {
         Ok(Some(client))
     }
 
-    /// Asks whether the controller of a session took the connection.
+    /// Asks whether the controller of a session took the connection, and begins to connect where that was not begun. `NotConnected`
+    /// for a number that no session has.
     pub fn reach(&mut self, session: u64, controller: SocketAddr) -> io::Result<Reached> {
         match session_of(&self.sessions, session) {
             Some(at) => {
@@ -232,6 +237,7 @@ fn wall_moment(clock: &impl Clock) -> io::Result<u64> {
     }
 }
 
+/// Microseconds, at most 2^64 - 1.
 fn micros_of(duration: Duration) -> u64 {
     u64::try_from(duration.as_micros()).unwrap_or(u64::MAX)
 }

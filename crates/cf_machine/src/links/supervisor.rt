@@ -13,7 +13,7 @@ const LONGEST_NAME: usize = 107;
 /// How many octets an address has at most.
 const LONGEST_ADDRESS: u32 = 110;
 
-/// A supervisor that wants to be told.
+/// A supervisor that wants to be told, by datagrams of a Unix socket. sd_notify(3).
 #[derive(Drop)]
 pub struct Supervisor {
     socket: i32,
@@ -34,7 +34,8 @@ impl Supervisor {
         Supervisor::at(name.as_str().as_bytes(), signs_every(rt))
     }
 
-    /// The one at an address: a path, or `@` and an abstract name.
+    /// The one at an address: a path, or `@` and an abstract name, of at most 107 octets. Nothing for another one, or where no
+    /// socket is made.
     fn at(name: &[u8], every: Option<u64>) -> Option<Self> {
         let is_abstract = match name.first() {
             Some(b'@') => true,
@@ -64,7 +65,8 @@ impl Supervisor {
         })
     }
 
-    /// Tells once that the service is ready, and that it goes on as often as that is wanted.
+    /// Tells once that the service is ready, and that it goes on as often as that is wanted; `now` is in milliseconds. A datagram
+    /// that is not taken is lost.
     pub(crate) fn tell(&mut self, now: u64) {
         if !self.is_ready {
             self.is_ready = true;
@@ -78,7 +80,7 @@ impl Supervisor {
         }
     }
 
-    /// How many milliseconds may pass before the next sign of life.
+    /// How many milliseconds may pass before the next sign of life; nothing where none is wanted.
     pub(crate) fn longest_wait(&self, now: u64) -> Option<u64> {
         match self.every {
             Some(_) => Some(self.next.saturating_sub(now)),

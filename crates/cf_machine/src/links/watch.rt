@@ -1,4 +1,5 @@
 //! How the system finds out that a peer has vanished.
+//! With keepalive and `TCP_USER_TIMEOUT` Linux gives up a silent peer at the second probe, after 40 seconds. A relay has neither.
 ghost use Rattle.libc.specs.Net.{SockOption};
 
 use libc::net as c;
