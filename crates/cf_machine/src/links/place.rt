@@ -50,11 +50,6 @@ impl Place {
         self.may_accept = self.may_accept || event.is_readable() || event.is_error();
     }
 
-    /// Has it asked for a client again, since there is room for one.
-    pub fn look_again(&mut self) {
-        self.is_asked = true;
-    }
-
     /// Begins a round, in which it was not asked for a client yet.
     pub fn begin_round(&mut self) {
         self.is_asked = false;

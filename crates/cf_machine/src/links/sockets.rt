@@ -214,11 +214,8 @@ impl<'a, R: Net + Clock> Sockets<'a, R> {
         }
     }
 
-    /// Leaves both connections of a session, and has each place asked again, since there is room for a client.
+    /// Leaves both connections of a session.
     pub fn drop_session(&mut self, session: u64) {
-        for place in self.places.iter_mut() {
-            place.look_again();
-        }
         if let Some(at) = session_of(&self.sessions, session) {
             let leaving = self.sessions.remove(at).leave(self.now);
             if self.leaving.len() < LEAVING {
