@@ -1,10 +1,10 @@
 -- A client that came: what it does to the table.
-use Rattle.std.proofs.Common.{Bool, List, None, Option, Some, ap, arith, length, map, refl, subst, sym, true, false, ℕ, ◌++◌, ◌+◌, []}
+use Rattle.std.proofs.Common.{Bool, List, None, Option, Some, ap, arith, length, refl, subst, sym, true, false, ℕ, ◌++◌, ◌+◌, []}
 use Rattle.std.proofs.Common.{◌<◌, ◌≤◌, ◌∙◌, ◌∷◌, ◌≡◌}
 use Rattle.std.specs.Prelude.{Err, Ok, OnErr, OnOk, Result, option_map, option_to_list, slice_get, ◌==◌, if◌then◌else◌}
 use Rattle.std.specs.List.{AllByRecursion}
 use Rattle.std.proofs.lemmas.Grind.{flat_map-append}
-use Rattle.std.proofs.lemmas.List.{append-nil, append_assoc, length-append, map-append}
+use Rattle.std.proofs.lemmas.List.{append-nil, append_assoc, map-append}
 use Rattle.std.proofs.lemmas.Option.{same_Some}
 use Rattle.cf_lane.specs.Handled.{MayHaveMore}
 use Rattle.cf_lane.specs.Log.{line_about, with_lines}
@@ -20,7 +20,7 @@ use Rattle.cf_serve.proofs.Rounding.{more_none, more_twice}
 use Rattle.cf_serve.specs.Failing.{MissesArrival}
 use Rattle.cf_serve.specs.Phase.{Phase}
 use Rattle.cf_serve.specs.Door.{came_by, closed_lines, closing_value, has_line, lobby_closed}
-use Rattle.cf_serve.specs.Rounds.{Arrival, AreArrivals, IsArrival, Seat, TurnOf, arrival_lines, closing_of, lobby_behind, lobby_with}
+use Rattle.cf_serve.specs.Rounds.{Arrival, AreArrivals, Seat, TurnOf, arrival_lines, closing_of, lobby_behind, lobby_with}
 use Rattle.cf_serve.specs.Rounds.{taken_by, taken_of}
 use Rattle.cf_serve.specs.declared.door.Closing.{Closing}
 use Rattle.cf_serve.specs.declared.door.Closing.TheVariants as closing
@@ -108,6 +108,9 @@ closed_next : (why : Closing) (lobby : Lobby) (place moment address : ℕ) → (
 closed_next closing.Stranger lobby place moment address = refl
 closed_next closing.Away lobby place moment address = refl
 
+pub next_behind : (why : Closing) (lobby lobby' : Lobby) (place moment address : ℕ) → lobby' ≡ lobby_closed why lobby place moment address → lobby'.next ≡ lobby.next + 1
+next_behind why lobby lobby' place moment address one = ap (λ (f : Lobby). f.next) one ∙ closed_next why lobby place moment address
+
 -- whether one that is closed has a line
 pub not_due : (b : Bool) (n : ℕ) (o : Option ℕ) → o ≡ (if b then Some n else None) → o ≡ None → b ≡ false
 not_due true n o says none = let e : Some n ≡ None = sym says ∙ none in cc
@@ -161,7 +164,7 @@ module _ (places : List Listening) (most moment place : ℕ) (lobby : Lobby) (to
       both = left ∙ ap (option_map (λ es. es ++ Left lobby.next ∷ [])) came ∙ more_twice told (Came lobby.next place client ∷ []) (Left lobby.next ∷ [])
 
       kept_out : (past : List TurnOf) → Keeps places most lobby.next past ps → Keeps places most lobby'.next past ps
-      kept_out past k = subst (λ n. Keeps places most n past ps) (sym (ap (λ (f : Lobby). f.next) one ∙ closed_next why lobby place moment client.address))
+      kept_out past k = subst (λ n. Keeps places most n past ps) (sym (next_behind why lobby lobby' place moment client.address one))
           (keeps_more places most lobby.next past ps k)
 
       closed_with : log' ≡ with_lines log (closed_lines why at lobby place client moment) → Arrive places most moment place (place + 1) lobby lobby' told after log log' ps ps

@@ -7,7 +7,7 @@ use Rattle.std.proofs.lemmas.Grind.{flat_map-append}
 use Rattle.std.proofs.lemmas.List.{append-nil, append_assoc}
 use Rattle.std.proofs.lemmas.Option.{same_Some}
 use Rattle.cf_links.proofs.Projection.{answers_more}
-use Rattle.cf_links.specs.Links.{Came, Left, LinksEntry, Of, Ready, answers_of}
+use Rattle.cf_links.specs.Links.{Came, LinksEntry, Of, Ready, answers_of}
 use Rattle.cf_outside.specs.Pair.{Entry}
 use Rattle.cf_relay.proofs.Turned.{turned_stands}
 use Rattle.cf_serve.proofs.Numbers.{all_map, all_zip}
@@ -16,6 +16,7 @@ use Rattle.cf_serve.specs.Phase.{LinkedValue, MayTurn, Phase, StandsAs, listenin
 use Rattle.cf_serve.specs.Door.{first_lobby}
 use Rattle.cf_serve.specs.Rounds.{AreRounds, AreTurns, Arrival, IsTurn, Round, Seat, TurnOf, answers_in, arrival_entries, left_by}
 use Rattle.cf_serve.specs.Rounds.{round_entries, round_lines, turn_entries, turns_of}
+use Rattle.cf_serve.specs.declared.door.Closing.{Closing}
 use Rattle.cf_serve.specs.declared.door.Lobby.{Lobby}
 use Rattle.cf_serve.specs.Served.{IfEnded, IsClient, OpensDo, Serves, left_of, listen_lines, opened_from}
 use Rattle.cf_serve.specs.Session.{Listening, StandsSo}
@@ -66,8 +67,8 @@ module _ (k : ℕ) where
 
   -- a client that was taken, or closed
   of_one : (closed : Option Closing) (c : Arrival) (cs : List LinksEntry) → answers_of k ((Came c.seat.session c.seat.place c.seat.client ∷ left_by c.seat.session closed) ++ cs) ≡ answers_of k cs
-  of_one true c cs = refl
-  of_one false c cs = refl
+  of_one None c cs = refl
+  of_one (Some why) c cs = refl
 
   of_arrivals : (cs : List Arrival) → answers_of k (flat_map arrival_entries cs) ≡ []
   of_arrivals [] = refl

@@ -12,7 +12,7 @@ use Rattle.cf_outside.specs.declared.files.WriteAnswer.TheVariants as write
 use Rattle.cf_relay.specs.Ends.{IsWriteEnd, LogContents}
 use Rattle.cf_view.specs.declared.Endpoint.{Endpoint}
 use Rattle.std.specs.List.{AllByRecursion, concat, flat_map}
-use Rattle.std.specs.Prelude.{Bool, List, None, Option, Some, [], drop, length, map, option_map, slice_get, take, true, ℕ, ◌++◌}
+use Rattle.std.specs.Prelude.{List, None, Option, Some, [], drop, length, map, option_map, slice_get, take, true, ℕ, ◌++◌}
 use Rattle.std.specs.Prelude.{◌-◌, ◌<◌, ◌^◌, ◌∷◌, ◌≡◌, ◌⊎◌}
 use Rattle.cf_serve.specs.Phase.{listenings}
 use Rattle.cf_serve.specs.Door.{first_lobby}

@@ -5,7 +5,7 @@ use Rattle.cf_links.specs.Links.{LinksEntry, SessionTold, with_answers}
 use Rattle.cf_outside.specs.Pair.{Entry}
 use Rattle.cf_view.specs.declared.Endpoint.{Endpoint}
 use Rattle.std.specs.List.{AllByRecursion, flat_map}
-use Rattle.std.specs.Prelude.{List, None, Option, [], length, map, option_map, true, ℕ, ◌++◌, ◌∷◌, ◌≡◌}
+use Rattle.std.specs.Prelude.{List, None, Option, [], length, option_map, true, ℕ, ◌++◌, ◌∷◌, ◌≡◌}
 use Rattle.cf_serve.specs.Broken.{BreaksOff, ComingFails, FailsSo, IsFailedClient, TurnFails}
 use Rattle.cf_serve.specs.Phase.{LinkedValue, Phase, StandsAs}
 use Rattle.cf_serve.specs.Rounds.{AreRounds, Arrival, Round, Seat, TurnOf, arrival_entries, round_entries, round_lines, turn_entries}

@@ -69,6 +69,7 @@ pub(crate) struct Crowd {
 }
 
 /// What is kept of all clients that came: the number of the next one, the door, and a crowd for each listening place.
+#[derive(Drop)]
 pub(crate) struct Lobby {
     pub(crate) next: u64,
     pub(crate) door: Door,
