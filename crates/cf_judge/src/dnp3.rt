@@ -12,7 +12,7 @@ ghost use Rattle.cf_judge.specs.Ruling.{ruling_of};
 use crate::iec104::all;
 use crate::ruling::{Ruling, judge_acts, refused};
 use cf_audit::Why;
-use cf_dnpobj::{CONFIRM, Fragment, act_at, act_count, read_fragment};
+use cf_dnpobj::{CONFIRM, Fragment, act_by, act_count, marks_of, read_fragment};
 use cf_lane::form_reason;
 use cf_policy::{Asset, CodeIndex, Decider};
 use cf_view::{Side, View};
@@ -47,5 +47,8 @@ fn judge_request(asset: &Asset, index: &CodeIndex, fragment: &Fragment<'_>) -> R
     if fragment.code == CONFIRM {
         return Ruling::Nothing;
     }
-    judge_acts(asset, index, act_count(fragment), |i| act_at(fragment, i))
+    let marks = marks_of(fragment);
+    judge_acts(asset, index, act_count(fragment), |i| {
+        act_by(fragment, &marks, i)
+    })
 }

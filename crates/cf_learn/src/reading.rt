@@ -19,7 +19,7 @@ use crate::seen::Seen;
 use cf_apci::{Apdu, next_apdu};
 use cf_asdu::{act_at as asdu_act, act_count as asdu_acts, read_asdu};
 use cf_dnplink::{Frame, next_frame};
-use cf_dnpobj::{CONFIRM, act_at as fragment_act, act_count as fragment_acts, read_fragment};
+use cf_dnpobj::{CONFIRM, act_by, act_count as fragment_acts, marks_of, read_fragment};
 use cf_dnptrans::{Assembly, SegmentAnswer};
 use cf_lane::{is_data, stray_of, take_segment};
 use cf_modbus::{Adu, act_at, act_count, next_adu, read_request};
@@ -201,11 +201,12 @@ fn push_fragment(
             if fragment.code == CONFIRM {
                 return Ok(());
             }
+            let marks = marks_of(&fragment);
             push_acts(
                 seen,
                 client,
                 fragment_acts(&fragment),
-                |i| fragment_act(&fragment, i),
+                |i| act_by(&fragment, &marks, i),
             )
         }
         Err(_) => Ok(()),

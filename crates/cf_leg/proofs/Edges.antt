@@ -13,7 +13,7 @@ use Rattle.cf_leg.proofs.Events.{cut_as, fired_as, greeting_right, open_is_greet
 use Rattle.cf_leg.proofs.Speech.{position_ahead, told_segment}
 use Rattle.cf_leg.proofs.Spoken.{told_said}
 use Rattle.cf_leg.proofs.Streams.{count_grows}
-use Rattle.cf_leg.specs.Emits.{AllRight, EndsBy, Greets, IsGreeting, IsRight, SpeaksOpen, cut_packet, fired_at, peer_mss, piece, repeat_open, rst, send_mss, syn_ack_for, to_tell, way_of}
+use Rattle.cf_leg.specs.Emits.{AllRight, EndsBy, Greets, IsGreeting, IsRight, SpeaksOpen, cut_packet, fired_at, peer_mss, piece, repeat_open, send_mss, syn_ack_for, to_tell, way_of}
 use Rattle.cf_leg.specs.Event.{Came, Nothing, Greeting, Packet, Ending, Unspoken, Spoke, Cut, LegEvent, greeted_by, said_by, stream_after}
 use Rattle.cf_leg.specs.Heard.{acked, counts, end_state, offers, offers_by, opened, opens, owed, shown, text_place}
 use Rattle.cf_leg.specs.LegValue.{first_told}

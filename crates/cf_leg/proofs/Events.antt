@@ -13,7 +13,7 @@ use Rattle.cf_leg.specs.Emits.{AllRight, Greets, IsGreeting, again, cut_packet, 
 use Rattle.cf_stream.specs.Position.{place_or_zero}
 use Rattle.cf_leg.specs.declared.ends.Ends.{Ends}
 use Rattle.cf_leg.specs.Event.{Came, Nothing, Greeting, Packet, Ending, LegEvent, greeted_by}
-use Rattle.cf_leg.specs.Heard.{opened, opens, end_state_if, first_answer, open_answer, acked_by, counts, ack_place, is_opening, opens_as, resets_as}
+use Rattle.cf_leg.specs.Heard.{opened, opens, end_state_if, first_answer, open_answer, acked_by, counts, ack_place, has_opened, opens_as, resets_as}
 use Rattle.cf_leg.specs.Segment.{has_rst}
 use Rattle.cf_leg.specs.Told.{greeting, greeting_in, is_greeted, own_number, peer_number}
 use Rattle.cf_leg.specs.declared.ends.LegAnswer.TheVariants as answer
@@ -48,10 +48,10 @@ pub or_cases : (a b : Bool) → (a || b) ≡ true → a ≡ false → b ≡ true
 or_cases true b h e = absurd (true≢false e)
 or_cases false b h e = h
 
-first_greeted : (at : EndState) (p : PacketValue) → is_opening (first_answer at p) ≡ true → at.is_greeted ≡ true
+first_greeted : (at : EndState) (p : PacketValue) → has_opened (first_answer at p) ≡ true → at.is_greeted ≡ true
 first_greeted at p h = by (has_rst p) (resets_as at.role at p) at.is_greeted (opens_as at.role at p) h
   where
-    by : (a b c d : Bool) → is_opening (cond a (cond b answer.Reset answer.Ignored) (cond (c && d) answer.Opened answer.Ignored)) ≡ true → c ≡ true
+    by : (a b c d : Bool) → has_opened (cond a (cond b answer.Reset answer.Ignored) (cond (c && d) answer.Opened answer.Ignored)) ≡ true → c ≡ true
     by true true c d k = absurd (false≢true k)
     by true false c d k = absurd (false≢true k)
     by false b true d k = refl
@@ -60,7 +60,7 @@ first_greeted at p h = by (has_rst p) (resets_as at.role at p) at.is_greeted (op
 pub opens_greeted : (at : EndState) (c : Came) → at.is_open ≡ false → opens at c ≡ true → at.is_greeted ≡ true
 opens_greeted at Nothing e h = absurd (false≢true h)
 opens_greeted at (Greeting p) e h = absurd (false≢true h)
-opens_greeted at (Packet p) e h = first_greeted at p (subst (λ (b : Bool). is_opening (cond b (open_answer at p) (first_answer at p)) ≡ true) e h)
+opens_greeted at (Packet p) e h = first_greeted at p (subst (λ (b : Bool). has_opened (cond b (open_answer at p) (first_answer at p)) ≡ true) e h)
 
 greeted_on : (o : Option PacketValue) (p : Option PacketValue) → is_some o ≡ true → is_some (option_or o p) ≡ true
 greeted_on None p h = absurd (false≢true h)

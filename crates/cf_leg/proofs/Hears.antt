@@ -13,13 +13,13 @@ use Rattle.cf_stream.specs.FirstCopy.{Offer}
 use Rattle.cf_stream.specs.Position.{place_or_zero}
 use Rattle.cf_stream.specs.Stream.{letter_count}
 use Rattle.cf_leg.proofs.Clocked.{own_idle, peer_idle, mss_idle, greeted_idle, armed_idle}
-use Rattle.cf_leg.proofs.Counts.{counts_is}
+use Rattle.cf_leg.proofs.Counts.{counts_by, counts_first, counts_open}
 use Rattle.cf_leg.proofs.Events.{and_not, arms_nothing, open_is_greeted, acked_grows, option_or_none, or_cases, opens_greeted, phase_is_open}
 use Rattle.cf_leg.proofs.Phases.{active_opened, open_opens_not, first_active}
 use Rattle.cf_leg.specs.Calls.{Counts, Heard, end_state_of, is_greeted_phase, leg_opened, queue_opened, leg_counted, queue_counted, other_by, mss_by, edge_by, rises_by}
 use Rattle.cf_leg.specs.Emits.{peer_mss, send_mss, mss_in}
 use Rattle.cf_leg.specs.Event.{Nothing, Packet, Unspoken, LegEvent, moment, stream_after}
-use Rattle.cf_leg.specs.Heard.{opens_as, resets_as, counts_open, is_in_reach, is_at, opened, opens, end_state, answer_to, open_answer, first_answer, is_opening, counts, counts_as, counts_first, owes_for, acked, shown, offers, ack_place, text_place}
+use Rattle.cf_leg.specs.Heard.{opens_as, resets_as, is_in_reach, is_at, opened, opens, end_state, answer_to, open_answer, first_answer, has_opened, counts, counts_as, owes_for, acked, shown, offers, ack_place, text_place}
 use Rattle.cf_leg.specs.Segment.{has_ack, has_rst, has_syn, letters_in}
 use Rattle.cf_leg.specs.LegValue.{LegValue, Marks, IsLegOf, is_open, marks, phase_of}
 use Rattle.cf_leg.specs.Timer.{armed, due, tries, rises, has_fired, backoff, second}
@@ -64,25 +64,25 @@ module _ (e : LegEvent) (es : List LegEvent) (p : PacketValue) where
   own_heard (role.Passive other mss) = ap seq_of (option_or_none (greeting es))
 
   -- the SYN ACK is that of the packet which opens
-  active_syn_ack : (own : ℕ) (b : Bool) → is_opening (answer_to (end_state (role.Active own) es e) p) ≡ b
+  active_syn_ack : (own : ℕ) (b : Bool) → has_opened (answer_to (end_state (role.Active own) es e) p) ≡ b
       → syn_ack own (record e { came = Packet p; ending = Unspoken } ∷ es) ≡ cond b (Some p) (syn_ack own es)
   active_syn_ack own b k = by (syn_ack own es) (active_opened own es) b k
     where
-      by : (o : Option PacketValue) → opened (role.Active own) es ≡ is_some o → (b : Bool) → is_opening (answer_to (end_state (role.Active own) es e) p) ≡ b
+      by : (o : Option PacketValue) → opened (role.Active own) es ≡ is_some o → (b : Bool) → has_opened (answer_to (end_state (role.Active own) es e) p) ≡ b
           → option_or o (syn_ack_in own (is_greeted es) (Packet p)) ≡ cond b (Some p) o
-      by (Some x) o true k = absurd (false≢true (sym (ap (λ (b : Bool). is_opening (cond b (open_answer (end_state (role.Active own) es e) p) (first_answer (end_state (role.Active own) es e) p))) o ∙ open_opens_not (end_state (role.Active own) es e) p) ∙ k))
+      by (Some x) o true k = absurd (false≢true (sym (ap (λ (b : Bool). has_opened (cond b (open_answer (end_state (role.Active own) es e) p) (first_answer (end_state (role.Active own) es e) p))) o ∙ open_opens_not (end_state (role.Active own) es e) p) ∙ k))
       by (Some x) o false k = refl
       by None o b k =
-          (let first = sym (ap (λ (b : Bool). is_opening (cond b (open_answer (end_state (role.Active own) es e) p) (first_answer (end_state (role.Active own) es e) p))) o ∙ first_active own (end_state (role.Active own) es e) p refl refl) ∙ k in
+          (let first = sym (ap (λ (b : Bool). has_opened (cond b (open_answer (end_state (role.Active own) es e) p) (first_answer (end_state (role.Active own) es e) p))) o ∙ first_active own (end_state (role.Active own) es e) p refl refl) ∙ k in
           ap (λ (c : Bool). cond c (Some p) None) first)
 
-  pub peer_heard : (r : Role) (b : Bool) → is_opening (answer_to (end_state r es e) p) ≡ b → peer_number r (record e { came = Packet p; ending = Unspoken } ∷ es) ≡ cond b (other_by r (peer_number r es) p) (peer_number r es)
+  pub peer_heard : (r : Role) (b : Bool) → has_opened (answer_to (end_state r es e) p) ≡ b → peer_number r (record e { came = Packet p; ending = Unspoken } ∷ es) ≡ cond b (other_by r (peer_number r es) p) (peer_number r es)
   peer_heard (role.Active own) true k = ap seq_of (active_syn_ack own true k)
   peer_heard (role.Active own) false k = ap seq_of (active_syn_ack own false k)
   peer_heard (role.Passive other mss) true k = refl
   peer_heard (role.Passive other mss) false k = refl
 
-  pub mss_heard : (r : Role) (b : Bool) → is_opening (answer_to (end_state r es e) p) ≡ b → send_mss (peer_mss r (record e { came = Packet p; ending = Unspoken } ∷ es)) ≡ cond b (mss_by r (send_mss (peer_mss r es)) p) (send_mss (peer_mss r es))
+  pub mss_heard : (r : Role) (b : Bool) → has_opened (answer_to (end_state r es e) p) ≡ b → send_mss (peer_mss r (record e { came = Packet p; ending = Unspoken } ∷ es)) ≡ cond b (mss_by r (send_mss (peer_mss r es)) p) (send_mss (peer_mss r es))
   mss_heard (role.Active own) true k = ap (λ (o : Option PacketValue). send_mss (mss_in o)) (active_syn_ack own true k)
   mss_heard (role.Active own) false k = ap (λ (o : Option PacketValue). send_mss (mss_in o)) (active_syn_ack own false k)
   mss_heard (role.Passive other mss) true k = refl
@@ -93,7 +93,7 @@ abbrev pub is_passive : Role → Bool
 is_passive (role.Active own) = false
 is_passive (role.Passive other mss) = true
 
-pub opening_counts : (r : Role) (a : LegAnswer) → is_opening a ≡ true → counts_as r a ≡ is_passive r
+pub opening_counts : (r : Role) (a : LegAnswer) → has_opened a ≡ true → counts_as r a ≡ is_passive r
 opening_counts (role.Active own) answer.Opened h = refl
 opening_counts (role.Passive other mss) answer.Opened h = refl
 opening_counts r answer.Counted h = absurd (false≢true h)
@@ -146,9 +146,9 @@ module _ (leg : LegValue) (q : Queue) (now : ℕ) (e : LegEvent) (es : List LegE
       by false k m = rw (deadline_before, k) refl
       by true k m = rw (h.of_acked, m refl, h.of_edge_shown, at, deadline_before, k) refl
 
-  module _ (b x : Bool) (kb : is_opening (answer_to (end_state leg.ends.role es e) p) ≡ b) (kx : counts (end_state leg.ends.role es e) p ≡ x) where
+  module _ (b x : Bool) (kb : has_opened (answer_to (end_state leg.ends.role es e) p) ≡ b) (kx : counts (end_state leg.ends.role es e) p ≡ x) where
     passive : b ≡ true → x ≡ is_passive leg.ends.role
-    passive k = sym kx ∙ sym (counts_is (end_state leg.ends.role es e) p) ∙ opening_counts leg.ends.role (answer_to (end_state leg.ends.role es e) p) (kb ∙ k)
+    passive k = sym kx ∙ opening_counts leg.ends.role (answer_to (end_state leg.ends.role es e) p) (kb ∙ k)
 
     opened_heard : opened leg.ends.role (record e { came = Packet p; ending = Unspoken } ∷ es) ≡ (opened leg.ends.role es || b)
     opened_heard = ap (λ (c : Bool). opened leg.ends.role es || c) kb
@@ -280,7 +280,7 @@ uncounted leg w a ack size now false k = refl
 
 pub heard_of : (leg mid after new : LegValue) (q q1 q2 : Queue) (now : ℕ) (p : PacketValue) (given : LegAnswer)
     → given ≡ answer_to (end_state_of leg q) p
-    → mid ≡ leg_opened (is_opening given) leg p → q1 ≡ queue_opened (is_opening given) leg.ends.role q p
+    → mid ≡ leg_opened (has_opened given) leg p → q1 ≡ queue_opened (has_opened given) leg.ends.role q p
     → Counts (counts_as leg.ends.role given) (end_state_of leg q) now p mid after q1 q2
     → new ≡ record after { owes = owes_for leg.ends.role p given }
     → Heard now p leg new q q2 given
@@ -289,46 +289,46 @@ heard_of leg mid after new q q1 q2 now p given g o oq c n = record {
   stands = λ e es at h.
       (let here = place_is leg q e es h in
       let same = g ∙ ap (λ (a : EndState). answer_to a p) here in
-      let kb = ap is_opening (sym same) in
-      let kx = sym (counts_is (end_state leg.ends.role es e) p) ∙ ap (counts_as leg.ends.role) (sym same) in
+      let kb = ap has_opened (sym same) in
+      let kx = ap (counts_as leg.ends.role) (sym same) in
       let ack = ap (λ (a : EndState). ack_place a p) here in
-      let mid_window = ap (λ (l : LegValue). l.window) o ∙ window_of (is_opening given) leg p in
+      let mid_window = ap (λ (l : LegValue). l.window) o ∙ window_of (has_opened given) leg p in
       let still = λ (k : counts_as leg.ends.role given ≡ false). ap (λ (l : LegValue). l.window) c.leg ∙ uncounted mid after.window q1.acked (ack_place (end_state_of leg q) p) p.window now (counts_as leg.ends.role given) k ∙ mid_window in
-      let step = stands_heard leg q now e es p at h (is_opening given) (counts_as leg.ends.role given) kb kx after.window
+      let step = stands_heard leg q now e es p at h (has_opened given) (counts_as leg.ends.role given) kb kx after.window
       (λ k os s. subst (λ (a : EndState). IsWindowOf after.window (record { at = text_place a p; text = letters_in p; edge = leg.window.edge } ∷ os)) here
       (subst (λ (v : Window). IsWindowOf after.window (record { at = text_place (end_state_of leg q) p; text = letters_in p; edge = v.edge } ∷ os)) mid_window
       (c.window k os (subst (λ (v : Window). IsWindowOf v os) (sym mid_window) s))))
       still (c.edge ∙ ap (λ (v : Window). v.edge) mid_window) in
       let leg_now = n ∙ ap (λ (l : LegValue). record l { owes = owes_for leg.ends.role p given }) c.leg
       ∙ ap (λ (l : LegValue). record (leg_counted (counts_as leg.ends.role given) l after.window q1.acked (ack_place (end_state_of leg q) p) p.window now) { owes = owes_for leg.ends.role p given }) o
-      ∙ ap (λ (m : ℕ). record (leg_counted (counts_as leg.ends.role given) (leg_opened (is_opening given) leg p) after.window m (ack_place (end_state_of leg q) p) p.window now) { owes = owes_for leg.ends.role p given }) (ap (λ (u : Queue). u.acked) oq ∙ acked_of (is_opening given) leg.ends.role q p)
-      ∙ ap (λ (z : ℤ). record (leg_counted (counts_as leg.ends.role given) (leg_opened (is_opening given) leg p) after.window q.acked z p.window now) { owes = owes_for leg.ends.role p given }) ack
-      ∙ ap (λ (a : LegAnswer). record (leg_counted (counts_as leg.ends.role given) (leg_opened (is_opening given) leg p) after.window q.acked (ack_place (end_state leg.ends.role es e) p) p.window now) { owes = owes_for leg.ends.role p a }) same
-      ∙ leg_is (is_opening given) (counts_as leg.ends.role given) leg p after.window q.acked (ack_place (end_state leg.ends.role es e) p) now (owes_for leg.ends.role p (answer_to (end_state leg.ends.role es e) p)) still in
+      ∙ ap (λ (m : ℕ). record (leg_counted (counts_as leg.ends.role given) (leg_opened (has_opened given) leg p) after.window m (ack_place (end_state_of leg q) p) p.window now) { owes = owes_for leg.ends.role p given }) (ap (λ (u : Queue). u.acked) oq ∙ acked_of (has_opened given) leg.ends.role q p)
+      ∙ ap (λ (z : ℤ). record (leg_counted (counts_as leg.ends.role given) (leg_opened (has_opened given) leg p) after.window q.acked z p.window now) { owes = owes_for leg.ends.role p given }) ack
+      ∙ ap (λ (a : LegAnswer). record (leg_counted (counts_as leg.ends.role given) (leg_opened (has_opened given) leg p) after.window q.acked (ack_place (end_state leg.ends.role es e) p) p.window now) { owes = owes_for leg.ends.role p a }) same
+      ∙ leg_is (has_opened given) (counts_as leg.ends.role given) leg p after.window q.acked (ack_place (end_state leg.ends.role es e) p) now (owes_for leg.ends.role p (answer_to (end_state leg.ends.role es e) p)) still in
       let marks_now = ap marks (c.moved ∙ ap (λ (u : Queue). queue_counted (counts_as leg.ends.role given) u (ack_place (end_state_of leg q) p) p.window) oq
-      ∙ ap (λ (z : ℤ). queue_counted (counts_as leg.ends.role given) (queue_opened (is_opening given) leg.ends.role q p) z p.window) ack)
-      ∙ marks_is (is_opening given) (counts_as leg.ends.role given) leg.ends.role q p (ack_place (end_state leg.ends.role es e) p) in
+      ∙ ap (λ (z : ℤ). queue_counted (counts_as leg.ends.role given) (queue_opened (has_opened given) leg.ends.role q p) z p.window) ack)
+      ∙ marks_is (has_opened given) (counts_as leg.ends.role given) leg.ends.role q p (ack_place (end_state leg.ends.role es e) p) in
       subst (λ (l : LegValue). IsLegOf l (marks q2) (record e { came = Packet p; ending = Unspoken } ∷ es)) (sym leg_now)
       (subst (λ (m : Marks). IsLegOf (record leg {
-        phase = cond (is_opening given) phase.Open leg.phase;
-        other = cond (is_opening given) (other_by leg.ends.role leg.other p) leg.other;
-        mss = cond (is_opening given) (mss_by leg.ends.role leg.mss p) leg.mss;
+        phase = cond (has_opened given) phase.Open leg.phase;
+        other = cond (has_opened given) (other_by leg.ends.role leg.other p) leg.other;
+        mss = cond (has_opened given) (mss_by leg.ends.role leg.mss p) leg.mss;
         window = after.window;
-        shown = cond (counts_as leg.ends.role given) (max (cond (is_opening given) (edge_by leg.ends.role leg.shown p) leg.shown) (place_or_zero (ack_place (end_state leg.ends.role es e) p +ℤ pos p.window))) (cond (is_opening given) (edge_by leg.ends.role leg.shown p) leg.shown);
-        fired = cond (counts_as leg.ends.role given || is_opening given) 0 leg.fired;
-        deadline = cond (counts_as leg.ends.role given) (cond (rises_by q.acked (cond (is_opening given) (edge_by leg.ends.role leg.shown p) leg.shown) (ack_place (end_state leg.ends.role es e) p) p.window) (now + second) leg.deadline) leg.deadline;
+        shown = cond (counts_as leg.ends.role given) (max (cond (has_opened given) (edge_by leg.ends.role leg.shown p) leg.shown) (place_or_zero (ack_place (end_state leg.ends.role es e) p +ℤ pos p.window))) (cond (has_opened given) (edge_by leg.ends.role leg.shown p) leg.shown);
+        fired = cond (counts_as leg.ends.role given || has_opened given) 0 leg.fired;
+        deadline = cond (counts_as leg.ends.role given) (cond (rises_by q.acked (cond (has_opened given) (edge_by leg.ends.role leg.shown p) leg.shown) (ack_place (end_state leg.ends.role es e) p) p.window) (now + second) leg.deadline) leg.deadline;
         owes = owes_for leg.ends.role p (answer_to (end_state leg.ends.role es e) p);
       }) m (record e { came = Packet p; ending = Unspoken } ∷ es)) (sym marks_now) step));
 }
 
 -- ---- what counts acknowledges what was sent
 pub counted_within : (at : EndState) (p : PacketValue) → counts at p ≡ true → ack_place at p ≤ℤ pos at.sent
-counted_within at p k = by at.is_open k
+counted_within at p k = by at.is_open (sym (counts_by at p) ∙ k)
   where
     within : (z : ℤ) (n : ℕ) → int_le z (pos n) ≡ true → z ≤ℤ pos n
     within z n m = omega (arith, ints, m)
 
-    of : (r g o x : Bool) → is_opening (cond r (cond x answer.Reset answer.Ignored) (cond (g && o) answer.Opened answer.Ignored)) ≡ true → o ≡ true
+    of : (r g o x : Bool) → has_opened (cond r (cond x answer.Reset answer.Ignored) (cond (g && o) answer.Opened answer.Ignored)) ≡ true → o ≡ true
     of true g o true m = absurd (false≢true m)
     of true g o false m = absurd (false≢true m)
     of false true true x m = refl

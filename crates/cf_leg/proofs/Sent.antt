@@ -10,7 +10,7 @@ use Rattle.cf_leg.proofs.Carried.{at_inside, carries_none, carry_piece, carry_sa
 use Rattle.cf_leg.proofs.Events.{cut_as, fired_as, greeting_right, option_or_none}
 use Rattle.cf_leg.proofs.Reach.{carried_after}
 use Rattle.cf_leg.proofs.Speech.{piece_short, position_behind, segment_letters, segment_stream}
-use Rattle.cf_leg.specs.Emits.{AllRight, EndsBy, Greets, IsGreeting, IsRight, SpeaksOpen, cut_packet, fired_at, peer_mss, piece, repeat_open, rst, send_mss, way_of}
+use Rattle.cf_leg.specs.Emits.{AllRight, EndsBy, Greets, IsGreeting, IsRight, SpeaksOpen, cut_packet, fired_at, peer_mss, piece, repeat_open, send_mss, way_of}
 use Rattle.cf_leg.specs.Event.{Came, Nothing, Greeting, Packet, Ending, Unspoken, Spoke, Cut, LegEvent, greeted_by, said_by, sent_in, stream_after, stream_at}
 use Rattle.cf_leg.specs.Heard.{acked, opened, shown}
 use Rattle.cf_leg.specs.OneStream.{CarryAll, first_in, letter_in}

@@ -78,32 +78,17 @@ open_answer at p =
 abbrev pub answer_to : EndState → PacketValue → LegAnswer
 answer_to at p = if at.is_open then open_answer at p else first_answer at p
 
--- the packet opens the end, by its answer
-abbrev pub is_opening : LegAnswer → Bool
-is_opening answer.Opened = true
-is_opening _ = false
+-- whether a packet opens the end, by its answer
+abbrev pub has_opened : LegAnswer → Bool
+has_opened answer.Opened = true
+has_opened _ = false
 
 -- the packet that came opens the leg
 abbrev pub opens : EndState → Came → Bool
-opens at (Packet p) = is_opening (answer_to at p)
+opens at (Packet p) = has_opened (answer_to at p)
 opens at _ = false
 
--- a segment counts: it has ACK and neither SYN nor RST, is in reach, and acknowledges nothing that was not sent. That
--- which opens a passive leg counts; a SYN ACK does not
-abbrev pub counts_open : EndState → PacketValue → Bool
-counts_open at p =
-    (has_ack p && not (has_syn p || has_rst p)) && (is_in_reach at p && int_le (ack_place at p) (pos at.sent))
-
--- a packet on an end that is not open counts: where it opens a passive one
-abbrev pub counts_first : Role → EndState → PacketValue → Bool
-counts_first (role.Active own) at p = false
-counts_first (role.Passive other mss) at p = is_opening (first_answer at p)
-
--- the packet counts
-abbrev pub counts : EndState → PacketValue → Bool
-counts at p = if at.is_open then counts_open at p else counts_first at.role at p
-
--- the packet counts, by its answer
+-- whether a packet counts, by its answer: a segment that is answered as such, or that opens a passive leg. A SYN ACK does not
 abbrev pub counts_as : Role → LegAnswer → Bool
 counts_as r answer.Counted = true
 counts_as (role.Active own) answer.Opened = false
@@ -111,6 +96,10 @@ counts_as (role.Passive other mss) answer.Opened = true
 counts_as r answer.Challenged = false
 counts_as r answer.Ignored = false
 counts_as r answer.Reset = false
+
+-- whether a packet counts
+abbrev pub counts : EndState → PacketValue → Bool
+counts at p = counts_as at.role (answer_to at p)
 
 -- an acknowledgment is owed to the packet: to a SYN ACK that opens, to one that draws nothing else, and to one that
 -- counts and has text or FIN

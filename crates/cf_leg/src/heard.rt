@@ -6,7 +6,7 @@ ghost use Rattle.std.specs.Prelude.{◌≡◌, ◌-◌, ◌^◌, ◌≤◌, leng
 ghost use Rattle.std.specs.Prelude.{int_lt};
 ghost use Rattle.cf_packet.specs.Packet.{packet_value};
 ghost use Rattle.cf_stream.specs.Position.{position};
-ghost use Rattle.cf_leg.specs.Heard.{ack_place, answer_to, counts_as, first_answer, in_reach, is_in_reach, is_opening, open_answer};
+ghost use Rattle.cf_leg.specs.Heard.{ack_place, answer_to, counts_as, first_answer, in_reach, is_in_reach, has_opened, open_answer};
 ghost use Rattle.cf_leg.specs.Heard.{opens_as, owes_for, reset_answer, resets_as, text_place};
 ghost use Rattle.cf_leg.specs.Segment.{has_ack, has_fin, has_rst, has_syn, letters_of};
 ghost use Rattle.cf_leg.specs.Told.{answers_syn};
@@ -265,8 +265,8 @@ pub(crate) fn counts(role: Role, answer: LegAnswer) -> bool
 }
 
 /// Whether a packet with that answer opens the end.
-pub(crate) fn is_opening(answer: LegAnswer) -> bool
-    ensures { result ≡ is_opening answer }
+pub(crate) fn has_opened(answer: LegAnswer) -> bool
+    ensures { result ≡ has_opened answer }
 {
     match answer {
         LegAnswer::Opened => true,

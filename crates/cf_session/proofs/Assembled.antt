@@ -6,7 +6,7 @@ use Rattle.std.proofs.Math.Bool.{or-false}
 use Rattle.std.proofs.Math.Seq.{drop-append_seam}
 use Rattle.cf_audit.specs.declared.CutReason.{CutReason}
 use Rattle.cf_leg.specs.Event.{Came, Ending, Greeting, LegEvent, Nothing, Spoke, Unspoken, greeted_by, is_idle}
-use Rattle.cf_leg.specs.Heard.{answer_to, end_state, is_opening, opened, opening}
+use Rattle.cf_leg.specs.Heard.{answer_to, end_state, has_opened, opened, opening}
 use Rattle.cf_leg.specs.Emits.{syn_ack_for}
 use Rattle.cf_leg.specs.Told.{greeting, greeting_in, is_greeted}
 use Rattle.cf_leg.specs.declared.LegAnswer.{LegAnswer}
@@ -50,8 +50,8 @@ pub came_due : (f : Flow) (es : List SessionEvent) (t : SessionEvent) (s : Side)
     came_greeted f (number_by s given p.seq) (came_first s p) ≡ came_client f s p (opening (controller_ends f).role (controllers es) (record t.controller { came = came_controller s p; ending = x }) && true)
 came_due f es t side.Client p given x e = refl
 came_due f es t side.Controller p given x e =
-    hello_due f p.seq (is_opening given)
-    ∙ ap (λ a. cond (is_opening a && true) (Greeting (syn_ack_for (client_ends f) f.syn.seq p.seq)) Nothing) e
+    hello_due f p.seq (has_opened given)
+    ∙ ap (λ a. cond (has_opened a && true) (Greeting (syn_ack_for (client_ends f) f.syn.seq p.seq)) Nothing) e
 
 no_hello : (f : Flow) (p : PacketValue) (b : Bool) → Nothing ≡ cond (b && false) (Greeting (syn_ack_for (client_ends f) f.syn.seq p.seq)) Nothing
 no_hello f p true = refl
@@ -76,8 +76,8 @@ pub may_greet : (f : Flow) (es : List SessionEvent) (t : SessionEvent) (s : Side
     is_greeted (clients es) ≡ opened (controller_ends f).role (controllers es) → MayGreet (number_by s given p.seq) (record t.client { came = came_first s p; ending = Unspoken }) (clients es)
 may_greet f es t side.Client p given e same = tt
 may_greet f es t side.Controller p given e same =
-    may_none p.seq (is_opening given) (record t.client { came = Nothing; ending = Unspoken }) (clients es) refl
-    (λ b. same ∙ opens_once (controller_ends f).role (controllers es) t.controller p (ap is_opening (sym e) ∙ b))
+    may_none p.seq (has_opened given) (record t.client { came = Nothing; ending = Unspoken }) (clients es) refl
+    (λ b. same ∙ opens_once (controller_ends f).role (controllers es) t.controller p (ap has_opened (sym e) ∙ b))
 
 hello_greets : (f : Flow) (n : ℕ) (o : Option PacketValue) (b : Bool) → is_some (option_or o (greeting_in (came_greeted f (cond b (Some n) None) Nothing))) ≡ (is_some o || b)
 hello_greets f n None true = refl
@@ -94,9 +94,9 @@ pub greeted_after : (f : Flow) (es : List SessionEvent) (t : SessionEvent) (s : 
     ≡ opened (controller_ends f).role (record t.controller { came = came_controller s p; ending = x } ∷ controllers es)
 greeted_after f es t side.Client p given x y e same = packet_greets (greeting (clients es)) ∙ same ∙ sym (or-false (opened (controller_ends f).role (controllers es)))
 greeted_after f es t side.Controller p given x y e same =
-    hello_greets f p.seq (greeting (clients es)) (is_opening given)
-    ∙ ap (λ b. b || is_opening given) same
-    ∙ ap (λ a. opened (controller_ends f).role (controllers es) || is_opening a) e
+    hello_greets f p.seq (greeting (clients es)) (has_opened given)
+    ∙ ap (λ b. b || has_opened given) same
+    ∙ ap (λ a. opened (controller_ends f).role (controllers es) || has_opened a) e
 
 -- ---- what went out
 
@@ -110,7 +110,7 @@ said_by_bool f n false = refl
 
 hello_said : (f : Flow) (s : Side) (p : PacketValue) (given : LegAnswer) (n : ℕ) → greeted_by (came_greeted f (number_by s given n) (came_first s p)) ≡ greetings f (number_by s given n)
 hello_said f side.Client p given n = refl
-hello_said f side.Controller p given n = said_by_bool f n (is_opening given)
+hello_said f side.Controller p given n = said_by_bool f n (has_opened given)
 
 pub sent_is : (f : Flow) (t : SessionEvent) (s : Side) (p : PacketValue) (given : LegAnswer) (w v : _) (roomy : Bool) (outs_c outs_d : List PacketValue) →
     (outs_c ++ (greetings f (number_by s given p.seq) ++ outs_d))

@@ -6,7 +6,7 @@ use Rattle.cf_audit.specs.declared.CutReason.{CutReason}
 use Rattle.cf_audit.specs.declared.CutReason.TheVariants as reason
 use Rattle.cf_lane.specs.History.{ended_of, taken}
 use Rattle.cf_leg.specs.Event.{Came, Ending, Greeting, LegEvent, Nothing, Packet, Unspoken, moment}
-use Rattle.cf_leg.specs.Heard.{acked, answer_to, end_state, first_answer, is_opening, offers, open_answer, opened}
+use Rattle.cf_leg.specs.Heard.{acked, answer_to, end_state, first_answer, has_opened, offers, open_answer, opened}
 use Rattle.cf_leg.specs.LegValue.{IsLegOf, LegValue, Marks, marks}
 use Rattle.cf_leg.specs.Segment.{has_ack, has_rst, has_syn}
 use Rattle.cf_leg.specs.declared.EndState.{EndState}
@@ -37,7 +37,7 @@ use Rattle.cf_session.specs.Work.{Work}
 
 pub hello_same : {X : Type 0} (F : Came → X) (f : Flow) (s : Side) (p : PacketValue) (given : LegAnswer) (n : ℕ) → ((q : PacketValue) → F (Greeting q) ≡ F Nothing) → F (came_greeted f (number_by s given n) (came_first s p)) ≡ F (came_first s p)
 hello_same F f side.Client p given n h = refl
-hello_same F f side.Controller p given n h = elim (cases_Bool (is_opening given)) [ inl b ↦ rw b (h _) | inr b ↦ rw b refl ]
+hello_same F f side.Controller p given n h = elim (cases_Bool (has_opened given)) [ inl b ↦ rw b (h _) | inr b ↦ rw b refl ]
 
 -- the client was greeted as it is due, or not at all
 abbrev pub Suits : Side → LegAnswer → ℕ → Option ℕ → Type 0
@@ -72,7 +72,7 @@ window_ended w os t h g = h.ended ∙ ap (λ (s : Stream). s.ended) (same_taken 
 
 -- ---- an open leg does not open
 
-not_opened : (a b c d e : Bool) (x : LegAnswer) → is_opening x ≡ false → is_opening (cond a x (cond b answer.Challenged (cond c answer.Ignored (cond d answer.Challenged (cond e answer.Challenged answer.Counted))))) ≡ false
+not_opened : (a b c d e : Bool) (x : LegAnswer) → has_opened x ≡ false → has_opened (cond a x (cond b answer.Challenged (cond c answer.Ignored (cond d answer.Challenged (cond e answer.Challenged answer.Counted))))) ≡ false
 not_opened true b c d e x h = h
 not_opened false true c d e x h = refl
 not_opened false false true d e x h = refl
@@ -80,19 +80,19 @@ not_opened false false false true e x h = refl
 not_opened false false false false true x h = refl
 not_opened false false false false false x h = refl
 
-not_reset : (a b : Bool) → is_opening (cond a answer.Reset (cond b answer.Challenged answer.Ignored)) ≡ false
+not_reset : (a b : Bool) → has_opened (cond a answer.Reset (cond b answer.Challenged answer.Ignored)) ≡ false
 not_reset true b = refl
 not_reset false true = refl
 not_reset false false = refl
 
-open_stays : (at : EndState) (p : PacketValue) → is_opening (open_answer at p) ≡ false
+open_stays : (at : EndState) (p : PacketValue) → has_opened (open_answer at p) ≡ false
 open_stays at p = not_opened (has_rst p) (has_syn p) (not (has_ack p)) _ _ _ (not_reset _ _)
 
-by_open : (is_open : Bool) (at : EndState) (p : PacketValue) → is_opening (cond is_open (open_answer at p) (first_answer at p)) ≡ true → is_open ≡ false
+by_open : (is_open : Bool) (at : EndState) (p : PacketValue) → has_opened (cond is_open (open_answer at p) (first_answer at p)) ≡ true → is_open ≡ false
 by_open true at p h = absurd (false≢true (sym (open_stays at p) ∙ h))
 by_open false at p h = refl
 
-pub opens_once : (r : Role) (es : List LegEvent) (e : LegEvent) (p : PacketValue) → is_opening (answer_to (end_state r es e) p) ≡ true → opened r es ≡ false
+pub opens_once : (r : Role) (es : List LegEvent) (e : LegEvent) (p : PacketValue) → has_opened (answer_to (end_state r es e) p) ≡ true → opened r es ≡ false
 opens_once r es e p h = by_open (opened r es) (end_state r es e) p h
 
 -- ---- the event

@@ -10,7 +10,7 @@ use Rattle.cf_leg.specs.Emits.{IsRight, syn_ack_for}
 use Rattle.cf_leg.specs.Told.{is_greeted}
 use Rattle.cf_leg.specs.Calls.{with_letters}
 use Rattle.cf_leg.specs.Event.{Came, Cut as LegCut, Ending, LegEvent, Nothing, Packet, Spoke, Unspoken, Greeting, moment}
-use Rattle.cf_leg.specs.Heard.{answer_to, end_state, is_opening, offers}
+use Rattle.cf_leg.specs.Heard.{answer_to, end_state, has_opened, offers}
 use Rattle.cf_leg.specs.LegValue.{LegValue}
 use Rattle.cf_leg.specs.declared.Ends.{Ends}
 use Rattle.cf_leg.specs.declared.LegAnswer.{LegAnswer}
@@ -303,7 +303,7 @@ pub record OnlySpeaks (old new : SessionValue) : Type 0 where
 -- the number to greet the client with: that of the SYN ACK that opened the controller's leg
 abbrev pub number_by : (from : Side) → LegAnswer → (number : ℕ) → Option ℕ
 number_by side.Client given number = None
-number_by side.Controller given number = if is_opening given then Some number else None
+number_by side.Controller given number = if has_opened given then Some number else None
 
 -- ---- the closing
 

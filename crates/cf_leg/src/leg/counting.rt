@@ -18,7 +18,7 @@ ghost use Rattle.cf_view.specs.Moment.{moment_limit};
 
 use super::{Leg, SECOND};
 use crate::ends::{EndState, LegAnswer};
-use crate::heard::{ack_place, answer_to, counts, has_fin, is_opening, owes, text_place};
+use crate::heard::{ack_place, answer_to, counts, has_fin, has_opened, owes, text_place};
 use crate::send::{acked_of, place_or_zero};
 use cf_outq::Outq;
 use cf_packet::Packet;
@@ -86,7 +86,7 @@ impl Leg {
     {
         let state = self.state(queue);
         let answer = answer_to(&state, packet);
-        self.open_if(is_opening(answer), packet, queue);
+        self.open_if(has_opened(answer), packet, queue);
         self.count_if(moment, counts(state.role, answer), &state, packet, queue);
         self.owes = owes(state.role, packet, answer);
         answer

@@ -3,7 +3,6 @@ use Rattle.cf_leg.proofs.Newly.{ends_counted, ends_opened, newly_of}
 use Rattle.std.specs.Prelude.{◌≤ℤ◌}
 use Rattle.cf_outq.specs.SendQueue.{Queue}
 use Rattle.cf_packet.specs.Packet.{packet_value}
-use Rattle.cf_leg.proofs.Counts.{counts_is}
 use Rattle.cf_leg.proofs.Numbers.{list_kept}
 use Rattle.cf_leg.proofs.Hears.{heard_of, counted_within, sent_of, window_of}
 use Rattle.cf_rebuild.specs.ReceiveWindow.{Window}
@@ -19,8 +18,8 @@ returns-clause-heard c =
     let value = c.state-state.ensures.value in
     heard_of c.args.self.now c.open_if.new.self c.count_if.new.self _ c.args.queue.now c.open_if.new.queue c.count_if.new.queue c.args.moment (packet_value c.args.packet.now) c.answer_to-answer.result
     (c.answer_to-answer.ensures ∙ ap (λ (a : EndState). answer_to a (packet_value c.args.packet.now)) c.state-state.ensures.value)
-    (c.open_if.ensures.new ∙ ap (λ (b : Bool). leg_opened b c.args.self.now (packet_value c.args.packet.now)) c.is_opening.ensures)
-    (c.open_if.ensures.queue ∙ ap (λ (b : Bool). queue_opened b c.args.self.now.ends.role c.args.queue.now (packet_value c.args.packet.now)) c.is_opening.ensures)
+    (c.open_if.ensures.new ∙ ap (λ (b : Bool). leg_opened b c.args.self.now (packet_value c.args.packet.now)) c.has_opened.ensures)
+    (c.open_if.ensures.queue ∙ ap (λ (b : Bool). queue_opened b c.args.self.now.ends.role c.args.queue.now (packet_value c.args.packet.now)) c.has_opened.ensures)
     (subst (λ (b : Bool). Counts b (end_state_of c.args.self.now c.args.queue.now) c.args.moment (packet_value c.args.packet.now) c.open_if.new.self c.count_if.new.self c.open_if.new.queue c.count_if.new.queue)
     (c.counts.ensures ∙ ap (λ (a : EndState). counts_as a.role c.answer_to-answer.result) c.state-state.ensures.value)
     (subst (λ (a : EndState). Counts c.counts.result a c.args.moment (packet_value c.args.packet.now) c.open_if.new.self c.count_if.new.self c.open_if.new.queue c.count_if.new.queue) c.state-state.ensures.value c.count_if.ensures.counts))
@@ -30,27 +29,27 @@ returns-clause-heard c =
 pub count_if-requires-clause-acked : goal.count_if-requires-clause-acked
 count_if-requires-clause-acked c = λ k.
     subst (λ (n : ℕ). ack_place c.state-state.result (packet_value c.args.packet.now) ≤ℤ pos n)
-    (ap (λ (a : EndState). a.sent) c.state-state.ensures.value ∙ sym (ap (λ (q : Queue). q.sent) c.open_if.ensures.queue ∙ sent_of c.is_opening.result c.args.self.now.ends.role c.args.queue.now (packet_value c.args.packet.now)))
+    (ap (λ (a : EndState). a.sent) c.state-state.ensures.value ∙ sym (ap (λ (q : Queue). q.sent) c.open_if.ensures.queue ∙ sent_of c.has_opened.result c.args.self.now.ends.role c.args.queue.now (packet_value c.args.packet.now)))
     (counted_within c.state-state.result (packet_value c.args.packet.now)
-    (sym (counts_is c.state-state.result (packet_value c.args.packet.now)) ∙ ap (λ (a : _). counts_as c.state-state.result.role a) (sym c.answer_to-answer.ensures) ∙ sym c.counts.ensures ∙ k))
+    (ap (λ (a : _). counts_as c.state-state.result.role a) (sym c.answer_to-answer.ensures) ∙ sym c.counts.ensures ∙ k))
 
 pub returns-clause-window : goal.returns-clause-window
 returns-clause-window c =
     subst (λ (v : Window). Continues c.args.self.now.window v) (sym (ap (λ (l : LegValue). l.window) c.self.view_is))
     (subst (λ (v : Window). Continues v c.count_if.new.self.window)
-    (ap (λ (l : LegValue). l.window) c.open_if.ensures.new ∙ window_of c.is_opening.result c.args.self.now (packet_value c.args.packet.now)) c.count_if.ensures.window)
+    (ap (λ (l : LegValue). l.window) c.open_if.ensures.new ∙ window_of c.has_opened.result c.args.self.now (packet_value c.args.packet.now)) c.count_if.ensures.window)
 
 pub returns-clause-queue : goal.returns-clause-queue
 returns-clause-queue c =
     subst (λ (q : Queue). KeepsList c.args.queue.now q)
     (sym (c.count_if.ensures.counts.moved ∙ ap (λ (q : Queue). queue_counted c.counts.result q (ack_place c.state-state.result (packet_value c.args.packet.now)) c.args.packet.now.window) c.open_if.ensures.queue))
-    (list_kept c.is_opening.result c.counts.result c.args.self.now.ends.role c.args.queue.now (packet_value c.args.packet.now) _ _)
+    (list_kept c.has_opened.result c.counts.result c.args.self.now.ends.role c.args.queue.now (packet_value c.args.packet.now) _ _)
 
 pub returns-clause-ends : goal.returns-clause-ends
 returns-clause-ends c =
     ap (λ (l : LegValue). l.ends) c.self.view_is
     ∙ ap (λ (l : LegValue). l.ends) c.count_if.ensures.counts.leg ∙ ends_counted c.counts.result c.open_if.new.self c.count_if.new.self.window _ _ _ _
-    ∙ ap (λ (l : LegValue). l.ends) c.open_if.ensures.new ∙ ends_opened c.is_opening.result c.args.self.now (packet_value c.args.packet.now)
+    ∙ ap (λ (l : LegValue). l.ends) c.open_if.ensures.new ∙ ends_opened c.has_opened.result c.args.self.now (packet_value c.args.packet.now)
 
 pub returns-clause-newly : goal.returns-clause-newly
 returns-clause-newly c =
