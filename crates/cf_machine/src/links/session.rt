@@ -384,7 +384,7 @@ fn is_over(peer: &mut Option<Peer<TcpStream>>) -> bool {
     }
 }
 
-/// A stream of IPv4 that was just made, of which the system finds out where its peer vanishes.
+/// The peer of a connection that was just made, whose vanishing the system finds out (`watch_over`).
 fn peer_of(stream: Begun, registry: &Registry, token: Token) -> io::Result<Peer<TcpStream>> {
     let stream = TcpStream::from(OwnedFd::from(stream));
     watch_over(stream.as_raw_fd());
