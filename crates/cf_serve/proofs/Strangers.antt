@@ -7,7 +7,6 @@ use Rattle.cf_policy.specs.Laws.{AllowsByFirstRule}
 use Rattle.cf_policy.specs.Verdict.{has_act, has_function, has_point, is_allow, takes}
 use Rattle.cf_policy.specs.declared.policy.Rule.{Rule}
 use Rattle.cf_view.specs.declared.base.Act.{Act}
-use Rattle.cf_serve.specs.Door.{is_named}
 use Rattle.cf_serve.specs.Laws.{StrangersAreRefused}
 
 or_true : (b : Bool) → (b || true) ≡ true
