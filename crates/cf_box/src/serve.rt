@@ -7,7 +7,7 @@ ghost use Rattle.cf_box.specs.ServiceWords.{IsFitService, place_word_value, serv
 ghost use Rattle.cf_links.specs.Links.{LinksPlace};
 ghost use Rattle.cf_outside.specs.Files.{KeepsOthers};
 ghost use Rattle.cf_policy.specs.Within.{IsWithin};
-ghost use Rattle.cf_serve.specs.Laws.{EachIsAlone, IsolatesSessions, StrangersAreRefused};
+ghost use Rattle.cf_serve.specs.Laws.{EachIsAlone, FloodsAreBounded, IsolatesSessions, StrangersAreRefused};
 ghost use Rattle.cf_serve.specs.declared.table.Place.{Place as PlaceOf};
 
 use crate::policy_file::{find_asset, load_policy};
@@ -16,7 +16,9 @@ use cf_ending::{Stop, put_text, report};
 use cf_links::Service as Links;
 use cf_outside::{Files, Sink};
 use cf_policy::Policy;
-use cf_serve::{Place, ServeFault, sessions_are_isolated, strangers_are_refused};
+use cf_serve::{
+    Place, ServeFault, floods_are_bounded, sessions_are_isolated, strangers_are_refused,
+};
 use cf_words::status::{DONE, NO_MEMORY, USAGE};
 use std::alloc::Global;
 
@@ -158,9 +160,13 @@ pub fn serve_main<F: Files, O: Sink, L: Links>(
 
     // A client that is closed at the door is one that the policy allows nothing.
     ensures strangers { StrangersAreRefused }
+
+    // A session has 100 commands refused a second, and once what a turn can refuse.
+    ensures floods { FloodsAreBounded }
 {
     sessions_are_isolated();
     strangers_are_refused();
+    floods_are_bounded();
     match read_service(alloc, words) {
         Err(_) => NO_MEMORY,
         Ok(None) => put_text("usage\n", USAGE, USAGE, out),

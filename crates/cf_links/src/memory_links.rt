@@ -98,6 +98,8 @@ pub struct MemoryLinks {
     pub round_faults: u64,
     /// How many calls answered `Idle`.
     pub idles: u64,
+    /// How often a session was to rest.
+    pub rested: u64,
     /// How often memory ran out.
     pub lacks: u64,
 }
@@ -122,6 +124,7 @@ impl MemoryLinks {
             faults: 0,
             round_faults: 0,
             idles: 0,
+            rested: 0,
             lacks: 0,
         }
     }
@@ -438,6 +441,10 @@ impl Service for MemoryLinks {
         }
         self.put(LinksTold::Ready(session));
         true
+    }
+
+    fn rest(&mut self, _session: u64) {
+        self.rested = self.rested.saturating_add(1);
     }
 
     fn leave(&mut self, session: u64) {

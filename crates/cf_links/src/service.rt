@@ -28,7 +28,7 @@ pub trait Service: Links {
         ensures idles { Self.idles self.new ≡ Self.idles self.old };
 
     /// Waits until a client is there, or something can move for a session or a second has passed since its last turn, and tells the
-    /// moment in microseconds.
+    /// moment in microseconds. A session that rests is waited for until the next second begins.
     fn wait(&mut self) -> MomentAnswer
         ensures entry { Wakes (Self.told self.old) (Self.told self.new) result }
         ensures place { FaultsPlace (Self.place self.old) (Self.place self.new) (result ≡ MomentAnswer.Failed) }
@@ -47,6 +47,14 @@ pub trait Service: Links {
     fn is_ready(&mut self, session: u64) -> bool
         requires serves { LinksPlace.serves (Self.place self.old) session ≡ true }
         ensures entry { TellsReady session (Self.told self.old) (Self.told self.new) result }
+        ensures place { Self.place self.new ≡ Self.place self.old }
+        ensures faults { Self.faults self.new ≡ Self.faults self.old }
+        ensures idles { Self.idles self.new ≡ Self.idles self.old };
+
+    /// Has a session be looked at again once the next second begins, and not before: it is asked for nothing until then.
+    fn rest(&mut self, session: u64)
+        requires serves { LinksPlace.serves (Self.place self.old) session ≡ true }
+        ensures told { Self.told self.new ≡ Self.told self.old }
         ensures place { Self.place self.new ≡ Self.place self.old }
         ensures faults { Self.faults self.new ≡ Self.faults self.old }
         ensures idles { Self.idles self.new ≡ Self.idles self.old };

@@ -283,6 +283,10 @@ impl<R: Net + Clock> Service for RealLinks<'_, R> {
         self.sockets.begin_turn(session)
     }
 
+    fn rest(&mut self, session: u64) {
+        self.sockets.rest(session);
+    }
+
     fn leave(&mut self, session: u64) {
         self.sockets.drop_session(session);
         self.numbers.remove(&session);

@@ -26,6 +26,8 @@ use Rattle.cf_serve.specs.declared.door.Closing.{Closing}
 use Rattle.cf_serve.specs.declared.door.Closing.TheVariants as closing
 use Rattle.cf_serve.specs.declared.door.Lobby.{Lobby}
 use Rattle.cf_serve.specs.Session.{Listening}
+use Rattle.cf_serve.proofs.Owing.{debt_none}
+use Rattle.cf_serve.specs.Debt.{no_debt}
 use Rattle.cf_serve.specs.Table.{Arrive, IfOver, IsBetween, IsHeld, IsTable, Keeps, MayGo, RoundDoes, TurnsDo, new_phase, seats_of}
 use Rattle.cf_serve.specs.declared.end.SessionEnd.{SessionEnd}
 
@@ -66,9 +68,11 @@ module _ (places : List Listening) (most next place : ℕ) (client : Endpoint) (
     pub keeps_new : Keeps places most (next + 1) past (ps ++ new_phase next place client ∷ [])
     keeps_new = record {
       early = all_map (λ (t : TurnOf). t.seat.session < next) (λ (t : TurnOf). t.seat.session < next + 1) past (λ t h. omega (arith, h)) keeps.early;
+      measured = keeps.measured;
       held = all_join (IsHeld places most past) ps (new_phase next place client ∷ []) keeps.held (
         record {
           no_end = part_none (λ (t : TurnOf). option_to_list t.end) next past fresh;
+          debt = sym (debt_none next no_debt past fresh);
           stands = λ at is. (part_none (λ (t : TurnOf). t.answers) next past fresh, part_none (λ (t : TurnOf). t.lines) next past fresh);
         },
         tt,
@@ -81,6 +85,7 @@ module _ (places : List Listening) (most next place : ℕ) (client : Endpoint) (
 keeps_more : (places : List Listening) (most next : ℕ) (past : List TurnOf) (ps : List Phase) → Keeps places most next past ps → Keeps places most (next + 1) past ps
 keeps_more places most next past ps keeps = record {
   early = all_map (λ (t : TurnOf). t.seat.session < next) (λ (t : TurnOf). t.seat.session < next + 1) past (λ t h. omega (arith, h)) keeps.early;
+  measured = keeps.measured;
   held = keeps.held;
   over = keeps.over;
 }
@@ -350,7 +355,7 @@ module _ (places : List Listening) (most moment : ℕ) (lobby : Lobby) (told : O
   pub round_is : (upto : ℕ) (lobby1 : Lobby) (told0 told1 told2 : Option (List LinksEntry)) (log1 log2 : Option (List (List ℕ))) (mid new : List Phase) (past : List TurnOf) →
       told ≡ option_map (λ es. es ++ Woke moment ∷ []) told0 →
       Arrive places most moment 0 upto lobby lobby1 told told1 log log1 old mid →
-      TurnsDo places most lobby1.next past told1 told2 log1 log2 mid new →
+      TurnsDo places most lobby1.next moment past told1 told2 log1 log2 mid new →
       RoundDoes places most lobby lobby1 past told0 told2 log log2 old new
   round_is upto lobby1 told0 told1 told2 log1 log2 mid new past woke a b = record {
     round = record { moment = moment; arrivals = a.arrivals; turns = b.turns };

@@ -11,14 +11,16 @@ use Rattle.cf_serve.proofs.Keeping.{others_held, over_still, part_own}
 use Rattle.cf_serve.proofs.Numbers.{all_one}
 use Rattle.cf_serve.proofs.Placing.{PhasesAt}
 use Rattle.cf_serve.proofs.Rounding.{flat_one, more_twice, same_back, same_front, turns_join}
-use Rattle.cf_serve.proofs.Stepping.{at_place, keeps_it, may_go, may_others, ordered, with_y}
+use Rattle.cf_serve.proofs.Stepping.{at_place, keeps_it, may_go, may_others, ordered, own_debt, with_y}
 use Rattle.cf_serve.proofs.Whole.{all_ended, all_seats, all_stand, one_stands, own_of_broken}
 use Rattle.cf_serve.specs.Broken.{Breaks, BreaksOff, FailsSo, IsFailedClient, TurnFails}
 use Rattle.cf_serve.specs.Failing.{MissesArrival, MissesRound, MissesRounds, MissesSeat, MissesStep, MissesTurns}
-use Rattle.cf_serve.specs.Phase.{Phase, listenings, phase_of}
+use Rattle.cf_serve.specs.Debt.{debt_of, must_rest}
 use Rattle.cf_serve.specs.Door.{first_lobby}
+use Rattle.cf_serve.specs.Phase.{Phase, debt_at, listenings, phase_of}
 use Rattle.cf_serve.specs.Rounds.{AreTurns, IsTurn, Round, Seat, TurnOf, answers_in, lines_in, round_entries, round_lines}
 use Rattle.cf_serve.specs.Rounds.{stays, turns_of}
+use Rattle.cf_serve.specs.declared.debt.Debt.{Debt}
 use Rattle.cf_serve.specs.declared.door.Lobby.{Lobby}
 use Rattle.cf_serve.specs.Served.{IfEnded, IsClient, OpensDo, left_of, listen_lines, opened_from}
 use Rattle.cf_serve.specs.Session.{Listening}
@@ -45,10 +47,10 @@ module _ {xs : List Served} {index : ℕ} {x : Served} (s : PhasesAt xs index x)
       )) (ordered s table) (keeps_it s table keeps is_at)
 
   -- its line failed
-  pub step_missed : {told told' : Option (List LinksEntry)} {log log' : Option (List (List ℕ))} {part : List ℕ} (y : Served) → y ≡ record x { linked = y.linked } →
-      MissesSeat at most (answers_in x.number past) (lines_in x.number past) told told' log log' part (phase_of x).seat →
-      MissesStep places most past index told told' log log' part (map phase_of xs) (map phase_of (set xs index y))
-  step_missed {part = part} y same m =
+  pub step_missed : {moment : ℕ} {told told' : Option (List LinksEntry)} {log log' : Option (List (List ℕ))} {part : List ℕ} (y : Served) → y ≡ record x { linked = y.linked } →
+      MissesSeat at most moment (answers_in x.number past) (lines_in x.number past) told told' log log' part (phase_of x).seat (debt_at (phase_of x).linked) →
+      MissesStep places most moment past index told told' log log' part (map phase_of xs) (map phase_of (set xs index y))
+  step_missed {moment = moment} {part = part} y same m =
       let t = m.turn in
       let a = after_it t m.its m.no_end in
       let own : (t.seat.session == x.number) ≡ true = eq-eqb t.seat.session x.number (ap (λ (z : Seat). z.session) m.its) in
@@ -61,6 +63,8 @@ module _ {xs : List Served} {index : ℕ} {x : Served} (s : PhasesAt xs index x)
         kept = simp (with_y s table y same, map-append, s.was);
         turn = t;
         seat = m.its;
+        its_moment = m.its_moment;
+        no_rest = ap (λ (o : Debt). must_rest o moment) (sym (own_debt s table keeps is_at)) ∙ m.no_rest;
         ready = m.ready;
         no_end = m.no_end;
         tells = m.tells;
@@ -75,10 +79,10 @@ module _ {xs : List Served} {index : ℕ} {x : Served} (s : PhasesAt xs index x)
 
 -- ---- the turns
 
-module _ (places : List Listening) (most next : ℕ) (past : List TurnOf) (told : Option (List LinksEntry)) (log : Option (List (List ℕ))) (old : List Phase) (index : ℕ)
-    (told1 : Option (List LinksEntry)) (log1 : Option (List (List ℕ))) (mid : List Phase) (b : TurnsBegin places most next past index told told1 log log1 old mid)
+module _ (places : List Listening) (most next moment : ℕ) (past : List TurnOf) (told : Option (List LinksEntry)) (log : Option (List (List ℕ))) (old : List Phase) (index : ℕ)
+    (told1 : Option (List LinksEntry)) (log1 : Option (List (List ℕ))) (mid : List Phase) (b : TurnsBegin places most next moment past index told told1 log log1 old mid)
     (told2 : Option (List LinksEntry)) (log2 : Option (List (List ℕ))) (part : List ℕ) (new : List Phase)
-    (m : MissesStep places most (past ++ b.turns) index told1 told2 log1 log2 part mid new) where
+    (m : MissesStep places most moment (past ++ b.turns) index told1 told2 log1 log2 part mid new) where
   front : b.done ≡ m.before
   front = same_front b.done b.rest m.before (m.it ∷ m.after) (sym b.was ∙ m.was) (b.at ∙ sym m.at)
 
@@ -91,7 +95,7 @@ module _ (places : List Listening) (most next : ℕ) (past : List TurnOf) (told 
   later : past ++ (b.turns ++ m.turn ∷ []) ≡ (past ++ b.turns) ++ m.turn ∷ []
   later = sym (append_assoc past b.turns (m.turn ∷ []))
 
-  pub turns_missed : MissesTurns places most past told told2 log log2 part old new
+  pub turns_missed : MissesTurns places most moment past told told2 log log2 part old new
   turns_missed = record {
     turns = b.turns ++ m.turn ∷ [];
     tells = simp (m.tells, b.tells, more_twice, flat_one);
@@ -104,6 +108,9 @@ module _ (places : List Listening) (most next : ℕ) (past : List TurnOf) (told 
       are = refl;
       in_turn = simp m.seat (rw back at b.in_turn);
       each = b.each;
+      measured = b.keeps.measured;
+      its_moment = m.its_moment;
+      no_rest = ap (λ (z : Seat). must_rest (debt_of z.session (past ++ b.turns)) moment) m.seat ∙ m.no_rest;
       ready = m.ready;
       no_end = m.no_end;
       all = simp (m.kept, m.was, map-append, m.seat, done);
@@ -133,6 +140,7 @@ module _ (places : List Listening) (most moment : ℕ) (lobby lobby1 : Lobby) (p
         breaks = inl (record {
           fails = a.fails;
           no_turns = refl;
+          measured = k.measured;
           all = a.seats;
           stand = all_seats (λ (s : Seat). IsClient places most past s []) mid (all_stand places most past serves mid k.held table.each);
         });
@@ -141,28 +149,28 @@ module _ (places : List Listening) (most moment : ℕ) (lobby lobby1 : Lobby) (p
   -- in the turns
   pub round_missed : (upto : ℕ) (told2 : Option (List LinksEntry)) (log2 : Option (List (List ℕ))) (new : List Phase) →
       Arrive places most moment 0 upto lobby lobby1 told told1 log log1 old mid →
-      MissesTurns places most past told1 told2 log1 log2 part mid new →
+      MissesTurns places most moment past told1 told2 log1 log2 part mid new →
       MissesRound places most lobby past told0 told2 log log2 part old new
   round_missed upto told2 log2 new a b = record {
     round = record { moment = moment; arrivals = a.arrivals; turns = b.turns };
     tells = simp (b.tells, a.tells, woke, more_twice);
     added = simp (b.added, a.added, more_twice);
     ended = b.ended;
-    breaks = inr (a.come, subst (λ (ss : List Seat). TurnFails places most past ss b.turns (seats_of new) part) a.seats b.fails);
+    breaks = inr (a.come, subst (λ (ss : List Seat). TurnFails places most moment past ss b.turns (seats_of new) part) a.seats b.fails);
   }
 
 -- ---- the service
 
-ready_turn : (t : TurnOf) → t.ready ≡ true → IsTurn t
-ready_turn t is not = absurd (let n : true ≡ false = sym is ∙ not in cc)
+ready_turn : (m : ℕ) (t : TurnOf) → t.moment ≡ m → t.ready ≡ true → IsTurn m t
+ready_turn m t at is = (at, λ not. absurd (let n : true ≡ false = sym is ∙ not in cc))
 
 -- the turns of a round that breaks off
 broken_turns : (places : List Listening) (most : ℕ) (past : List TurnOf) (lobby : Lobby) (standing : List Seat) (r : Round) (left : List Seat) (part : List ℕ) →
-    BreaksOff places most past lobby standing r left part → AreTurns r.turns
-broken_turns places most past lobby standing r left part (inl early) = subst AreTurns (sym early.no_turns) tt
+    BreaksOff places most past lobby standing r left part → AreTurns r.moment r.turns
+broken_turns places most past lobby standing r left part (inl early) = subst (AreTurns r.moment) (sym early.no_turns) tt
 broken_turns places most past lobby standing r left part (inr late) =
     let f = late.1 in
-    subst AreTurns (sym f.are) (turns_join f.before (f.turn ∷ []) f.each (ready_turn f.turn f.ready, tt))
+    subst (AreTurns r.moment) (sym f.are) (turns_join r.moment f.before (f.turn ∷ []) f.each (ready_turn r.moment f.turn f.its_moment f.ready, tt))
 
 pub breaks_all : (places : List Place) (most made : ℕ) (told told1 told2 told3 : Option (List LinksEntry)) (log log1 log2 : Option (List (List ℕ))) (part : List ℕ) (ps : List Phase) →
     made < 2 ^ 64 - 1 → OpensDo places (length places) told told1 log log1 → MissesRounds (listenings places) most first_lobby made [] told1 told2 log1 log2 part [] ps →

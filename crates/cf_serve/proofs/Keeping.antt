@@ -9,10 +9,13 @@ use Rattle.std.proofs.lemmas.Grind.{flat_map-append}
 use Rattle.std.proofs.lemmas.List.{append-nil}
 use Rattle.cf_outside.specs.Pair.{Entry}
 use Rattle.cf_serve.proofs.Numbers.{all_join, all_map, all_one, all_others, all_with, all_zip, number_within, others}
-use Rattle.cf_serve.specs.Phase.{LinkedValue, Phase, StandsAs, TurnLeaves}
+use Rattle.cf_serve.proofs.Owing.{debt_other, debt_own, measured_more}
+use Rattle.cf_serve.specs.Debt.{IsMeasured, debt_of, debt_with}
+use Rattle.cf_serve.specs.Phase.{LinkedValue, Phase, StandsAs, TurnLeaves, debt_at}
 use Rattle.cf_serve.specs.Rounds.{TurnOf, answers_in, ends_in, lines_in, part}
 use Rattle.cf_serve.specs.Session.{EndsSo, Listening}
 use Rattle.cf_serve.specs.Table.{IfOver, IsBetween, IsHeld, IsOver, Keeps}
+use Rattle.cf_serve.specs.declared.debt.Debt.{Debt}
 use Rattle.cf_serve.specs.declared.end.SessionEnd.{SessionEnd}
 
 -- ---- what a session has of the turns
@@ -39,6 +42,7 @@ module _ (places : List Listening) (most : ℕ) (past : List TurnOf) (t : TurnOf
   held_other : (p : Phase) → (t.seat.session == p.seat.session) ≡ false → IsHeld places most past p → IsHeld places most (past ++ t ∷ []) p
   held_other p other h = record {
     no_end = part_other (λ (u : TurnOf). option_to_list u.end) p.seat.session past t other ∙ h.no_end;
+    debt = h.debt ∙ sym (debt_other p.seat.session past t other);
     stands = λ at is.
         subst (λ (es : List Entry). StandsAs at most es (lines_in p.seat.session (past ++ t ∷ [])) p.linked)
         (sym (part_other (λ (u : TurnOf). u.answers) p.seat.session past t other))
@@ -74,10 +78,11 @@ module _ (places : List Listening) (most : ℕ) (past : List TurnOf) (t : TurnOf
       part_own (λ (u : TurnOf). option_to_list u.end) t.seat.session past t (eq-eqb t.seat.session t.seat.session refl)
       ∙ ap (λ (xs : List SessionEnd). xs ++ option_to_list t.end) none
 
-  held_own : (linked : Option LinkedValue) → t.end ≡ None → ends_in t.seat.session past ≡ [] → Leaves linked None →
+  held_own : (linked : Option LinkedValue) → t.end ≡ None → ends_in t.seat.session past ≡ [] → debt_at linked ≡ debt_of t.seat.session (past ++ t ∷ []) → Leaves linked None →
       IsHeld places most (past ++ t ∷ []) (record { seat = t.seat; linked = linked })
-  held_own linked stands none leaves = record {
+  held_own linked stands none debt leaves = record {
     no_end = own_ends none ∙ ap option_to_list stands;
+    debt = debt;
     stands = λ at is.
         subst (λ (es : List Entry). StandsAs at most es (lines_in t.seat.session (past ++ t ∷ [])) linked) (sym own_answers)
         (subst (λ (ls : List (List ℕ)). StandsAs at most (answers_in t.seat.session past ++ t.answers) ls linked) (sym own_lines) (leaves at is));
@@ -126,11 +131,18 @@ module _ (places : List Listening) (most next : ℕ) (past : List TurnOf) (t : T
     over_all last = all_join (Then qs) past (t ∷ [])
         (all_map (λ (u : TurnOf). IfOver places most past (before ++ it linked ∷ after) u u.end) (Then qs) past (λ u h. over_by u u.end h) keeps.over) (last, tt)
 
+  own_debt : debt_at linked ≡ debt_of t.seat.session past
+  own_debt = (all_one (IsHeld places most past) before (it linked) after keeps.held).debt
+
+  debt_now : debt_at new ≡ debt_with (debt_at linked) t.moment t.refused → debt_at new ≡ debt_of t.seat.session (past ++ t ∷ [])
+  debt_now owes = owes ∙ ap (λ (d : Debt). debt_with d t.moment t.refused) own_debt ∙ sym (debt_own t.seat.session past t (eq-eqb t.seat.session t.seat.session refl))
+
   -- it stays
-  pub keeps_stay : t.end ≡ None → Leaves places most past t new None → Keeps places most next (past ++ t ∷ []) (before ++ it new ∷ after)
-  keeps_stay stands leaves = record {
+  pub keeps_stay : IsMeasured places past t → debt_at new ≡ debt_with (debt_at linked) t.moment t.refused → t.end ≡ None → Leaves places most past t new None → Keeps places most next (past ++ t ∷ []) (before ++ it new ∷ after)
+  keeps_stay measured owes stands leaves = record {
     early = early;
-    held = all_with (IsHeld places most (past ++ t ∷ [])) before (it new) after (held_own places most past t new stands none leaves) others_held;
+    measured = measured_more places [] past t keeps.measured measured;
+    held = all_with (IsHeld places most (past ++ t ∷ [])) before (it new) after (held_own places most past t new stands none (debt_now owes) leaves) others_held;
     over = over_all (before ++ it new ∷ after)
         (λ u h. all_with (IsNot u) before (it new) after (all_one (IsNot u) before (it linked) after h) (all_others (IsNot u) before (it linked) after h))
         (subst (IfOver places most (past ++ t ∷ []) (before ++ it new ∷ after) t) (sym stands) tt);
@@ -144,9 +156,10 @@ module _ (places : List Listening) (most next : ℕ) (past : List TurnOf) (t : T
   own_gone : AllByRecursion (IsNot t) (before ++ after)
   own_gone = all_map (λ (q : Phase). (t.seat.session == q.seat.session) ≡ false) (IsNot t) (before ++ after) (λ q h. grind (arith, nat_tests)) (others 0 next before (it linked) after ordered)
 
-  pub keeps_end : (e : SessionEnd) → t.end ≡ Some e → Leaves places most past t new (Some e) → Keeps places most next (past ++ t ∷ []) (before ++ after)
-  keeps_end e ended leaves = record {
+  pub keeps_end : IsMeasured places past t → (e : SessionEnd) → t.end ≡ Some e → Leaves places most past t new (Some e) → Keeps places most next (past ++ t ∷ []) (before ++ after)
+  keeps_end measured e ended leaves = record {
     early = early;
+    measured = measured_more places [] past t keeps.measured measured;
     held = others_held;
     over = over_all (before ++ after) (λ u h. all_others (IsNot u) before (it linked) after h)
         (subst (IfOver places most (past ++ t ∷ []) (before ++ after) t) (sym ended) (over_own places most past t new (before ++ after) e ended none own_gone leaves));

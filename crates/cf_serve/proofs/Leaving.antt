@@ -24,11 +24,12 @@ use Rattle.cf_serve.specs.Broken.{FailsSo}
 use Rattle.cf_serve.specs.Failing.{EndsTurn, MissesTurn}
 use Rattle.cf_serve.specs.Phase.{LinkedValue, StandsLinked, TurnDoes, end_of, last_value}
 use Rattle.cf_serve.specs.Session.{EndsSo, Listening, lost_line, with_last}
+use Rattle.cf_serve.specs.declared.debt.Debt.{Debt}
 use Rattle.cf_serve.specs.declared.end.SessionEnd.{SessionEnd}
 use Rattle.cf_serve.specs.declared.end.SessionEnd.TheVariants as end
 
-abbrev linked : Endpoint → RelayingValue → LinkedValue
-linked met now = record { met = met; now = now }
+abbrev linked : Endpoint → RelayingValue → Debt → LinkedValue
+linked met now debt = record { met = met; now = now; debt = debt }
 
 -- a relay that answered neither an end nor a failed write went on
 went_on : {X : Type 0} (r : Result Unit Stop) (closed : Bool) → end_of r closed ≡ None → (r ≡ Err stop.Write → ⊥) → OnOk r X → X
@@ -43,11 +44,11 @@ pub said : (asset : Asset) (met : Endpoint) (k k' : ℕ) (w : WhatValue) (e : Se
     line_about asset met k w ≡ line_about asset met k' (last_value e a' r')
 said asset met k k' w e a a' r r' p q s t = rw (p, q, s, t)
 
-module _ (at : Listening) (most : ℕ) (client met : Endpoint) (old new : RelayingValue) (link link' : LinkValue) (d d' : DeskValue) (few : old.idle < most) where
+module _ (at : Listening) (most : ℕ) (client met : Endpoint) (old new : RelayingValue) (link link' : LinkValue) (d d' : DeskValue) (few : old.idle < most) (debt : Debt) where
   -- what holds of a relay that made a turn more holds of its session
   turned_so : (does : DoesBetween at.asset most turn (scene old link d) (scene new link' d')) → new.idle < most → (P : List Entry → List (List ℕ) → Type 0) →
       ((m : ℕ) (answers : List Entry) (own : List (List ℕ)) → HasTurned at.asset at.port most met m (Some []) answers new (Some own) → P (begun_list at.asset at.port met m answers) own) →
-      (es : List Entry) (own : List (List ℕ)) → StandsLinked at most es own (linked met old) →
+      (es : List Entry) (own : List (List ℕ)) → StandsLinked at most es own (linked met old debt) →
       (lines : List (List ℕ)) × ((d'.lines ≡ with_lines d.lines lines) × P (es ++ does.answers) (own ++ lines))
   turned_so does fewer P f es own hs =
       let t = turned_more at.asset at.port most met hs.moment (Some []) hs.answers (scene old link d) (scene new link' d') (Some own)
@@ -57,7 +58,7 @@ module _ (at : Listening) (most : ℕ) (client met : Endpoint) (old new : Relayi
   -- and so of one that stopped within it
   stopped_so : (why : Stop) (stops : StopsBetween at.asset most turn why (scene old link d) (scene new link' d')) → (P : List Entry → List (List ℕ) → Type 0) →
       ((m : ℕ) (answers : List Entry) (own : List (List ℕ)) → HasStopped at.asset at.port most met m (Some []) answers why new (Some own) d'.line_part →
-      P (begun_list at.asset at.port met m answers) own) → (es : List Entry) (own : List (List ℕ)) → StandsLinked at most es own (linked met old) →
+      P (begun_list at.asset at.port met m answers) own) → (es : List Entry) (own : List (List ℕ)) → StandsLinked at most es own (linked met old debt) →
       (lines : List (List ℕ)) × ((d'.lines ≡ with_lines d.lines lines) × P (es ++ stops.answers) (own ++ lines))
   stopped_so why stops P f es own hs =
       let t = turned_stops at.asset at.port most met hs.moment (Some []) hs.answers (scene old link d) (scene new link' d') why (Some own)
@@ -69,7 +70,7 @@ module _ (at : Listening) (most : ℕ) (client met : Endpoint) (old new : Relayi
 
   -- a turn ends the session, but for its last line
   abbrev pub Ends : SessionEnd → Type 0
-  Ends e = EndsTurn at most client link.told link'.told d.lines d'.lines (last_line e) (Some (linked met old)) e
+  Ends e = EndsTurn at most client link.told link'.told d.lines d'.lines (last_line e) (Some (linked met old debt)) e
 
   -- the last one, after which both sides are closed
   closing : DoesBetween at.asset most turn (scene old link d) (scene new link' d') → new.idle < most → AreClosed new → Ends end.Closed
@@ -116,7 +117,7 @@ module _ (at : Listening) (most : ℕ) (client met : Endpoint) (old new : Relayi
 
   -- a line amid a turn failed
   pub unlogged : (r : Result Unit Stop) → IfErr r (λ why. StopsBetween at.asset most turn why (scene old link d) (scene new link' d')) →
-      r ≡ Err stop.Write → MissesTurn at most client link.told link'.told d.lines d'.lines d'.line_part (Some (linked met old))
+      r ≡ Err stop.Write → MissesTurn at most client link.told link'.told d.lines d'.lines d'.line_part (Some (linked met old debt))
   unlogged r stops is =
       let s : StopsBetween at.asset most turn stop.Write (scene old link d) (scene new link' d') =
       subst (λ (x : Result Unit Stop). IfErr x (λ why. StopsBetween at.asset most turn why (scene old link d) (scene new link' d'))) is stops in
@@ -127,14 +128,14 @@ module _ (at : Listening) (most : ℕ) (client met : Endpoint) (old new : Relayi
       }
 
   -- the turn behind which it stands, by what the relay answered, where that is no failed write
-  pub standing : (r : Result Unit Stop) (closed : Bool) →
+  pub standing : (debt' : Debt) (r : Result Unit Stop) (closed : Bool) →
       OnOk r (DoesBetween at.asset most turn (scene old link d) (scene new link' d')) → OnOk r (IsSound at.asset most new) → end_of r closed ≡ None → (r ≡ Err stop.Write → ⊥) →
-      TurnDoes at most client link.told link'.told d.lines d'.lines (Some (linked met old)) (Some (linked met new)) None
-  standing r closed does sound is fine =
+      TurnDoes at most client link.told link'.told d.lines d'.lines (Some (linked met old debt)) (Some (linked met new debt')) None
+  standing debt' r closed does sound is fine =
       let t : DoesBetween at.asset most turn (scene old link d) (scene new link' d') = went_on r closed is fine does in
       record {
         answers = t.answers;
         tells = t.adds.tells;
-        leaves = turned_so t (went_on r closed is fine sound).few (λ es own. StandsLinked at most es own (linked met new))
+        leaves = turned_so t (went_on r closed is fine sound).few (λ es own. StandsLinked at most es own (linked met new debt'))
             (λ m answers own h. record { moment = m; count = h.count; answers = answers; split = refl; does = h.does; stands = h.stands });
       }

@@ -34,9 +34,9 @@ pub same_back : {X : Type 0} (xs ys zs ws : List X) → xs ++ ys ≡ zs ++ ws �
 same_back xs ys zs ws e l =
     sym (drop-append_seam xs ys) ∙ ap (λ n. drop n (xs ++ ys)) l ∙ ap (drop (length zs)) e ∙ drop-append_seam zs ws
 
-pub turns_join : (ts us : List TurnOf) → AreTurns ts → AreTurns us → AreTurns (ts ++ us)
-turns_join [] us h k = k
-turns_join (t ∷ ts) us (p, h) k = (p, turns_join ts us h k)
+pub turns_join : (m : ℕ) (ts us : List TurnOf) → AreTurns m ts → AreTurns m us → AreTurns m (ts ++ us)
+turns_join m [] us h k = k
+turns_join m (t ∷ ts) us (p, h) k = (p, turns_join m ts us h k)
 
 -- more of what was told, or of a log
 pub more_twice : {A : Type 0} (told : Option (List A)) (xs ys : List A) →
@@ -55,8 +55,8 @@ no_length (x ∷ xs) e = absurd (let n : length (x ∷ xs) ≡ 0 = e in omega (a
 pub flat_one : {X A : Type 0} (f : X → List A) (xs : List X) (x : X) → flat_map f (xs ++ x ∷ []) ≡ flat_map f xs ++ f x
 flat_one f xs x = flat_map-append f xs (x ∷ []) ∙ ap (λ ys. flat_map f xs ++ ys) (append-nil (f x))
 
-module _ (places : List Listening) (most next : ℕ) (past : List TurnOf) (told : Option (List LinksEntry)) (log : Option (List (List ℕ))) (old : List Phase) where
-  pub turns_begin : Keeps places most next past old → TurnsBegin places most next past 0 told told log log old old
+module _ (places : List Listening) (most next moment : ℕ) (past : List TurnOf) (told : Option (List LinksEntry)) (log : Option (List (List ℕ))) (old : List Phase) where
+  pub turns_begin : Keeps places most next past old → TurnsBegin places most next moment past 0 told told log log old old
   turns_begin keeps = record {
     done = [];
     rest = old;
@@ -71,8 +71,8 @@ module _ (places : List Listening) (most next : ℕ) (past : List TurnOf) (told 
     keeps = subst (λ p. Keeps places most next p old) (sym (append-nil past)) keeps;
   }
 
-  module _ (index : ℕ) (told1 : Option (List LinksEntry)) (log1 : Option (List (List ℕ))) (mid : List Phase) (b : TurnsBegin places most next past index told told1 log log1 old mid) where
-    pub turns_end : length mid ≡ index → TurnsDo places most next past told told1 log log1 old mid
+  module _ (index : ℕ) (told1 : Option (List LinksEntry)) (log1 : Option (List (List ℕ))) (mid : List Phase) (b : TurnsBegin places most next moment past index told told1 log log1 old mid) where
+    pub turns_end : length mid ≡ index → TurnsDo places most next moment past told told1 log log1 old mid
     turns_end all =
         let l : length mid ≡ length b.done + length b.rest = ap length b.was ∙ length-append b.done b.rest in
         let none : b.rest ≡ [] = no_length b.rest (omega (arith, l, all, b.at)) in
@@ -87,14 +87,14 @@ module _ (places : List Listening) (most next : ℕ) (past : List TurnOf) (told 
         }
 
     module _ (told2 : Option (List LinksEntry)) (log2 : Option (List (List ℕ))) (new : List Phase) (stays_on : Bool)
-        (d : StepDoes places most next (past ++ b.turns) index told1 told2 log1 log2 mid new stays_on) where
+        (d : StepDoes places most next moment (past ++ b.turns) index told1 told2 log1 log2 mid new stays_on) where
       front : b.done ≡ d.before
       front = same_front b.done b.rest d.before (d.it ∷ d.after) (sym b.was ∙ d.was) (b.at ∙ sym d.at)
 
       back : b.rest ≡ d.it ∷ d.after
       back = same_back b.done b.rest d.before (d.it ∷ d.after) (sym b.was ∙ d.was) (b.at ∙ sym d.at)
 
-      pub turns_on : TurnsBegin places most next past (index + (if stays_on then 1 else 0)) told told2 log log2 old new
+      pub turns_on : TurnsBegin places most next moment past (index + (if stays_on then 1 else 0)) told told2 log log2 old new
       turns_on = record {
         done = d.before ++ d.left;
         rest = d.after;
@@ -104,18 +104,18 @@ module _ (places : List Listening) (most next : ℕ) (past : List TurnOf) (told 
         tells = simp (d.tells, b.tells, more_twice, flat_one);
         added = simp (d.added, b.added, more_twice, flat_one);
         in_turn = simp (map-append, append_assoc, d.seat) (rw back at b.in_turn);
-        each = turns_join b.turns (d.turn ∷ []) b.each (d.is_turn, tt);
+        each = turns_join moment b.turns (d.turn ∷ []) b.each (d.is_turn, tt);
         stay = simp (map-append, d.stay, flat_one, ← b.stay, front);
         keeps = subst (λ p. Keeps places most next p new) (append_assoc past b.turns (d.turn ∷ [])) d.keeps;
       }
 
     pub turns_step : (next' : ℕ) (told2 : Option (List LinksEntry)) (log2 : Option (List (List ℕ))) (new : List Phase) (stays_on : Bool) (index' : ℕ) → next' ≡ next →
-        ((p : List TurnOf) → Keeps places most next' p mid → StepDoes places most next' p index told1 told2 log1 log2 mid new stays_on) →
-        index' ≡ index + (if stays_on then 1 else 0) → TurnsBegin places most next past index' told told2 log log2 old new
+        ((p : List TurnOf) → Keeps places most next' p mid → StepDoes places most next' moment p index told1 told2 log1 log2 mid new stays_on) →
+        index' ≡ index + (if stays_on then 1 else 0) → TurnsBegin places most next moment past index' told told2 log log2 old new
     turns_step next' told2 log2 new stays_on index' same step is =
-        let d = subst (λ n. StepDoes places most n (past ++ b.turns) index told1 told2 log1 log2 mid new stays_on) same
+        let d = subst (λ n. StepDoes places most n moment (past ++ b.turns) index told1 told2 log1 log2 mid new stays_on) same
         (step (past ++ b.turns) (subst (λ n. Keeps places most n (past ++ b.turns) mid) (sym same) b.keeps)) in
-        subst (λ n. TurnsBegin places most next past n told told2 log log2 old new) (sym is) (turns_on told2 log2 new stays_on d)
+        subst (λ n. TurnsBegin places most next moment past n told told2 log log2 old new) (sym is) (turns_on told2 log2 new stays_on d)
 
 pub no_step : (index : ℕ) → index ≡ index + 0
 no_step index = omega arith

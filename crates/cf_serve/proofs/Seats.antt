@@ -1,14 +1,16 @@
 -- What a round is to one session, by whether it was ready and what its turn did.
-use Rattle.std.proofs.Common.{List, None, Option, Some, ap, refl, subst, true, false, ℕ, ◌++◌, ◌∙◌, ◌∷◌, ◌≡◌, map, []}
+use Rattle.std.proofs.Common.{List, None, Option, Some, ap, refl, subst, sym, true, false, ℕ, ◌++◌, ◌∙◌, ◌∷◌, ◌≡◌, map, []}
 use Rattle.std.specs.Prelude.{Bool, is_some, not, option_map}
 use Rattle.std.proofs.lemmas.List.{append-nil}
 use Rattle.cf_links.specs.Links.{Left, LinksEntry, Of, Ready, SessionTold}
 use Rattle.cf_outside.specs.Pair.{Entry}
 use Rattle.cf_relay.proofs.Lined.{lines_none}
+use Rattle.cf_serve.proofs.Owing.{refuses_by, refuses_none}
 use Rattle.cf_serve.proofs.Reaching.{told_as}
 use Rattle.cf_serve.proofs.Rounding.{more_none, more_twice}
 use Rattle.cf_serve.specs.Failing.{MissesSeat, MissesTurn}
-use Rattle.cf_serve.specs.Phase.{LinkedValue, Phase, SeatDoes, StandsAs, TurnDoes}
+use Rattle.cf_serve.specs.Debt.{debt_with, must_rest}
+use Rattle.cf_serve.specs.Phase.{LinkedValue, Owes, Phase, SeatDoes, StandsAs, TurnDoes, debt_at}
 use Rattle.cf_serve.specs.Rounds.{Seat, left_by}
 use Rattle.cf_serve.specs.Session.{Listening}
 use Rattle.cf_serve.specs.declared.end.SessionEnd.{SessionEnd}
@@ -22,13 +24,17 @@ told_all : (k : ℕ) (told ready turned after : Option (List LinksEntry)) (answe
     after ≡ more (Ready k ∷ (map (Of k) answers ++ left)) told
 told_all k told ready turned after answers left p q r = simp (r, q, p, more_twice)
 
-module _ (at : Listening) (most : ℕ) (es : List Entry) (own : List (List ℕ)) (told : Option (List LinksEntry)) (log : Option (List (List ℕ))) where
-  -- a session that is not ready
-  pub rests : (p : Phase) (after : Option (List LinksEntry)) → StandsAs at most es own p.linked → after ≡ told → SeatDoes at most es own told after log log p p true
+module _ (at : Listening) (most moment : ℕ) (es : List Entry) (own : List (List ℕ)) (told : Option (List LinksEntry)) (log : Option (List (List ℕ))) where
+  -- a session that rests, or is not ready
+  pub rests : (p : Phase) (after : Option (List LinksEntry)) → StandsAs at most es own p.linked → after ≡ told → SeatDoes at most moment es own told after log log p p true
   rests p after stands same = record {
-    turn = record { seat = p.seat; ready = false; answers = []; lines = []; end = None };
+    turn = record { seat = p.seat; moment = moment; ready = false; answers = []; lines = []; refused = 0; end = None };
     seat = refl;
-    is_turn = λ idle. (refl, (refl, refl));
+    is_turn = (refl, λ idle. (refl, (refl, refl)));
+    rests = λ too_much. refl;
+    idle = λ idle. refl;
+    refuses = refuses_none at most es own p.linked stands;
+    owes = λ none. refl;
     tells = same ∙ more_none told;
     added = lines_none log;
     ended = refl;
@@ -36,38 +42,45 @@ module _ (at : Listening) (most : ℕ) (es : List Entry) (own : List (List ℕ))
   }
 
   module _ (seat : Seat) (old new : Option LinkedValue) (ready turned : Option (List LinksEntry)) (log' : Option (List (List ℕ)))
-      (is_ready : ready ≡ more (Ready seat.session ∷ []) told) (stands : StandsAs at most es own old) where
+      (is_ready : ready ≡ more (Ready seat.session ∷ []) told) (stands : StandsAs at most es own old) (no_rest : must_rest (debt_at old) moment ≡ false) where
     -- one that had its turn
     worked : (q : Phase) (after : Option (List LinksEntry)) (e : Option SessionEnd) (stays : Bool) → q ≡ record { seat = seat; linked = new } → after ≡ more (left_by seat.session e) turned →
-        is_some e ≡ not stays → TurnDoes at most seat.client (told_as seat.session ready) (told_as seat.session turned) log log' old new e → SeatDoes at most es own told after log log' (record { seat = seat; linked = old }) q stays
-    worked q after e stays is left ends does =
+        is_some e ≡ not stays → (e ≡ None → Owes moment old new) → TurnDoes at most seat.client (told_as seat.session ready) (told_as seat.session turned) log log' old new e → SeatDoes at most moment es own told after log log' (record { seat = seat; linked = old }) q stays
+    worked q after e stays is left ends owes does =
         let x = does.leaves es own stands in
+        let n = refuses_by at most seat.client es does.answers own (own ++ x.0) old new e stands x.1.1 in
         record {
-          turn = record { seat = seat; ready = true; answers = does.answers; lines = x.0; end = e };
+          turn = record { seat = seat; moment = moment; ready = true; answers = does.answers; lines = x.0; refused = n.0; end = e };
           seat = refl;
-          is_turn = λ idle. cc;
+          is_turn = (refl, λ idle. cc);
+          rests = λ too_much. absurd (let both : true ≡ false = sym too_much ∙ no_rest in cc);
+          idle = λ idle. cc;
+          refuses = n.1.0;
+          owes = λ none. ap (λ (p : Phase). debt_at p.linked) is ∙ owes none ∙ ap (debt_with (debt_at old) moment) (sym (n.1.1 none));
           tells = told_all seat.session told ready turned after does.answers (left_by seat.session e) is_ready (ap (λ (t : SessionTold). t.list) does.tells) left;
           added = x.1.0;
           ended = ends;
           leaves = rw is x.1.1;
         }
 
-    pub stays_on : (q : Phase) (e : Option SessionEnd) → q ≡ record { seat = seat; linked = new } → e ≡ None → TurnDoes at most seat.client (told_as seat.session ready) (told_as seat.session turned) log log' old new e →
-        SeatDoes at most es own told turned log log' (record { seat = seat; linked = old }) q true
-    stays_on q e is none does = worked q turned None true is (more_none turned) refl (subst (TurnDoes at most seat.client (told_as seat.session ready) (told_as seat.session turned) log log' old new) none does)
+    pub stays_on : (q : Phase) (e : Option SessionEnd) → q ≡ record { seat = seat; linked = new } → e ≡ None → (e ≡ None → Owes moment old new) → TurnDoes at most seat.client (told_as seat.session ready) (told_as seat.session turned) log log' old new e →
+        SeatDoes at most moment es own told turned log log' (record { seat = seat; linked = old }) q true
+    stays_on q e is none owes does = worked q turned None true is (more_none turned) refl (λ same. owes none) (subst (TurnDoes at most seat.client (told_as seat.session ready) (told_as seat.session turned) log log' old new) none does)
 
     pub leaves_now : (q : Phase) (after : Option (List LinksEntry)) (e : Option SessionEnd) (end : SessionEnd) → q ≡ record { seat = seat; linked = new } → e ≡ Some end →
-        after ≡ more (Left seat.session ∷ []) turned → TurnDoes at most seat.client (told_as seat.session ready) (told_as seat.session turned) log log' old new e → SeatDoes at most es own told after log log' (record { seat = seat; linked = old }) q false
-    leaves_now q after e end is some left does = worked q after (Some end) false is left refl (subst (TurnDoes at most seat.client (told_as seat.session ready) (told_as seat.session turned) log log' old new) some does)
+        after ≡ more (Left seat.session ∷ []) turned → TurnDoes at most seat.client (told_as seat.session ready) (told_as seat.session turned) log log' old new e → SeatDoes at most moment es own told after log log' (record { seat = seat; linked = old }) q false
+    leaves_now q after e end is some left does = worked q after (Some end) false is left refl (λ none. cc) (subst (TurnDoes at most seat.client (told_as seat.session ready) (told_as seat.session turned) log log' old new) some does)
 
     -- one whose line failed
     pub missed : (part : List ℕ) → MissesTurn at most seat.client (told_as seat.session ready) (told_as seat.session turned) log log' part old →
-        MissesSeat at most es own told turned log log' part seat
+        MissesSeat at most moment es own told turned log log' part seat (debt_at old)
     missed part does =
         let x = does.fails es own stands in
         record {
-          turn = record { seat = seat; ready = true; answers = does.answers; lines = x.0; end = None };
+          turn = record { seat = seat; moment = moment; ready = true; answers = does.answers; lines = x.0; refused = 0; end = None };
           its = refl;
+          its_moment = refl;
+          no_rest = no_rest;
           ready = refl;
           no_end = refl;
           tells = told_all seat.session told ready turned turned does.answers [] is_ready (ap (λ (t : SessionTold). t.list) does.tells) (more_none turned);

@@ -9,10 +9,12 @@ use Rattle.cf_links.specs.Links.{LinksEntry, LinksPlace}
 use Rattle.cf_serve.proofs.Keeping.{keeps_end, keeps_stay}
 use Rattle.cf_serve.proofs.Numbers.{all_map, all_one, all_others, all_with, all_zip, below, number_within, others, with_it, without_it}
 use Rattle.cf_serve.proofs.Placing.{PhasesAt}
-use Rattle.cf_serve.specs.Phase.{KeepsPlace, LinkedValue, MayTurn, Phase, SeatDoes, StandsAs, TurnLeaves, phase_of}
+use Rattle.cf_serve.specs.Debt.{IsMeasured, Refuses, debt_of, debt_with, must_rest}
+use Rattle.cf_serve.specs.Phase.{KeepsPlace, LinkedValue, MayTurn, Phase, SeatDoes, StandsAs, TurnLeaves, debt_at, phase_of}
 use Rattle.cf_serve.specs.Rounds.{Seat, TurnOf, answers_in, lines_in, stays}
 use Rattle.cf_serve.specs.Session.{Listening}
 use Rattle.cf_serve.specs.Table.{IsBetween, IsTable, Keeps, MayGo, MayLeave, StepDoes}
+use Rattle.cf_serve.specs.declared.debt.Debt.{Debt}
 use Rattle.cf_serve.specs.declared.end.SessionEnd.{SessionEnd}
 use Rattle.cf_serve.specs.declared.session.Served.{Served}
 
@@ -108,10 +110,24 @@ module _ {xs : List Served} {index : ℕ} {x : Served} (s : PhasesAt xs index x)
         at_place places x.place at is_at (λ (o : Listening). TurnLeaves o most (phase_of x).seat.client (answers_in x.number past ++ t.answers) (lines_in x.number past ++ t.lines) new end)
         (subst (TurnLeaves at most (phase_of x).seat.client (answers_in x.number past ++ t.answers) (lines_in x.number past ++ t.lines) new) is leaves)
 
-    module _ {told told' : Option (List LinksEntry)} {log log' : Option (List (List ℕ))} (y : Served) where
+    pub own_debt : debt_at (phase_of x).linked ≡ debt_of x.number past
+    own_debt = (all_one _ s.before (phase_of x) s.after keeps_it.held).debt
+
+    -- what its turn refused, and that it had none where it had to rest
+    measured_it : {moment : ℕ} {told told' : Option (List LinksEntry)} {log log' : Option (List (List ℕ))} (new : Phase) (stays_on : Bool) →
+        (d : SeatDoes at most moment (answers_in x.number past) (lines_in x.number past) told told' log log' (phase_of x) new stays_on) → IsMeasured places past d.turn
+    measured_it {moment = moment} new stays_on d = record {
+      rests = λ too_much. d.rests (ap (λ (o : Debt). must_rest o moment) own_debt ∙ ap (λ (z : Seat). must_rest (debt_of z.session past) moment) (sym d.seat)
+          ∙ ap (must_rest (debt_of d.turn.seat.session past)) (sym d.is_turn.0) ∙ too_much);
+      idle = d.idle;
+      refuses = subst (λ (z : Seat). (other : Listening) → slice_get places z.place ≡ Some other → Refuses other (answers_in z.session past) d.turn.answers d.turn.refused) (sym d.seat)
+          (at_place places x.place at is_at (λ (o : Listening). Refuses o (answers_in x.number past) d.turn.answers d.turn.refused) d.refuses);
+    }
+
+    module _ {moment : ℕ} {told told' : Option (List LinksEntry)} {log log' : Option (List (List ℕ))} (y : Served) where
       pub step_stays : (stays_on : Bool) → y ≡ record x { linked = y.linked } → stays_on ≡ true →
-          SeatDoes at most (answers_in x.number past) (lines_in x.number past) told told' log log' (phase_of x) (phase_of y) stays_on →
-          StepDoes places most next past index told told' log log' (map phase_of xs) (map phase_of (set xs index y)) stays_on
+          SeatDoes at most moment (answers_in x.number past) (lines_in x.number past) told told' log log' (phase_of x) (phase_of y) stays_on →
+          StepDoes places most next moment past index told told' log log' (map phase_of xs) (map phase_of (set xs index y)) stays_on
       step_stays false same on d = cc
       step_stays true same on d =
           let none : d.turn.end ≡ None = none_of d.turn.end d.ended in
@@ -133,13 +149,14 @@ module _ {xs : List Served} {index : ℕ} {x : Served} (s : PhasesAt xs index x)
             keeps = subst (Keeps places most next (past ++ d.turn ∷ [])) (sym (with_y y same))
                 (subst (λ z. IsBetween 0 next (with_seat z) → Keeps places most next past (with_seat z) → Leaves (phase_of y).linked z d.turn None →
                 Keeps places most next (past ++ d.turn ∷ []) (s.before ++ record { seat = z; linked = (phase_of y).linked } ∷ s.after)) d.seat
-                (λ o k l. keeps_stay places most next past d.turn s.before s.after (phase_of x).linked (phase_of y).linked o k none l) ordered keeps_it
+                (λ o k l. keeps_stay places most next past d.turn s.before s.after (phase_of x).linked (phase_of y).linked o k (measured_it (phase_of y) true d)
+                (d.owes none ∙ ap (λ n. debt_with (debt_at (phase_of x).linked) n d.turn.refused) (sym d.is_turn.0)) none l) ordered keeps_it
                 (leaves_at (phase_of y).linked d.turn None none d.leaves));
           }
 
       pub step_ends : (zs : List Served) (stays_on : Bool) → zs ≡ remove (set xs index y) index → stays_on ≡ false →
-          SeatDoes at most (answers_in x.number past) (lines_in x.number past) told told' log log' (phase_of x) (phase_of y) stays_on →
-          StepDoes places most next past index told told' log log' (map phase_of xs) (map phase_of zs) stays_on
+          SeatDoes at most moment (answers_in x.number past) (lines_in x.number past) told told' log log' (phase_of x) (phase_of y) stays_on →
+          StepDoes places most next moment past index told told' log log' (map phase_of xs) (map phase_of zs) stays_on
       step_ends zs true gone off d = cc
       step_ends zs false gone off d =
           let some : (e : SessionEnd) × (d.turn.end ≡ Some e) = some_of d.turn.end d.ended in
@@ -161,7 +178,7 @@ module _ {xs : List Served} {index : ℕ} {x : Served} (s : PhasesAt xs index x)
             keeps = subst (Keeps places most next (past ++ d.turn ∷ [])) (sym (ap (map phase_of) gone ∙ s.out y))
                 (subst (λ z. IsBetween 0 next (with_seat z) → Keeps places most next past (with_seat z) → Leaves (phase_of y).linked z d.turn (Some some.0) →
                 Keeps places most next (past ++ d.turn ∷ []) (s.before ++ s.after)) d.seat
-                (λ o k l. keeps_end places most next past d.turn s.before s.after (phase_of x).linked (phase_of y).linked o k some.0 some.1 l) ordered keeps_it
+                (λ o k l. keeps_end places most next past d.turn s.before s.after (phase_of x).linked (phase_of y).linked o k (measured_it (phase_of y) false d) some.0 some.1 l) ordered keeps_it
                 (leaves_at (phase_of y).linked d.turn (Some some.0) some.1 d.leaves));
           }
 

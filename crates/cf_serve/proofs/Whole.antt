@@ -52,18 +52,18 @@ module _ (k : ℕ) where
       ∙ ap (λ xs. answers_of k (map (Of t.seat.session) t.answers) ++ xs) (of_left t.seat.session t.end) ∙ append-nil (answers_of k (map (Of t.seat.session) t.answers))
       ∙ of_own t.seat.session (t.seat.session == k) t.answers refl
 
-  of_turn : (t : TurnOf) (ready : Bool) → t.ready ≡ ready → IsTurn t → answers_of k (turn_entries t) ≡ own_of t
-  of_turn t true is idle =
+  of_turn : (m : ℕ) (t : TurnOf) (ready : Bool) → t.ready ≡ ready → IsTurn m t → answers_of k (turn_entries t) ≡ own_of t
+  of_turn m t true is idle =
       ap (λ (b : Bool). answers_of k (if b then Ready t.seat.session ∷ (map (Of t.seat.session) t.answers ++ left_by t.seat.session t.end) else [])) is ∙ of_ready t
-  of_turn t false is idle =
+  of_turn m t false is idle =
       ap (λ (b : Bool). answers_of k (if b then Ready t.seat.session ∷ (map (Of t.seat.session) t.answers ++ left_by t.seat.session t.end) else [])) is
-      ∙ sym (nothing (t.seat.session == k) t.answers (idle is).0)
+      ∙ sym (nothing (t.seat.session == k) t.answers (idle.1 is).0)
 
-  of_turns : (ts : List TurnOf) → AreTurns ts → answers_of k (flat_map turn_entries ts) ≡ answers_in k ts
-  of_turns [] are = refl
-  of_turns (t ∷ ts) (is, are) =
-      answers_more k (turn_entries t) (flat_map turn_entries ts) ∙ ap (λ xs. xs ++ answers_of k (flat_map turn_entries ts)) (of_turn t t.ready refl is)
-      ∙ ap (λ xs. own_of t ++ xs) (of_turns ts are)
+  of_turns : (m : ℕ) (ts : List TurnOf) → AreTurns m ts → answers_of k (flat_map turn_entries ts) ≡ answers_in k ts
+  of_turns m [] are = refl
+  of_turns m (t ∷ ts) (is, are) =
+      answers_more k (turn_entries t) (flat_map turn_entries ts) ∙ ap (λ xs. xs ++ answers_of k (flat_map turn_entries ts)) (of_turn m t t.ready refl is)
+      ∙ ap (λ xs. own_of t ++ xs) (of_turns m ts are)
 
   -- a client that was taken, or closed
   of_one : (closed : Option Closing) (c : Arrival) (cs : List LinksEntry) → answers_of k ((Came c.seat.session c.seat.place c.seat.client ∷ left_by c.seat.session closed) ++ cs) ≡ answers_of k cs
@@ -74,10 +74,10 @@ module _ (k : ℕ) where
   of_arrivals [] = refl
   of_arrivals (c ∷ cs) = of_one c.closed c (flat_map arrival_entries cs) ∙ of_arrivals cs
 
-  of_round : (r : Round) → AreTurns r.turns → answers_of k (round_entries r) ≡ answers_in k r.turns
+  of_round : (r : Round) → AreTurns r.moment r.turns → answers_of k (round_entries r) ≡ answers_in k r.turns
   of_round r are =
       answers_more k (flat_map arrival_entries r.arrivals) (flat_map turn_entries r.turns)
-      ∙ ap (λ xs. xs ++ answers_of k (flat_map turn_entries r.turns)) (of_arrivals r.arrivals) ∙ of_turns r.turns are
+      ∙ ap (λ xs. xs ++ answers_of k (flat_map turn_entries r.turns)) (of_arrivals r.arrivals) ∙ of_turns r.moment r.turns are
 
   of_rounds : (places : List Listening) (lobby : Lobby) (standing : List Seat) (rs : List Round) (n : Lobby) (after : List Seat) → AreRounds places lobby standing rs n after →
       answers_of k (flat_map round_entries rs) ≡ answers_in k (turns_of rs)
@@ -102,7 +102,7 @@ module _ (k : ℕ) where
       ∙ answers_more k es (left_of ss) ∙ ap (λ xs. answers_of k es ++ xs) (of_all_left ss) ∙ append-nil (answers_of k es)
 
   pub own_of_broken : (places : List Listening) (ms : List ℕ) (rs : List Round) (n : Lobby) (standing ss : List Seat) (r : Round) → AreRounds places first_lobby [] rs n standing →
-      AreTurns r.turns → answers_of k (opened_from 0 ms ++ (flat_map round_entries (rs ++ r ∷ []) ++ left_of ss)) ≡ answers_in k (turns_of (rs ++ r ∷ []))
+      AreTurns r.moment r.turns → answers_of k (opened_from 0 ms ++ (flat_map round_entries (rs ++ r ∷ []) ++ left_of ss)) ≡ answers_in k (turns_of (rs ++ r ∷ []))
   own_of_broken places ms rs n standing ss r are turns =
       own_of_whole ms (flat_map round_entries (rs ++ r ∷ [])) ss ∙ ap (answers_of k) (flat_one round_entries rs r)
       ∙ answers_more k (flat_map round_entries rs) (round_entries r)
@@ -170,6 +170,7 @@ module _ (places : List Place) (most : ℕ) (told told1 : Option (List LinksEntr
               in_turn = (refl, refl);
               answers = λ k. own_of_all k (listenings places) o.moments [] first_lobby [] [] (refl, refl);
               ended = tt;
+              measured = tt;
               stand = tt;
             },
             none,
@@ -203,6 +204,7 @@ module _ (places : List Place) (most : ℕ) (told told1 : Option (List LinksEntr
               in_turn = r.in_turn;
               answers = λ k. own_of_all k (listenings places) o.moments r.rounds lobby (seats_of ps) (seats_of ps) r.in_turn;
               ended = all_ended (listenings places) most (turns_of r.rounds) ps r.keeps.over;
+              measured = r.keeps.measured;
               stand = all_seats (λ (s : Seat). IsClient (listenings places) most (turns_of r.rounds) s []) ps
                   (all_stand (listenings places) most (turns_of r.rounds) serves ps r.keeps.held table.each);
             },
@@ -214,7 +216,7 @@ module _ (places : List Place) (most : ℕ) (told told1 : Option (List LinksEntr
   )
 
 pub keeps_start : (places : List Listening) (most : ℕ) → Keeps places most 0 [] []
-keeps_start places most = record { early = tt; held = tt; over = tt }
+keeps_start places most = record { early = tt; measured = tt; held = tt; over = tt }
 
 pub table_start : (places : List Listening) (most : ℕ) (serves : ℕ → Bool) → ((session : ℕ) → serves session ≡ false) → IsTable places most serves 0 []
 table_start places most serves free = record { ordered = omega arith; each = tt; free = λ session h. free session }

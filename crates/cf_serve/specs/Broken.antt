@@ -12,8 +12,9 @@ use Rattle.cf_outside.specs.declared.files.WriteAnswer.TheVariants as write
 use Rattle.cf_relay.specs.Ends.{IsWriteEnd, LogContents}
 use Rattle.cf_view.specs.declared.Endpoint.{Endpoint}
 use Rattle.std.specs.List.{AllByRecursion, concat, flat_map}
-use Rattle.std.specs.Prelude.{List, None, Option, Some, [], drop, length, map, option_map, slice_get, take, true, ℕ, ◌++◌}
+use Rattle.std.specs.Prelude.{List, None, Option, Some, [], drop, false, length, map, option_map, slice_get, take, true, ℕ, ◌++◌}
 use Rattle.std.specs.Prelude.{◌-◌, ◌<◌, ◌^◌, ◌∷◌, ◌≡◌, ◌⊎◌}
+use Rattle.cf_serve.specs.Debt.{AreMeasured, debt_of, must_rest}
 use Rattle.cf_serve.specs.Phase.{listenings}
 use Rattle.cf_serve.specs.Door.{first_lobby}
 use Rattle.cf_serve.specs.Rounds.{AreArrivals, AreRounds, AreTurns, Arrival, Round, Seat, TurnOf, answers_in, lines_in, round_entries}
@@ -80,18 +81,22 @@ pub record BreaksInArrivals (places : List Listening) (most : ℕ) (past : List 
     (left : List Seat) (part : List ℕ) : Type 0 where
   pub fails : ComingFails places r.moment 0 lobby standing r.arrivals part
   pub no_turns : r.turns ≡ []
+  pub measured : AreMeasured places [] past
   pub all : left ≡ standing ++ taken_of r.arrivals
   pub stand : AllByRecursion (λ (s : Seat). IsClient places most past s []) left
 
 -- a line of a turn failed: the sessions before had theirs, those behind did not, and each but this one stands as it stood
-pub record TurnFails (places : List Listening) (most : ℕ) (past : List TurnOf) (stood : List Seat) (turns : List TurnOf)
+pub record TurnFails (places : List Listening) (most moment : ℕ) (past : List TurnOf) (stood : List Seat) (turns : List TurnOf)
     (left : List Seat) (part : List ℕ) : Type 0 where
   pub before : List TurnOf
   pub turn : TurnOf
   pub behind : List Seat
   pub are : turns ≡ before ++ turn ∷ []
   pub in_turn : map (λ (t : TurnOf). t.seat) before ++ turn.seat ∷ behind ≡ stood
-  pub each : AreTurns before
+  pub each : AreTurns moment before
+  pub measured : AreMeasured places [] (past ++ before)
+  pub its_moment : turn.moment ≡ moment
+  pub no_rest : must_rest (debt_of turn.seat.session (past ++ before)) moment ≡ false
   pub ready : turn.ready ≡ true
   pub no_end : turn.end ≡ None
   pub all : left ≡ flat_map stays before ++ turn.seat ∷ behind
@@ -103,7 +108,7 @@ abbrev pub BreaksInTurns : List Listening → (most : ℕ) → (past : List Turn
     → (left : List Seat) → (part : List ℕ) → Type 0
 BreaksInTurns places most past lobby standing r left part =
     AreArrivals places r.moment 0 lobby standing r.arrivals
-    × TurnFails places most past (standing ++ taken_of r.arrivals) r.turns left part
+    × TurnFails places most r.moment past (standing ++ taken_of r.arrivals) r.turns left part
 
 -- a round that breaks off, from the sessions that stand to those that are left
 abbrev pub BreaksOff : List Listening → (most : ℕ) → (past : List TurnOf) → (lobby : Lobby) → (standing : List Seat) → Round

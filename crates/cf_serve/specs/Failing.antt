@@ -5,14 +5,16 @@ use Rattle.cf_links.specs.Links.{LinksEntry, SessionTold, with_answers}
 use Rattle.cf_outside.specs.Pair.{Entry}
 use Rattle.cf_view.specs.declared.Endpoint.{Endpoint}
 use Rattle.std.specs.List.{AllByRecursion, flat_map}
-use Rattle.std.specs.Prelude.{List, None, Option, [], length, option_map, true, ℕ, ◌++◌, ◌∷◌, ◌≡◌}
+use Rattle.std.specs.Prelude.{List, None, Option, [], false, length, option_map, true, ℕ, ◌++◌, ◌∷◌, ◌≡◌}
 use Rattle.cf_serve.specs.Broken.{BreaksOff, ComingFails, FailsSo, IsFailedClient, TurnFails}
+use Rattle.cf_serve.specs.Debt.{debt_of, must_rest}
 use Rattle.cf_serve.specs.Phase.{LinkedValue, Phase, StandsAs}
 use Rattle.cf_serve.specs.Rounds.{AreRounds, Arrival, Round, Seat, TurnOf, arrival_entries, round_entries, round_lines, turn_entries}
 use Rattle.cf_serve.specs.Rounds.{taken_of, turns_of}
 use Rattle.cf_serve.specs.Served.{IfEnded, IsClient}
 use Rattle.cf_serve.specs.Session.{EndsSo, Listening}
 use Rattle.cf_serve.specs.Table.{Keeps, seats_of}
+use Rattle.cf_serve.specs.declared.debt.Debt.{Debt}
 use Rattle.cf_serve.specs.declared.door.Lobby.{Lobby}
 use Rattle.cf_serve.specs.declared.end.SessionEnd.{SessionEnd}
 
@@ -43,10 +45,12 @@ pub record MissesReach (at : Listening) (most : ℕ) (client : Endpoint) (before
   pub fails : FailsSo at most client (before ++ answers) lines part
 
 -- what a round is to the session whose line failed
-pub record MissesSeat (at : Listening) (most : ℕ) (es : List Entry) (own : List (List ℕ)) (told told_after : Option (List LinksEntry))
-    (log log_after : Option (List (List ℕ))) (part : List ℕ) (seat : Seat) : Type 0 where
+pub record MissesSeat (at : Listening) (most moment : ℕ) (es : List Entry) (own : List (List ℕ)) (told told_after : Option (List LinksEntry))
+    (log log_after : Option (List (List ℕ))) (part : List ℕ) (seat : Seat) (debt : Debt) : Type 0 where
   pub turn : TurnOf
   pub its : turn.seat ≡ seat
+  pub its_moment : turn.moment ≡ moment
+  pub no_rest : must_rest debt moment ≡ false
   pub ready : turn.ready ≡ true
   pub no_end : turn.end ≡ None
   pub tells : told_after ≡ option_map (λ entries. entries ++ turn_entries turn) told
@@ -54,7 +58,7 @@ pub record MissesSeat (at : Listening) (most : ℕ) (es : List Entry) (own : Lis
   pub fails : FailsSo at most seat.client (es ++ turn.answers) (own ++ turn.lines) part
 
 -- what it is to the table, where all sessions stay
-pub record MissesStep (places : List Listening) (most : ℕ) (past : List TurnOf) (index : ℕ) (told told_after : Option (List LinksEntry))
+pub record MissesStep (places : List Listening) (most moment : ℕ) (past : List TurnOf) (index : ℕ) (told told_after : Option (List LinksEntry))
     (log log_after : Option (List (List ℕ))) (part : List ℕ) (old new : List Phase) : Type 0 where
   pub before : List Phase
   pub it : Phase
@@ -64,6 +68,8 @@ pub record MissesStep (places : List Listening) (most : ℕ) (past : List TurnOf
   pub kept : seats_of new ≡ seats_of old
   pub turn : TurnOf
   pub seat : turn.seat ≡ it.seat
+  pub its_moment : turn.moment ≡ moment
+  pub no_rest : must_rest (debt_of it.seat.session past) moment ≡ false
   pub ready : turn.ready ≡ true
   pub no_end : turn.end ≡ None
   pub tells : told_after ≡ option_map (λ entries. entries ++ turn_entries turn) told
@@ -74,13 +80,13 @@ pub record MissesStep (places : List Listening) (most : ℕ) (past : List TurnOf
   pub fails : IsFailedClient places most (past ++ turn ∷ []) it.seat part
 
 -- the turns of a round, up to the one whose line failed
-pub record MissesTurns (places : List Listening) (most : ℕ) (past : List TurnOf) (told told_after : Option (List LinksEntry))
+pub record MissesTurns (places : List Listening) (most moment : ℕ) (past : List TurnOf) (told told_after : Option (List LinksEntry))
     (log log_after : Option (List (List ℕ))) (part : List ℕ) (old new : List Phase) : Type 0 where
   pub turns : List TurnOf
   pub tells : told_after ≡ option_map (λ entries. entries ++ flat_map turn_entries turns) told
   pub added : log_after ≡ with_lines log (flat_map (λ (t : TurnOf). t.lines) turns)
   pub ended : AllByRecursion (λ (t : TurnOf). IfEnded places most (past ++ turns) t t.end) (past ++ turns)
-  pub fails : TurnFails places most past (seats_of old) turns (seats_of new) part
+  pub fails : TurnFails places most moment past (seats_of old) turns (seats_of new) part
 
 -- clients that came at the places from one on, up to the one whose line failed
 pub record MissesArrival (places : List Listening) (most moment from : ℕ) (lobby lobby_after : Lobby)

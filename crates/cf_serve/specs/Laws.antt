@@ -1,16 +1,19 @@
--- Laws of a service. The main definitions are `EachIsAlone`, `IsolatesSessions` and `StrangersAreRefused`. This project's own.
+-- Laws of a service. The main definitions are `EachIsAlone`, `IsolatesSessions`, `StrangersAreRefused` and `FloodsAreBounded`. This
+-- project's own.
 use Rattle.cf_links.specs.Links.{LinksEntry, answers_of}
 use Rattle.cf_outside.specs.Pair.{Entry}
 use Rattle.cf_relay.specs.Answers.{given}
 use Rattle.cf_view.specs.declared.Endpoint.{Endpoint}
 use Rattle.cf_view.specs.declared.Side.{Side}
-use Rattle.std.specs.Prelude.{Bool, List, [], ◌∷◌, false, true, ℕ, ◌≡◌}
+use Rattle.std.specs.List.{AllByRecursion}
+use Rattle.std.specs.Prelude.{Bool, List, [], ◌∷◌, false, true, ℕ, ◌*◌, ◌++◌, ◌+◌, ◌<◌, ◌≡◌, ◌≤◌}
 use Rattle.cf_policy.specs.Laws.{IsAllowed}
 use Rattle.cf_policy.specs.Verdict.{verdict_of}
 use Rattle.cf_policy.specs.declared.policy.Asset.{Asset}
 use Rattle.cf_view.specs.declared.base.Act.{Act}
 use Rattle.cf_serve.specs.Door.{is_named}
-use Rattle.cf_serve.specs.Rounds.{ends_in, lines_in, turns_of}
+use Rattle.cf_serve.specs.Debt.{refused_in, second_of}
+use Rattle.cf_serve.specs.Rounds.{TurnOf, ends_in, lines_in, turns_of}
 use Rattle.cf_serve.specs.Served.{IsServed}
 use Rattle.cf_serve.specs.Session.{IsSession, Listening}
 use Rattle.cf_serve.specs.declared.table.Place.{Place}
@@ -55,3 +58,19 @@ IsolatesSessions =
 -- a client that no rule names is allowed nothing, so closing it takes nothing from anybody
 abbrev pub StrangersAreRefused : Type 0
 StrangersAreRefused = (asset : Asset) (client : ℕ) (act : Act) → is_named asset client ≡ false → IsAllowed (verdict_of asset client act) → ⊥
+
+-- turns that lie in so many seconds in a row
+abbrev pub LieIn : (first count : ℕ) → List TurnOf → Type 0
+LieIn first count turns = AllByRecursion (λ (t : TurnOf). (first ≤ second_of t.moment) × (second_of t.moment < first + count)) turns
+
+-- turns of which none refuses more
+abbrev pub RefuseAtMost : (limit : ℕ) → List TurnOf → Type 0
+RefuseAtMost limit turns = AllByRecursion (λ (t : TurnOf). t.refused ≤ limit) turns
+
+-- a session has at most 100 commands refused a second, and once what a single turn can refuse: so in any turns in a row of a service that
+-- lie in so many seconds in a row
+abbrev pub FloodsAreBounded : Type 0
+FloodsAreBounded =
+    (places : List Place) (most : ℕ) (entries : List LinksEntry) (lines : List (List ℕ)) (served : IsServed places most entries lines)
+    (before turns behind : List TurnOf) (session first count limit : ℕ) → turns_of served.rounds ≡ before ++ (turns ++ behind)
+    → LieIn first count turns → RefuseAtMost limit turns → refused_in session turns ≤ count * 100 + limit

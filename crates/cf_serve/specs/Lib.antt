@@ -1,4 +1,5 @@
 pub mod Broken
+pub mod Debt
 pub mod Door
 pub mod Failing
 pub mod Laws

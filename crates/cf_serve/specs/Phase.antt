@@ -12,9 +12,11 @@ use Rattle.cf_view.specs.declared.Endpoint.{Endpoint}
 use Rattle.cf_relay.specs.declared.stop.Stop.{Stop}
 use Rattle.cf_relay.specs.declared.stop.Stop.TheVariants as stop
 use Rattle.std.specs.Prelude.{Bool, Err, List, None, Ok, Result, false, true, Option, Some, [], is_some, map, not, option_map, ℕ}
-use Rattle.std.specs.Prelude.{◌++◌, ◌∷◌, ◌≡◌}
+use Rattle.std.specs.Prelude.{◌++◌, ◌-◌, ◌∷◌, ◌≡◌}
+use Rattle.cf_serve.specs.Debt.{Refuses, debt_with, must_rest, no_debt}
 use Rattle.cf_serve.specs.Rounds.{IsTurn, Seat, TurnOf, turn_entries}
 use Rattle.cf_serve.specs.Session.{EndsSo, Listening}
+use Rattle.cf_serve.specs.declared.debt.Debt.{Debt}
 use Rattle.cf_serve.specs.declared.end.SessionEnd.{SessionEnd}
 use Rattle.cf_serve.specs.declared.end.SessionEnd.TheVariants as end
 use Rattle.cf_serve.specs.declared.session.Linked.{Linked}
@@ -28,9 +30,23 @@ use Rattle.cf_serve.specs.declared.table.Place.{Place}
 pub record LinkedValue : Type 0 where
   pub met : Endpoint
   pub now : RelayingValue
+  pub debt : Debt
 
 abbrev pub linked_value : Linked → LinkedValue
-linked_value linked = record { met = linked.met; now = relaying_value linked.relaying }
+linked_value linked = record { met = linked.met; now = relaying_value linked.relaying; debt = linked.debt }
+
+-- what a session has to pay for, and how many of its commands were refused; nothing before its controller is reached
+abbrev pub debt_at : Option LinkedValue → Debt
+debt_at None = no_debt
+debt_at (Some v) = v.debt
+
+abbrev pub refused_at : Option LinkedValue → ℕ
+refused_at None = 0
+refused_at (Some v) = v.now.lane.refused
+
+-- what a turn at a moment leaves of the debt
+abbrev pub Owes : (moment : ℕ) → (old new : Option LinkedValue) → Type 0
+Owes moment old new = debt_at new ≡ debt_with (debt_at old) moment (refused_at new - refused_at old)
 
 -- a session: its seat, and its relay once the controller is reached
 pub record Phase : Type 0 where
@@ -96,6 +112,12 @@ pub record ReachDoes (at : Listening) (most : ℕ) (client : Endpoint) (before :
   pub added : log_after ≡ with_lines log lines
   pub leaves : ReachLeaves at most client (before ++ answers) lines reached
 
+-- a relay that begins has nothing to pay for
+abbrev pub BeginsFree : Reached → Type 0
+BeginsFree reached.Waiting = Unit {0}
+BeginsFree (reached.Begun linked) = (linked.debt ≡ no_debt) × ((linked_value linked).now.lane.refused ≡ 0)
+BeginsFree (reached.Ended end) = Unit {0}
+
 -- a relay that begins may have its turns
 abbrev pub IsSoundBegun : Listening → (most : ℕ) → Reached → Type 0
 IsSoundBegun at most reached.Waiting = Unit {0}
@@ -129,11 +151,15 @@ abbrev pub listenings : List Place → List Listening
 listenings places = map listening_at places
 
 -- what a round is to one session, whatever came before: a turn where it is ready, and else nothing
-pub record SeatDoes (at : Listening) (most : ℕ) (es : List Entry) (own : List (List ℕ)) (told told_after : Option (List LinksEntry))
+pub record SeatDoes (at : Listening) (most moment : ℕ) (es : List Entry) (own : List (List ℕ)) (told told_after : Option (List LinksEntry))
     (log log_after : Option (List (List ℕ))) (old new : Phase) (stays : Bool) : Type 0 where
   pub turn : TurnOf
   pub seat : turn.seat ≡ old.seat
-  pub is_turn : IsTurn turn
+  pub is_turn : IsTurn moment turn
+  pub rests : must_rest (debt_at old.linked) moment ≡ true → turn.ready ≡ false
+  pub idle : turn.ready ≡ false → turn.refused ≡ 0
+  pub refuses : Refuses at es turn.answers turn.refused
+  pub owes : turn.end ≡ None → debt_at new.linked ≡ debt_with (debt_at old.linked) moment turn.refused
   pub tells : told_after ≡ option_map (λ entries. entries ++ turn_entries turn) told
   pub added : log_after ≡ with_lines log turn.lines
   pub ended : is_some turn.end ≡ not stays

@@ -32,12 +32,15 @@ pub record Arrival : Type 0 where
   pub closed : Option Closing
   pub lines : List (List ℕ)
 
--- what a round was to one session: its answers, the lines that it got, and its end where this was its last
+-- what a round was to one session: the moment of the round, its answers, the lines that it got, how many of its commands were refused,
+-- and its end where this was its last
 pub record TurnOf : Type 0 where
   pub seat : Seat
+  pub moment : ℕ
   pub ready : Bool
   pub answers : List Entry
   pub lines : List (List ℕ)
+  pub refused : ℕ
   pub end : Option SessionEnd
 
 -- a round, and the moment at which it began
@@ -90,13 +93,13 @@ lines_in session past = part (λ (t : TurnOf). t.lines) session past
 abbrev pub ends_in : (session : ℕ) → List TurnOf → List SessionEnd
 ends_in session past = part (λ (t : TurnOf). option_to_list t.end) session past
 
--- a session that is not ready has no answer, no line and no end
-abbrev pub IsTurn : TurnOf → Type 0
-IsTurn t = t.ready ≡ false → (t.answers ≡ []) × ((t.lines ≡ []) × (t.end ≡ None))
+-- a turn is of the moment of its round; a session that is not ready has no answer, no line and no end
+abbrev pub IsTurn : (moment : ℕ) → TurnOf → Type 0
+IsTurn moment t = (t.moment ≡ moment) × (t.ready ≡ false → (t.answers ≡ []) × ((t.lines ≡ []) × (t.end ≡ None)))
 
-abbrev pub AreTurns : List TurnOf → Type 0
-AreTurns [] = Unit {0}
-AreTurns (t ∷ ts) = IsTurn t × AreTurns ts
+abbrev pub AreTurns : (moment : ℕ) → List TurnOf → Type 0
+AreTurns moment [] = Unit {0}
+AreTurns moment (t ∷ ts) = IsTurn moment t × AreTurns moment ts
 
 -- 1 for a session of the listening place, and 0 for another
 abbrev pub is_of : (place : ℕ) → Seat → ℕ
@@ -156,7 +159,7 @@ pub record IsRound (places : List Listening) (lobby : Lobby) (standing : List Se
     (standing_after : List Seat) : Type 0 where
   pub arrive : AreArrivals places r.moment 0 lobby standing r.arrivals
   pub in_turn : map (λ (t : TurnOf). t.seat) r.turns ≡ standing ++ taken_of r.arrivals
-  pub each : AreTurns r.turns
+  pub each : AreTurns r.moment r.turns
   pub counts : lobby_after ≡ lobby_behind lobby r.moment r.arrivals
   pub stay : standing_after ≡ flat_map stays r.turns
 

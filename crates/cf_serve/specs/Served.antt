@@ -5,6 +5,7 @@ use Rattle.cf_links.specs.Links.{Left, LinksEntry, Opened, answers_of}
 use Rattle.std.specs.List.{AllByRecursion, flat_map}
 use Rattle.std.specs.Prelude.{Err, List, None, Ok, Option, Result, Some, [], length, map, option_map, slice_get, ℕ, ◌++◌, ◌+◌, ◌-◌}
 use Rattle.std.specs.Prelude.{◌<◌, ◌^◌, ◌∷◌, ◌≡◌, ◌⊎◌}
+use Rattle.cf_serve.specs.Debt.{AreMeasured}
 use Rattle.cf_serve.specs.Phase.{listenings}
 use Rattle.cf_serve.specs.Door.{first_lobby}
 use Rattle.cf_serve.specs.Rounds.{AreRounds, Round, Seat, TurnOf, answers_in, ends_in, lines_in, round_entries, round_lines}
@@ -55,6 +56,8 @@ pub record IsServed (places : List Place) (most : ℕ) (entries : List LinksEntr
   -- each session's own answers are those of its turns
   pub answers : (session : ℕ) → answers_of session entries ≡ answers_in session (turns_of rounds)
   pub ended : AllByRecursion (λ (t : TurnOf). IfEnded (listenings places) most (turns_of rounds) t t.end) (turns_of rounds)
+  -- who has too many refused commands to pay for has no turn
+  pub measured : AreMeasured (listenings places) [] (turns_of rounds)
   pub stand : AllByRecursion (λ (s : Seat). IsClient (listenings places) most (turns_of rounds) s []) standing
 
 -- places were opened, from the first on

@@ -6,7 +6,8 @@ use Rattle.std.specs.List.{AllByRecursion, flat_map}
 use Rattle.std.specs.Prelude.{Bool, Err, Ok, Result, List, None, Option, Some, [], false, if◌then◌else◌, length, map, option_map}
 use Rattle.std.specs.Prelude.{slice_get, true, ℕ, ◌++◌, ◌+◌, ◌<◌}
 use Rattle.std.specs.Prelude.{◌∷◌, ◌≡◌, ◌≤◌, ◌==◌}
-use Rattle.cf_serve.specs.Phase.{MayTurn, Phase, StandsAs}
+use Rattle.cf_serve.specs.Debt.{AreMeasured, debt_of}
+use Rattle.cf_serve.specs.Phase.{MayTurn, Phase, StandsAs, debt_at}
 use Rattle.cf_serve.specs.Rounds.{AreArrivals, AreRounds, AreTurns, Arrival, IsRound, IsTurn, Round, Seat, TurnOf, answers_in}
 use Rattle.cf_serve.specs.Rounds.{arrival_entries, ends_in, lines_in, lobby_behind, round_entries, round_lines, stays, taken_of}
 use Rattle.cf_serve.specs.Rounds.{turn_entries, turns_of}
@@ -41,6 +42,7 @@ pub record MayLeave (serves : ℕ → Bool) (next : ℕ) (ps : List Phase) : Typ
 -- a session that stands is kept by what it had of the turns so far
 pub record IsHeld (places : List Listening) (most : ℕ) (past : List TurnOf) (p : Phase) : Type 0 where
   pub no_end : ends_in p.seat.session past ≡ []
+  pub debt : debt_at p.linked ≡ debt_of p.seat.session past
   pub stands : (at : Listening) → slice_get places p.seat.place ≡ Some at
       → StandsAs at most (answers_in p.seat.session past) (lines_in p.seat.session past) p.linked
 
@@ -58,11 +60,12 @@ IfOver places most past ps t (Some end) = IsOver places most past ps t end
 -- the turns so far are those of these sessions, and of sessions that ended, all with numbers below `next`
 pub record Keeps (places : List Listening) (most : ℕ) (next : ℕ) (past : List TurnOf) (ps : List Phase) : Type 0 where
   pub early : AllByRecursion (λ (t : TurnOf). t.seat.session < next) past
+  pub measured : AreMeasured places [] past
   pub held : AllByRecursion (IsHeld places most past) ps
   pub over : AllByRecursion (λ (t : TurnOf). IfOver places most past ps t t.end) past
 
 -- a session in its place had its turn: it stays there, or it is there no longer
-pub record StepDoes (places : List Listening) (most next : ℕ) (past : List TurnOf) (index : ℕ) (told told_after : Option (List LinksEntry))
+pub record StepDoes (places : List Listening) (most next moment : ℕ) (past : List TurnOf) (index : ℕ) (told told_after : Option (List LinksEntry))
     (log log_after : Option (List (List ℕ))) (old new : List Phase) (stays_on : Bool) : Type 0 where
   pub before : List Phase
   pub it : Phase
@@ -73,7 +76,7 @@ pub record StepDoes (places : List Listening) (most next : ℕ) (past : List Tur
   pub is : new ≡ before ++ (left ++ after)
   pub turn : TurnOf
   pub seat : turn.seat ≡ it.seat
-  pub is_turn : IsTurn turn
+  pub is_turn : IsTurn moment turn
   pub tells : told_after ≡ option_map (λ entries. entries ++ turn_entries turn) told
   pub added : log_after ≡ with_lines log turn.lines
   pub stay : map (λ (p : Phase). p.seat) left ≡ stays turn
@@ -81,18 +84,18 @@ pub record StepDoes (places : List Listening) (most next : ℕ) (past : List Tur
   pub keeps : Keeps places most next (past ++ turn ∷ []) new
 
 -- each session that stands had its turn, in their order
-pub record TurnsDo (places : List Listening) (most next : ℕ) (past : List TurnOf) (told told_after : Option (List LinksEntry))
+pub record TurnsDo (places : List Listening) (most next moment : ℕ) (past : List TurnOf) (told told_after : Option (List LinksEntry))
     (log log_after : Option (List (List ℕ))) (old new : List Phase) : Type 0 where
   pub turns : List TurnOf
   pub tells : told_after ≡ option_map (λ entries. entries ++ flat_map turn_entries turns) told
   pub added : log_after ≡ with_lines log (flat_map (λ (t : TurnOf). t.lines) turns)
   pub in_turn : map (λ (t : TurnOf). t.seat) turns ≡ map (λ (p : Phase). p.seat) old
-  pub each : AreTurns turns
+  pub each : AreTurns moment turns
   pub stay : map (λ (p : Phase). p.seat) new ≡ flat_map stays turns
   pub keeps : Keeps places most next (past ++ turns) new
 
 -- the first of them had theirs, the rest not yet
-pub record TurnsBegin (places : List Listening) (most next : ℕ) (past : List TurnOf) (index : ℕ)
+pub record TurnsBegin (places : List Listening) (most next moment : ℕ) (past : List TurnOf) (index : ℕ)
     (told told_after : Option (List LinksEntry))
     (log log_after : Option (List (List ℕ))) (old new : List Phase) : Type 0 where
   pub done : List Phase
@@ -103,7 +106,7 @@ pub record TurnsBegin (places : List Listening) (most next : ℕ) (past : List T
   pub tells : told_after ≡ option_map (λ entries. entries ++ flat_map turn_entries turns) told
   pub added : log_after ≡ with_lines log (flat_map (λ (t : TurnOf). t.lines) turns)
   pub in_turn : map (λ (t : TurnOf). t.seat) turns ++ map (λ (p : Phase). p.seat) rest ≡ map (λ (p : Phase). p.seat) old
-  pub each : AreTurns turns
+  pub each : AreTurns moment turns
   pub stay : map (λ (p : Phase). p.seat) done ≡ flat_map stays turns
   pub keeps : Keeps places most next (past ++ turns) new
 

@@ -1,5 +1,5 @@
 //! Laws of a service, as the contracts of functions with empty bodies.
-ghost use Rattle.cf_serve.specs.Laws.{EachIsAlone, IsolatesSessions, StrangersAreRefused};
+ghost use Rattle.cf_serve.specs.Laws.{EachIsAlone, FloodsAreBounded, IsolatesSessions, StrangersAreRefused};
 
 use cf_lane::has_one_judgement;
 use cf_policy::allows_by_first_rule;
@@ -18,3 +18,8 @@ pub fn strangers_are_refused()
 {
     allows_by_first_rule();
 }
+
+/// A session that is refused as fast as it can ask has 100 commands refused a second in the long run.
+pub fn floods_are_bounded()
+    ensures bounded { FloodsAreBounded }
+{}

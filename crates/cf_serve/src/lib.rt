@@ -1,6 +1,7 @@
 //! A service: many clients and their controllers over one loop, each session a relay of its own.
 #![tactic(auto)]
 
+mod debt;
 mod door;
 mod end;
 mod fault;
@@ -11,6 +12,6 @@ mod top;
 
 pub use end::SessionEnd;
 pub use fault::ServeFault;
-pub use laws::{sessions_are_isolated, strangers_are_refused};
+pub use laws::{floods_are_bounded, sessions_are_isolated, strangers_are_refused};
 pub use table::Place;
 pub use top::{serve, serve_desk};

@@ -1,7 +1,7 @@
 //! A session of a service, and its turns.
 //! A client is looked at once, for a round, before its controller is asked, since the system tells an end a round after the
 //! client was taken.
-ghost use Rattle.std.specs.Prelude.{◌≡◌, ◌<◌, ◌∷◌, [], IfOk, IsErr, Err, None, Ok, OnErr, OnOk, Some, length, true};
+ghost use Rattle.std.specs.Prelude.{◌≡◌, ◌<◌, ◌∷◌, [], IfOk, IsErr, Err, false, None, Ok, OnErr, OnOk, Some, length, true};
 ghost use Rattle.cf_audit.specs.Line.{what_value};
 ghost use Rattle.cf_lane.specs.Handled.{WritesLog};
 ghost use Rattle.cf_links.specs.LinkValue.{told_of};
@@ -14,10 +14,12 @@ ghost use Rattle.cf_policy.specs.Within.{IsAssetWithin};
 ghost use Rattle.cf_relay.specs.declared.limit.TheConstants.{MOST_BYTES};
 ghost use Rattle.cf_relay.specs.Stands.{IsNewLane};
 ghost use Rattle.cf_serve.specs.Failing.{MissesReach, MissesTurn};
-ghost use Rattle.cf_serve.specs.Phase.{IsSoundBegun, MayTurn, Phase, ReachDoes, TurnDoes, end_of, last_value, linked_value};
-ghost use Rattle.cf_serve.specs.Phase.{listening_of, phase_of};
+ghost use Rattle.cf_serve.specs.Debt.{must_rest};
+ghost use Rattle.cf_serve.specs.Phase.{BeginsFree, IsSoundBegun, MayTurn, Owes, Phase, ReachDoes, TurnDoes, debt_at, end_of, last_value};
+ghost use Rattle.cf_serve.specs.Phase.{linked_value, listening_of, phase_of};
 ghost use Rattle.cf_view.specs.declared.Endpoint.{Endpoint as EndpointOf};
 
+use crate::debt::Debt;
 use crate::end::SessionEnd;
 use cf_audit::What;
 use cf_driver::log_line;
@@ -30,11 +32,12 @@ use cf_relay::{Relaying, Stop};
 use cf_view::{Endpoint, NoMemory, WriteFault};
 use std::alloc::Global;
 
-/// A relay whose controller was reached, and the client that was met.
+/// A relay whose controller was reached, the client that was met, and what it has to pay for.
 #[derive(Drop)]
 pub(crate) struct Linked {
     pub(crate) met: Endpoint,
     pub(crate) relaying: Relaying,
+    pub(crate) debt: Debt,
 }
 
 /// A session: its number, the number of its listening place, the endpoint from which its client came, and its relay once the
@@ -147,6 +150,7 @@ fn begin<L: Links, D: Desk>(
         (told_of L.Links session links.old) (told_of L.Links session links.new)
         (DeskValue.lines (D.value desk.old)) (DeskValue.lines (D.value desk.new)) (DeskValue.line_part (D.value desk.new))) }
     ensures may { IfOk result (λ reached. IsSoundBegun (listening_of terms.now) terms.now.most reached) }
+    ensures free { IfOk result (λ reached. BeginsFree reached) }
     ensures met { (result ≡ Ok (Reached.Ended SessionEnd.Unreached) → ⊥) × (result ≡ Ok (Reached.Ended SessionEnd.Gone) → ⊥) }
     ensures whole { OnOk result (DeskValue.whole (D.value desk.new) ≡ true) }
     ensures log { WritesLog (D.value desk.old) (D.value desk.new) }
@@ -168,7 +172,11 @@ fn begin<L: Links, D: Desk>(
                 parts.to_client,
                 parts.to_controller,
             );
-            Ok(Reached::Begun(Linked { met, relaying }))
+            Ok(Reached::Begun(Linked {
+                met,
+                relaying,
+                debt: Debt::none(),
+            }))
         }
         MomentAnswer::Failed => {
             let what = What::Lost {
@@ -202,6 +210,7 @@ fn reach<L: Links, D: Desk>(
         (told_of L.Links session links.old) (told_of L.Links session links.new)
         (DeskValue.lines (D.value desk.old)) (DeskValue.lines (D.value desk.new)) (DeskValue.line_part (D.value desk.new))) }
     ensures may { IfOk result (λ reached. IsSoundBegun (listening_of terms.now) terms.now.most reached) }
+    ensures free { IfOk result (λ reached. BeginsFree reached) }
     ensures unreached { result ≡ Ok (Reached.Ended SessionEnd.Unreached) → Rose (L.faults links.old) (L.faults links.new) }
     ensures gone { result ≡ Ok (Reached.Ended SessionEnd.Gone) → L.faults links.new ≡ L.faults links.old }
     ensures whole { OnOk result (DeskValue.whole (D.value desk.new) ≡ true) }
@@ -235,6 +244,7 @@ impl Linked {
         requires serves { LinksPlace.serves (L.place links.old) session ≡ true }
         requires within { IsAssetWithin terms.now.asset.now }
         requires may { MayTurn (listening_of terms.now) terms.now.most (Some (linked_value self.old)) }
+        requires no_rest { must_rest self.old.debt terms.now.moment ≡ false }
         requires whole { DeskValue.whole (D.value desk.old) ≡ true }
         requires buffer { length buf.old ≡ MOST_BYTES }
         ensures place { L.place links.new ≡ L.place links.old }
@@ -247,17 +257,24 @@ impl Linked {
             (DeskValue.lines (D.value desk.old)) (DeskValue.lines (D.value desk.new)) (DeskValue.line_part (D.value desk.new))
             (Some (linked_value self.old))) }
         ensures may { IfOk result (λ end. end ≡ None → MayTurn (listening_of terms.now) terms.now.most (Some (linked_value self.new))) }
+        ensures owes { IfOk result (λ end. end ≡ None
+            → Owes terms.now.moment (Some (linked_value self.old)) (Some (linked_value self.new))) }
         ensures whole { OnOk result (DeskValue.whole (D.value desk.new) ≡ true) }
         ensures log { WritesLog (D.value desk.old) (D.value desk.new) }
         ensures cause { HasCause (DeskValue.faults (D.value desk.old)) (DeskValue.faults (D.value desk.new)) (IsErr result) }
         ensures buffer { length buf.new ≡ MOST_BYTES }
     {
+        let earlier = self.relaying.refused();
         let answer = self
             .relaying
             .turn(terms.asset, terms.most, buf, session, links, desk);
         let end = match end_by(answer, self.relaying.is_closed())? {
             Some(end) => end,
-            None => return Ok(None),
+            None => {
+                let refused = self.relaying.refused().saturating_sub(earlier);
+                self.debt.add(terms.moment, refused);
+                return Ok(None);
+            }
         };
         let what = last_what(end, self.relaying.admitted(), self.relaying.refused());
         log_line(terms.asset, self.met, self.relaying.moment(), what, desk)?;
@@ -266,6 +283,16 @@ impl Linked {
 }
 
 impl Served {
+    /// Whether it has too many refused commands to pay for at a moment to have a turn.
+    pub(crate) fn must_rest(&self, moment: u64) -> bool
+        ensures { result ≡ must_rest (debt_at (Phase.linked (phase_of self.now))) moment }
+    {
+        match &self.linked {
+            Some(linked) => linked.debt.must_rest(moment),
+            None => false,
+        }
+    }
+
     /// One turn: its controller is asked for, or its relay has its turn; and the last line where it ends.
     pub(crate) fn turn<L: Links, D: Desk>(
         &mut self,
@@ -279,6 +306,7 @@ impl Served {
         requires within { IsAssetWithin terms.now.asset.now }
         requires most { 0 < terms.now.most }
         requires may { MayTurn (listening_of terms.now) terms.now.most (Phase.linked (phase_of self.old)) }
+        requires no_rest { must_rest (debt_at (Phase.linked (phase_of self.old))) terms.now.moment ≡ false }
         requires whole { DeskValue.whole (D.value desk.old) ≡ true }
         requires buffer { length buf.old ≡ MOST_BYTES }
         ensures place { L.place links.new ≡ L.place links.old }
@@ -291,6 +319,8 @@ impl Served {
             (DeskValue.lines (D.value desk.old)) (DeskValue.lines (D.value desk.new)) (DeskValue.line_part (D.value desk.new))
             (Phase.linked (phase_of self.old))) }
         ensures may { IfOk result (λ end. end ≡ None → MayTurn (listening_of terms.now) terms.now.most (Phase.linked (phase_of self.new))) }
+        ensures owes { IfOk result (λ end. end ≡ None
+            → Owes terms.now.moment (Phase.linked (phase_of self.old)) (Phase.linked (phase_of self.new))) }
         ensures same { self.new ≡ record self.old { linked = self.new.linked } }
         ensures whole { OnOk result (DeskValue.whole (D.value desk.new) ≡ true) }
         ensures log { WritesLog (D.value desk.old) (D.value desk.new) }

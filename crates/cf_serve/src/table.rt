@@ -9,7 +9,7 @@ ghost use Rattle.cf_outside.specs.Faults.{HasCause};
 ghost use Rattle.cf_outside.specs.Pair.{Entry, FaultsBy};
 ghost use Rattle.cf_policy.specs.Within.{IsAssetWithin};
 ghost use Rattle.cf_relay.specs.declared.limit.TheConstants.{MOST_BYTES};
-ghost use Rattle.cf_serve.specs.Phase.{KeepsPlace, MayTurn, Phase, SeatDoes, StandsAs, listening_at, listening_of, listenings, phase_of};
+ghost use Rattle.cf_serve.specs.Phase.{KeepsPlace, MayTurn, Phase, SeatDoes, StandsAs, debt_at, listening_at, listening_of, listenings, phase_of};
 ghost use Rattle.cf_serve.specs.Failing.{MissesArrival, MissesRound, MissesRounds, MissesSeat, MissesStep, MissesTurns};
 ghost use Rattle.cf_serve.specs.Served.{HasMade, left_of};
 ghost use Rattle.cf_serve.specs.Door.{first_lobby};
@@ -56,7 +56,8 @@ pub(crate) fn place_of<'a>(places: &[Place<'a>], number: usize) -> Place<'a>
     places[number]
 }
 
-/// Gives a session its turn where something can move for it, and leaves it where it ends; answers whether it stays.
+/// Gives a session its turn where something can move for it and it need not rest, and leaves it where it ends; answers whether it
+/// stays.
 fn turn_one<L: Service, D: Desk>(
     served: &mut Served,
     alloc: Global,
@@ -76,13 +77,13 @@ fn turn_one<L: Service, D: Desk>(
     ensures round { LinksPlace.round_faults (L.place links.new) ≡ LinksPlace.round_faults (L.place links.old) }
     ensures does { IfOk result (λ stays. (es : List Entry) (own : List (List ℕ))
         → StandsAs (listening_of terms.now) terms.now.most es own (Phase.linked (phase_of served.old))
-        → SeatDoes (listening_of terms.now) terms.now.most es own (L.told links.old) (L.told links.new)
+        → SeatDoes (listening_of terms.now) terms.now.most terms.now.moment es own (L.told links.old) (L.told links.new)
         (DeskValue.lines (D.value desk.old)) (DeskValue.lines (D.value desk.new)) (phase_of served.old) (phase_of served.new) stays) }
     ensures breaks { OnErr result ((es : List Entry) (own : List (List ℕ))
         → StandsAs (listening_of terms.now) terms.now.most es own (Phase.linked (phase_of served.old))
-        → MissesSeat (listening_of terms.now) terms.now.most es own (L.told links.old) (L.told links.new)
+        → MissesSeat (listening_of terms.now) terms.now.most terms.now.moment es own (L.told links.old) (L.told links.new)
         (DeskValue.lines (D.value desk.old)) (DeskValue.lines (D.value desk.new)) (DeskValue.line_part (D.value desk.new))
-        (Phase.seat (phase_of served.old))) }
+        (Phase.seat (phase_of served.old)) (debt_at (Phase.linked (phase_of served.old)))) }
     ensures may { IfOk result (λ stays. stays ≡ true
         → MayTurn (listening_of terms.now) terms.now.most (Phase.linked (phase_of served.new))) }
     ensures same { served.new ≡ record served.old { linked = served.new.linked } }
@@ -92,6 +93,10 @@ fn turn_one<L: Service, D: Desk>(
     ensures buffer { length buf.new ≡ MOST_BYTES }
 {
     let number = served.number;
+    if served.must_rest(terms.moment) {
+        links.rest(number);
+        return Ok(true);
+    }
     if !links.is_ready(number) {
         return Ok(true);
     }
@@ -160,12 +165,12 @@ impl Table {
             (map phase_of self.new.sessions.items)) }
         ensures does { IfOk result (λ stays. (past : List TurnOf)
             → Keeps (listenings places.now) most self.old.lobby.next past (map phase_of self.old.sessions.items)
-            → StepDoes (listenings places.now) most self.old.lobby.next past index (L.told links.old) (L.told links.new)
+            → StepDoes (listenings places.now) most self.old.lobby.next moment past index (L.told links.old) (L.told links.new)
             (DeskValue.lines (D.value desk.old)) (DeskValue.lines (D.value desk.new))
             (map phase_of self.old.sessions.items) (map phase_of self.new.sessions.items) stays) }
         ensures breaks { OnErr result ((past : List TurnOf)
             → Keeps (listenings places.now) most self.old.lobby.next past (map phase_of self.old.sessions.items)
-            → MissesStep (listenings places.now) most past index (L.told links.old) (L.told links.new)
+            → MissesStep (listenings places.now) most moment past index (L.told links.old) (L.told links.new)
             (DeskValue.lines (D.value desk.old)) (DeskValue.lines (D.value desk.new)) (DeskValue.line_part (D.value desk.new))
             (map phase_of self.old.sessions.items) (map phase_of self.new.sessions.items)) }
         ensures room { vec_capacity self.new.sessions ≡ vec_capacity self.old.sessions }
@@ -213,12 +218,12 @@ impl Table {
             (map phase_of self.new.sessions.items)) }
         ensures does { OnOk result ((past : List TurnOf)
             → Keeps (listenings places.now) most self.old.lobby.next past (map phase_of self.old.sessions.items)
-            → TurnsDo (listenings places.now) most self.old.lobby.next past (L.told links.old) (L.told links.new)
+            → TurnsDo (listenings places.now) most self.old.lobby.next moment past (L.told links.old) (L.told links.new)
             (DeskValue.lines (D.value desk.old)) (DeskValue.lines (D.value desk.new))
             (map phase_of self.old.sessions.items) (map phase_of self.new.sessions.items)) }
         ensures breaks { OnErr result ((past : List TurnOf)
             → Keeps (listenings places.now) most self.old.lobby.next past (map phase_of self.old.sessions.items)
-            → MissesTurns (listenings places.now) most past (L.told links.old) (L.told links.new)
+            → MissesTurns (listenings places.now) most moment past (L.told links.old) (L.told links.new)
             (DeskValue.lines (D.value desk.old)) (DeskValue.lines (D.value desk.new)) (DeskValue.line_part (D.value desk.new))
             (map phase_of self.old.sessions.items) (map phase_of self.new.sessions.items)) }
         ensures leave { OnErr result (MayLeave (LinksPlace.serves (L.place links.new)) self.new.lobby.next

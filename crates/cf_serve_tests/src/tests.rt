@@ -5,6 +5,7 @@ ghost use Rattle.cf_links.specs.MemoryLinks.{serves_in};
 ghost use Rattle.cf_policy.specs.Within.{IsAssetWithin, IsWithin};
 
 mod door;
+mod flood;
 mod full;
 mod logs;
 mod runs;

@@ -71,6 +71,8 @@ pub(crate) struct Session {
     turn_at: u64,
     /// How often something was asked or given in this turn that did not move.
     idles: u64,
+    /// It is not waited for before this moment, in milliseconds.
+    rests_until: u64,
 }
 
 /// The tokens of a session's sides. A number is never used again, so what is told late of a connection that is gone is told of no
@@ -117,6 +119,7 @@ impl Session {
             has_moved: false,
             turn_at: 0,
             idles: 0,
+            rests_until: 0,
         })
     }
 
@@ -234,8 +237,16 @@ impl Session {
         }
     }
 
+    /// Has it wait until a moment, in milliseconds, whatever comes for it.
+    pub fn rest_until(&mut self, until: u64) {
+        self.rests_until = until;
+    }
+
     /// How many milliseconds may pass before its next turn: 0 where that can move something.
     pub fn longest_wait(&self, now: u64) -> u64 {
+        if now < self.rests_until {
+            return self.rests_until - now;
+        }
         if self.has_news() {
             0
         } else {

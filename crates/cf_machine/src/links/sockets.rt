@@ -19,6 +19,9 @@ const EVENTS: usize = 1024;
 /// How many sessions there is room for from the start.
 const SESSIONS: usize = 256;
 
+/// How many microseconds a second has.
+const SECOND_MICROS: u64 = 1_000_000;
+
 /// How many sessions that were left are read away at once at most.
 const LEAVING: usize = 256;
 
@@ -86,6 +89,21 @@ impl<'a, R: Net + Clock> Sockets<'a, R> {
             Some(at) => self.sessions[at].begin_turn(self.now),
             None => true,
         }
+    }
+
+    /// Has a session wait for the next second.
+    pub fn rest(&mut self, session: u64) {
+        let until = self.next_second();
+        if let Some(at) = session_of(&self.sessions, session) {
+            self.sessions[at].rest_until(until);
+        }
+    }
+
+    /// The millisecond since it began in which the second behind that of the round begins.
+    fn next_second(&self) -> u64 {
+        let left = SECOND_MICROS - self.moment % SECOND_MICROS;
+        let begins = self.moment.saturating_add(left);
+        begins.saturating_sub(self.begun_at).div_ceil(1000)
     }
 
     /// Listens at an address, as the next place; tells at which the system listens, and the moment in microseconds since 1970.

@@ -67,6 +67,10 @@ impl Service for SetBack {
         self.links.is_ready(session)
     }
 
+    fn rest(&mut self, session: u64) {
+        self.links.rest(session);
+    }
+
     fn leave(&mut self, session: u64) {
         self.links.leave(session);
     }

@@ -11,7 +11,7 @@ pub loop-index-init : goal.loop-index-init
 loop-index-init g c =
     record {
       table = c.requires.table;
-      does = λ past keeps. turns_begin _ _ _ past _ _ _ keeps;
+      does = λ past keeps. turns_begin _ _ _ _ past _ _ _ keeps;
       lobby = refl;
       round = refl;
       room = refl;
@@ -28,7 +28,7 @@ loop-index-preserved-then-branch g c =
     record {
       table = rw (ap (λ (f : Lobby). f.next) (c.turn_at.ensures.lobby ∙ i.lobby)) at c.in_ok-turn_at.ensures.table;
       does = λ past keeps.
-          turns_step _ _ _ past _ _ _ _ _ _ _ (i.does past keeps) c.loop-index.self.lobby.next _ _ _ c.in_ok-turn_at.field-0 _ (ap (λ (f : Lobby). f.next) i.lobby)
+          turns_step _ _ _ _ past _ _ _ _ _ _ _ (i.does past keeps) c.loop-index.self.lobby.next _ _ _ c.in_ok-turn_at.field-0 _ (ap (λ (f : Lobby). f.next) i.lobby)
           c.in_ok-turn_at.ensures.does (ap (λ (b : Bool). c.loop-index.index + (if b then 1 else 0)) (sym c.if-branch.true));
       lobby = c.turn_at.ensures.lobby ∙ i.lobby;
       round = c.turn_at.ensures.round ∙ i.round;
@@ -46,7 +46,7 @@ loop-index-preserved g c =
     record {
       table = rw (ap (λ (f : Lobby). f.next) (c.turn_at.ensures.lobby ∙ i.lobby)) at c.in_ok-turn_at.ensures.table;
       does = λ past keeps.
-          turns_step _ _ _ past _ _ _ _ _ _ _ (i.does past keeps) c.loop-index.self.lobby.next _ _ _ c.in_ok-turn_at.field-0 _ (ap (λ (f : Lobby). f.next) i.lobby)
+          turns_step _ _ _ _ past _ _ _ _ _ _ _ (i.does past keeps) c.loop-index.self.lobby.next _ _ _ c.in_ok-turn_at.field-0 _ (ap (λ (f : Lobby). f.next) i.lobby)
           c.in_ok-turn_at.ensures.does (no_step c.loop-index.index ∙ ap (λ (b : Bool). c.loop-index.index + (if b then 1 else 0)) (sym c.if-branch.false));
       lobby = c.turn_at.ensures.lobby ∙ i.lobby;
       round = c.turn_at.ensures.round ∙ i.round;
@@ -63,5 +63,5 @@ returns-in_err-turn_at-clause-breaks g c =
     let i = c.loop-index.invariant in
     on_err c.from_residual.result _ (λ past keeps.
     let b = i.does past keeps in
-    turns_missed _ _ _ past _ _ _ _ _ _ _ b _ _ _ _
+    turns_missed _ _ _ _ past _ _ _ _ _ _ _ b _ _ _ _
     (c.in_err-turn_at.ensures.breaks (past ++ b.turns) (rw (ap (λ (f : Lobby). f.next) i.lobby) b.keeps)))
