@@ -16,7 +16,7 @@ use Rattle.cf_policy.specs.declared.policy.Asset.{Asset}
 use Rattle.cf_policy.specs.declared.index.CodePair.{CodePair}
 use Rattle.cf_policy.specs.Verdict.{takes, takes_value, numbered, has_act, has_point, has_function, is_allow, decided, verdict_of}
 use Rattle.cf_view.specs.declared.base.Reason.TheVariants as reason
-use Rattle.cf_policy.specs.Index.{IsIndexOf, IsPartOfCode, rule_at, has_group, has_group_and_point, has_group_to_value, verdict_by}
+use Rattle.cf_policy.specs.Index.{ArePairsOf, IsPartOfCode, rule_at, has_group, has_group_and_point, has_group_to_value, verdict_by}
 use Rattle.cf_policy.proofs.FirstPlace.{IsFirstAt, first_at, position_is}
 
 other_default : {X : Type 0} (xs : List X) (k : ℕ) (d e : X) → k < length xs → get_or xs k d ≡ get_or xs k e
@@ -106,32 +106,32 @@ abbrev pub is_named : ℕ → ℕ → Rule → Bool
 is_named client code r = takes r.clients (pos client) && takes r.codes (pos code)
 
 module _ (client : ℕ) (act : Act) (r : Rule) where
-  named : has_function r client act ≡ true → is_named client act.code r ≡ true
+  pub named : has_function r client act ≡ true → is_named client act.code r ≡ true
   named h = grind (arith, common_steps, second_so, first_so)
 
-  group_is : is_named client act.code r ≡ true → has_group r act ≡ has_function r client act
+  pub group_is : is_named client act.code r ≡ true → has_group r act ≡ has_function r client act
   group_is h = sym (λ i. first_so (takes r.clients (pos client)) (takes r.codes (pos act.code)) h i && (second_so (takes r.clients (pos client)) (takes r.codes (pos act.code)) h i && takes r.groups (pos act.group)))
 
-  point_is : is_named client act.code r ≡ true → has_group_and_point r act ≡ has_point r client act
+  pub point_is : is_named client act.code r ≡ true → has_group_and_point r act ≡ has_point r client act
   point_is h = λ i. group_is h i && takes r.points (pos act.point)
 
-  value_is : is_named client act.code r ≡ true → has_group_to_value r act ≡ has_act r client act
+  pub value_is : is_named client act.code r ≡ true → has_group_to_value r act ≡ has_act r client act
   value_is h = λ i. point_is h i && takes_value r.values act.value
 
-  act_named : has_act r client act ≡ true → is_named client act.code r ≡ true
+  pub act_named : has_act r client act ≡ true → is_named client act.code r ≡ true
   act_named h = named (first_so (has_function r client act) (takes r.points (pos act.point)) (first_so (has_point r client act) (takes_value r.values act.value) h))
 
-  group_named : (is_allow r.action && has_function r client act) ≡ true → is_named client act.code r ≡ true
+  pub group_named : (is_allow r.action && has_function r client act) ≡ true → is_named client act.code r ≡ true
   group_named h = named (second_so (is_allow r.action) (has_function r client act) h)
 
-  point_named : (is_allow r.action && has_point r client act) ≡ true → is_named client act.code r ≡ true
+  pub point_named : (is_allow r.action && has_point r client act) ≡ true → is_named client act.code r ≡ true
   point_named h = named (first_so (has_function r client act) (takes r.points (pos act.point)) (second_so (is_allow r.action) (has_point r client act) h))
 
 abbrev pair_at : ℕ → ℕ → CodePair
 pair_at code n = record { code = code; rule = n }
 
 -- the pairs of a code stand for the rules that have it and the client
-pub are_named : (asset : Asset) (client code : ℕ) (pairs part : List CodePair) → IsIndexOf asset client pairs → IsPartOfCode code pairs part
+pub are_named : (asset : Asset) (client code : ℕ) (pairs part : List CodePair) → ArePairsOf asset client pairs → IsPartOfCode code pairs part
     → AreNamed asset.rules (is_named client code) part
 are_named asset client code pairs part index of_code = record {
   ascending = of_code.ascending;
@@ -146,7 +146,7 @@ are_named asset client code pairs part index of_code = record {
   );
 }
 
-pub verdict_is : (asset : Asset) (client : ℕ) (act : Act) (pairs part : List CodePair) → IsIndexOf asset client pairs → IsPartOfCode act.code pairs part
+pub verdict_is : (asset : Asset) (client : ℕ) (act : Act) (pairs part : List CodePair) → ArePairsOf asset client pairs → IsPartOfCode act.code pairs part
     → verdict_by part asset.rules act ≡ verdict_of asset client act
 verdict_is asset client act pairs part index of_code =
     let are = are_named asset client act.code pairs part index of_code in

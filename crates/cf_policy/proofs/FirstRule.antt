@@ -15,21 +15,21 @@ use Rattle.std.proofs.lemmas.Grind.{common_steps}
 use Rattle.std.proofs.Common.{arith}
 
 -- the rule of this number has the act, and no earlier rule has it
-abbrev IsFirst : List Rule → ℕ → Act → ℕ → Rule → Type 0
+abbrev pub IsFirst : List Rule → ℕ → Act → ℕ → Rule → Type 0
 IsFirst all client act n r = IsFirstAt (λ q. has_act q client act) all n r
 
 first_rule_is : (all : List Rule) (client : ℕ) (act : Act) (n : ℕ) (r : Rule) → IsFirst all client act n r → first_rule all client act ≡ Some (n, r)
 first_rule_is all client act n r f = rw (position_is (λ q. has_act q client act) all n r f, f.here) refl
 
-verdict_is : (asset : Asset) (client : ℕ) (act : Act) (n : ℕ) (r : Rule) → IsFirst asset.rules client act n r → verdict_of asset client act ≡ by_rule n r r.action
+pub verdict_is : (asset : Asset) (client : ℕ) (act : Act) (n : ℕ) (r : Rule) → IsFirst asset.rules client act n r → verdict_of asset client act ≡ by_rule n r r.action
 verdict_is asset client act n r f = rw (first_rule_is asset.rules client act n r f) refl
 
 -- a rule that is first decides, or none has the act
-cases : (all : List Rule) (client : ℕ) (act : Act)
+pub cases : (all : List Rule) (client : ℕ) (act : Act)
     → ((n : ℕ) × (r : Rule) × IsFirst all client act n r) ⊎ (first_rule all client act ≡ None)
 cases all client act = grind (arith, common_steps, first_at)
 
-default_is : (asset : Asset) (client : ℕ) (act : Act) → first_rule asset.rules client act ≡ None
+pub default_is : (asset : Asset) (client : ℕ) (act : Act) → first_rule asset.rules client act ≡ None
     → verdict_of asset client act ≡ verdict.Refuse decider.Default (default_reason asset.rules client act)
 default_is asset client act e = rw e refl
 

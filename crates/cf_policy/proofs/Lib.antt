@@ -4,4 +4,6 @@ pub mod CodePart
 pub mod Pairs
 pub mod FirstRule
 mod Fronts
+pub mod PointTable
+pub mod ByTable
 pub mod Runs

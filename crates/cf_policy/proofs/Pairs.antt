@@ -23,7 +23,7 @@ use Rattle.cf_policy.specs.declared.policy.Rule.{Rule}
 use Rattle.cf_policy.specs.declared.policy.Asset.{Asset}
 use Rattle.cf_policy.specs.declared.index.CodePair.{CodePair}
 use Rattle.cf_policy.specs.Verdict.{covers, takes}
-use Rattle.cf_policy.specs.Index.{IsPairBefore, IsIndexOf, AddsCodes, HasPairsBelow}
+use Rattle.cf_policy.specs.Index.{IsPairBefore, ArePairsOf, AddsCodes, HasPairsBelow}
 use Rattle.std.proofs.lemmas.Grind.{common_steps}
 
 -- the pairs of this place and of the codes of some spans come to the pairs before
@@ -156,10 +156,10 @@ same_pair_is p q h = same_pair p q (eqb-true p.code q.code (first_so (p.code == 
 
 -- the pairs of all rules, sorted, and each once
 pub index_of : (asset : Asset) (client : ℕ) (found sorted once : List CodePair) → HasPairsBelow (length asset.rules) asset.rules client found
-    → IsPermutation found sorted → IsSorted pair_cmp sorted → once ≡ dedup is_same_pair sorted → IsIndexOf asset client once
+    → IsPermutation found sorted → IsSorted pair_cmp sorted → once ≡ dedup is_same_pair sorted → ArePairsOf asset client once
 index_of asset client found sorted once has moved up e =
     let strict : IsStrictlySortedBy pair_cmp (dedup is_same_pair sorted) = IsStrictlySortedBy-dedup pair_cmp_total same_pair_ties sorted up in
-    subst (IsIndexOf asset client) (sym e) (record {
+    subst (ArePairsOf asset client) (sym e) (record {
       ascending = λ i j d lt inside. before_less _ _ (Less-from_sorted pair_cmp (dedup is_same_pair sorted) i j d strict lt inside);
       exact = λ pair. (
         λ h. ((has pair).0 (Contains-permutation sorted found pair (IsPermutation-sym found sorted moved) (Contains-from_dedup is_same_pair sorted pair h))).1,

@@ -14,7 +14,7 @@ use Rattle.cf_policy.specs.declared.policy.Rule.{Rule}
 use Rattle.cf_policy.specs.declared.policy.Span.{Span}
 use Rattle.cf_policy.specs.declared.policy.Asset.{Asset}
 use Rattle.cf_policy.specs.declared.index.CodePair.{CodePair}
-use Rattle.cf_policy.specs.Index.{tried, rule_at, has_group, has_group_and_point, has_group_to_value, verdict_by, IsIndexOf, IsPartOfCode}
+use Rattle.cf_policy.specs.Index.{tried, rule_at, has_group, has_group_and_point, has_group_to_value, verdict_by, ArePairsOf, IsPartOfCode}
 use Rattle.cf_policy.specs.Run.{at_point, with_value, HasOneVerdict, IsSteady, TakesAnyValue, some_states_values}
 use Rattle.cf_policy.specs.Verdict.{takes, takes_value, is_empty, covers, is_allow, decided, numbered}
 use Rattle.cf_policy.proofs.ByCode.{are_named, is_named, some_same, verdict_is}
@@ -48,22 +48,22 @@ module _ {X : Type 0} (p q : X → Bool) (xs : List X) (h : All (λ x. p x ≡ q
   position_same = grind (arith, common_steps, moved, back)
 
 -- what is asked of a rule, if there is one
-abbrev asked : (Rule → Bool) → Option Rule → Bool
+abbrev pub asked : (Rule → Bool) → Option Rule → Bool
 asked test o = option_map_or test o false
 
 module _ (act : Act) (point : ℕ) where
-  abbrev other : Act
+  abbrev pub other : Act
   other = at_point act point
 
-  abbrev KeepsPoint : Option Rule → Type 0
+  abbrev pub KeepsPoint : Option Rule → Type 0
   KeepsPoint o = asked (λ r. takes r.points (pos point)) o ≡ asked (λ r. takes r.points (pos act.point)) o
 
-  point_at : (o : Option Rule) → KeepsPoint o
+  pub point_at : (o : Option Rule) → KeepsPoint o
       → asked (λ r. is_allow r.action && has_group_and_point r other) o ≡ asked (λ r. is_allow r.action && has_group_and_point r act) o
   point_at None h = refl
   point_at (Some r) h = λ i. is_allow r.action && (has_group r act && h i)
 
-  value_at : (o : Option Rule) → KeepsPoint o → asked (λ r. has_group_to_value r other) o ≡ asked (λ r. has_group_to_value r act) o
+  pub value_at : (o : Option Rule) → KeepsPoint o → asked (λ r. has_group_to_value r other) o ≡ asked (λ r. has_group_to_value r act) o
   value_at None h = refl
   value_at (Some r) h = λ i. (has_group r act && h i) && takes_value r.values act.value
 
@@ -113,7 +113,7 @@ verdict_steady : (act : Act) (point : ℕ) (rules : List Rule) (part : List Code
 verdict_steady act point rules part last None e steady from to = verdict_same act point rules part (λ k d lt. steady k d lt point from to)
 verdict_steady act point rules part last (Some n) e steady from to = verdict_decided act point rules part n (sym e) (λ k d lt. steady k d lt point from to)
 
-pub one_verdict : (asset : Asset) (client : ℕ) (act : Act) (pairs part : List CodePair) (last : ℕ) (o : Option ℕ) → IsIndexOf asset client pairs → IsPartOfCode act.code pairs part
+pub one_verdict : (asset : Asset) (client : ℕ) (act : Act) (pairs part : List CodePair) (last : ℕ) (o : Option ℕ) → ArePairsOf asset client pairs → IsPartOfCode act.code pairs part
     → o ≡ position (λ p. rule_at asset.rules p.rule (λ r. has_group_to_value r act)) part
     → AreSteady asset.rules act.point last (tried o part) → HasOneVerdict asset client act last (verdict_by part asset.rules act)
 one_verdict asset client act pairs part last o index of_code e steady = λ point from to.
@@ -156,7 +156,7 @@ module _ (act : Act) (value : Option ℤ) where
       → verdict_by pairs rules valued ≡ verdict_by pairs rules act
   value_same rules pairs h = grind (arith, common_steps, position_same, free_at)
 
-pub any_value_taken : (asset : Asset) (client code : ℕ) (pairs part : List CodePair) → IsIndexOf asset client pairs → IsPartOfCode code pairs part
+pub any_value_taken : (asset : Asset) (client code : ℕ) (pairs part : List CodePair) → ArePairsOf asset client pairs → IsPartOfCode code pairs part
     → list_all (λ p. option_map_or (λ r. is_empty r.values) (slice_get asset.rules p.rule) true) part ≡ true → TakesAnyValue asset client code
 any_value_taken asset client code pairs part index of_code all = λ act value same.
     let own : IsPartOfCode act.code pairs part = subst (λ n. IsPartOfCode n pairs part) (sym same) of_code in
@@ -185,7 +185,7 @@ all_unstated rules (p ∷ ps) =
     (λ i. unstated (slice_get rules p.rule) i && all_unstated rules ps i)
     ∙ neither (rule_at rules p.rule (λ r. not (is_empty r.values))) (list_any (λ q. rule_at rules q.rule (λ r. not (is_empty r.values))) ps)
 
-pub values_unstated : (asset : Asset) (client code : ℕ) (pairs part : List CodePair) → IsIndexOf asset client pairs → IsPartOfCode code pairs part →
+pub values_unstated : (asset : Asset) (client code : ℕ) (pairs part : List CodePair) → ArePairsOf asset client pairs → IsPartOfCode code pairs part →
     list_all (λ p. option_map_or (λ r. is_empty r.values) (slice_get asset.rules p.rule) true) part ≡ not (some_states_values asset client code)
 values_unstated asset client code pairs part index of_code =
     all_unstated asset.rules part

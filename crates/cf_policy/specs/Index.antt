@@ -10,6 +10,8 @@ use Rattle.cf_view.specs.declared.base.Reason.TheVariants as reason
 use Rattle.cf_policy.specs.declared.policy.Rule.{Rule}
 use Rattle.cf_policy.specs.declared.policy.Asset.{Asset}
 use Rattle.cf_policy.specs.declared.index.CodePair.{CodePair}
+use Rattle.cf_policy.specs.declared.point_table.PointCell.{PointCell}
+use Rattle.cf_policy.specs.PointTable.{IsTableOf}
 use Rattle.cf_policy.specs.Verdict.{takes, takes_value, numbered, is_allow, decided}
 use Rattle.cf_policy.specs.declared.policy.Verdict.{Verdict}
 
@@ -25,9 +27,20 @@ abbrev pub IsPairBefore : CodePair → CodePair → Type 0
 IsPairBefore p q = (p.code < q.code) ⊎ ((p.code ≡ q.code) × (p.rule < q.rule))
 
 -- every pair of a code and a rule that has it and the client, each once, ascending by code and then by place
-pub record IsIndexOf (asset : Asset) (client : ℕ) (pairs : List CodePair) : Type 0 where
+pub record ArePairsOf (asset : Asset) (client : ℕ) (pairs : List CodePair) : Type 0 where
   pub ascending : AllPairs IsPairBefore pairs
   pub exact : (pair : CodePair) → Contains pairs pair ↔ IsPairOf asset.rules client pair
+
+-- an index: its pairs, and the table of their points
+pub record IndexValue : Type 0 where
+  pub pairs : List CodePair
+  pub cells : List PointCell
+  pub reaches : List ℕ
+
+-- the pairs of the asset's rules that have the client, and where the points of these rules lie
+pub record IsIndexOf (asset : Asset) (client : ℕ) (index : IndexValue) : Type 0 where
+  pub pairs : ArePairsOf asset client index.pairs
+  pub table : IsTableOf asset.rules index.pairs index.cells index.reaches
 
 -- the pairs of this rule and its codes come to the pairs before
 abbrev pub AddsCodes : ℕ → Rule → List CodePair → List CodePair → Type 0

@@ -3,6 +3,7 @@ pub mod Index
 pub mod Laws
 pub mod Logged
 pub mod Names
+pub mod PointTable
 pub mod Run
 pub mod Verdict
 pub mod Within

@@ -9,6 +9,7 @@ ghost use Rattle.cf_policy.specs.Verdict.{verdict_of, decided, is_allow, numbere
 ghost use Rattle.cf_policy.specs.Within.{IsAssetWithin, IsRuleWithin};
 
 use crate::judge::{rule_reason, takes, takes_value};
+use crate::point_table::{PointCell, reaches_of, sorted_cells};
 use crate::policy::{Action, Asset, Decider, Rule, Verdict};
 use cf_view::{Act, NoMemory, Reason};
 use std::alloc::Global;
@@ -16,6 +17,8 @@ use std::marker::Model;
 
 /// How many codes are octets.
 const CODES: usize = 256;
+/// How many rules of a code are looked at one by one, which takes no longer than to look into the table.
+pub(crate) const FEW: usize = 8;
 
 /// A code and a rule that has it.
 #[derive(Clone, Copy, PartialEq, Eq, PartialOrd, Ord)]
@@ -26,22 +29,23 @@ pub struct CodePair {
     pub rule: usize,
 }
 
-/// The pairs of the rules of an asset that have one client. Contracts see the list of pairs.
+/// The pairs of the rules of an asset that have one client, and a table of their points. Contracts see these lists.
 #[derive(Drop)]
 pub struct CodeIndex {
     pairs: Vec<CodePair>,
     /// For each code that is an octet, how many pairs have a lower one.
     starts: [usize; CODES],
+    /// Where the points of each pair's rule lie, sorted, and how far the cells before each one reach.
+    cells: Vec<PointCell>,
+    reaches: Vec<u64>,
 }
 
 impl Model for CodeIndex {
-    ghost use Rattle.std.specs.Prelude.{List};
-    ghost use Rattle.cf_policy.specs.declared.index.CodePair.{CodePair};
-    ghost use Rattle.cf_policy.specs.Index.{HasStarts};
+    ghost use Rattle.cf_policy.specs.Index.{HasStarts, IndexValue};
 
-    ghost Value = { List CodePair };
+    ghost Value = { IndexValue };
 
-    ghost view = { λ i. i.pairs.items };
+    ghost view = { λ i. record { pairs = i.pairs.items; cells = i.cells.items; reaches = i.reaches.items } };
 
     ghost invariant = { λ i. HasStarts i.starts i.pairs.items };
 }
@@ -57,12 +61,19 @@ impl CodeIndex {
         pairs.sort_unstable();
         pairs.dedup();
         let starts = starts_of(pairs.as_slice());
-        Ok(CodeIndex { pairs, starts })
+        let cells = sorted_cells(alloc, asset.rules.as_slice(), pairs.as_slice())?;
+        let reaches = reaches_of(alloc, cells.as_slice())?;
+        Ok(CodeIndex {
+            pairs,
+            starts,
+            cells,
+            reaches,
+        })
     }
 
     /// The pairs, ascending by code and then by place.
     pub fn pairs(&self) -> &[CodePair]
-        ensures { result.now ≡ self.now }
+        ensures { result.now ≡ self.now.pairs }
     {
         self.pairs.as_slice()
     }
@@ -74,14 +85,19 @@ impl CodeIndex {
         ensures inside { IsInside asset.now.rules result }
     {
         let pairs = self.pairs_from(act.code);
+        if is_long(pairs, act.code) {
+            if let Some((verdict, _)) = self.run_by_table(asset, act, act.point) {
+                return verdict;
+            }
+        }
         verdict_of_front(pairs, asset.rules.as_slice(), act)
     }
 
     /// The pairs from the first of a code on, where they ascend by code.
     #[inline(always)]
     fn pairs_from(&self, code: u16) -> &[CodePair]
-        ensures { AllPairs IsPairBefore self.now → (count : ℕ) → IsFrontOf code result.now count
-            → IsPartOfCode code self.now (take count result.now) }
+        ensures { AllPairs IsPairBefore self.now.pairs → (count : ℕ) → IsFrontOf code result.now count
+            → IsPartOfCode code self.now.pairs (take count result.now) }
     {
         let (_, rest) = self.pairs.as_slice().split_at(self.start(code));
         rest
@@ -90,12 +106,29 @@ impl CodeIndex {
     /// How many pairs have a lower code, where they ascend by code.
     #[inline(always)]
     fn start(&self, code: u16) -> usize
-        ensures { IsStartOf code self.now result }
+        ensures { IsStartOf code self.now.pairs result }
     {
         match self.starts.get(usize::from(code)) {
             Some(start) => *start,
             None => start_of(self.pairs.as_slice(), code),
         }
+    }
+
+    /// The table.
+    pub(crate) fn table(&self) -> (&[PointCell], &[u64])
+        ensures cells { result.0.now ≡ self.now.cells }
+        ensures reaches { result.1.now ≡ self.now.reaches }
+    {
+        (self.cells.as_slice(), self.reaches.as_slice())
+    }
+}
+
+/// Whether more than `FEW` pairs of the code stand at the front.
+#[inline(always)]
+fn is_long(pairs: &[CodePair], code: u16) -> bool {
+    match pairs.get(FEW) {
+        Some(pair) => pair.code == code,
+        None => false,
     }
 }
 
@@ -155,7 +188,7 @@ fn pair_at(pairs: &[CodePair], place: usize) -> Option<CodePair>
 }
 
 /// What the rule of this place says of the acts that it has.
-fn verdict_of_rule(rules: &[Rule], number: usize) -> Verdict
+pub(crate) fn verdict_of_rule(rules: &[Rule], number: usize) -> Verdict
     requires { number < length rules.now }
     ensures decides { (otherwise : Reason) → result ≡ decided (numbered rules.now number) otherwise }
     ensures inside { IsInside rules.now result }
@@ -232,7 +265,7 @@ fn default_reason(pairs: &[CodePair], rules: &[Rule], act: &Act) -> Reason
     }
 }
 
-fn some_allows_group(pairs: &[CodePair], rules: &[Rule], act: &Act) -> bool
+pub(crate) fn some_allows_group(pairs: &[CodePair], rules: &[Rule], act: &Act) -> bool
     ensures { result ≡ list_any (λ p. rule_at rules.now p.rule (λ r. is_allow r.action && has_group r act.now)) pairs.now }
 {
     pairs.iter().any(|pair| allows_group(rules, pair.rule, act))
@@ -253,7 +286,7 @@ fn allows_group(rules: &[Rule], place: usize, act: &Act) -> bool
     }
 }
 
-fn allows_point(rules: &[Rule], place: usize, act: &Act) -> bool
+pub(crate) fn allows_point(rules: &[Rule], place: usize, act: &Act) -> bool
     ensures { result ≡ rule_at rules.now place (λ r. is_allow r.action && has_group_and_point r act.now) }
 {
     match rules.get(place) {
@@ -263,7 +296,7 @@ fn allows_point(rules: &[Rule], place: usize, act: &Act) -> bool
 }
 
 /// Whether the rule of this place has the act, where it has its client and code.
-fn rule_has(rules: &[Rule], place: usize, act: &Act) -> bool
+pub(crate) fn rule_has(rules: &[Rule], place: usize, act: &Act) -> bool
     ensures { result ≡ rule_at rules.now place (λ r. has_group_to_value r act.now) }
 {
     match rules.get(place) {

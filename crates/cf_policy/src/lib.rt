@@ -1,12 +1,14 @@
 //! Policies as values, and the verdict of a policy about an act of a client.
 #![tactic(auto)]
 
+mod by_table;
 mod index;
 mod judge;
 mod laws;
 mod limits;
 mod lists;
 mod names;
+mod point_table;
 mod policy;
 mod run;
 

@@ -6,7 +6,7 @@ ghost use Rattle.cf_policy.specs.Index.{IsIndexOf, rule_at, tried};
 ghost use Rattle.cf_policy.specs.Run.{HasOneVerdict, IsSteady, TakesAnyValue, some_states_values};
 ghost use Rattle.cf_policy.specs.Verdict.{IsInside, takes, covers, is_empty};
 
-use crate::index::{CodeIndex, CodePair, first_place, pairs_of, verdict_at};
+use crate::index::{CodeIndex, CodePair, FEW, first_place, pairs_of, verdict_at};
 use crate::policy::{Asset, Rule, Span, Verdict};
 use cf_view::Act;
 
@@ -21,6 +21,11 @@ impl CodeIndex {
         ensures stays { result.1 ≤ last }
     {
         let pairs = pairs_of(self.pairs(), act.code);
+        if pairs.len() > FEW {
+            if let Some(found) = self.run_by_table(asset, act, last) {
+                return found;
+            }
+        }
         let rules = asset.rules.as_slice();
         let place = first_place(pairs, rules, act);
         let verdict = verdict_at(pairs, rules, act, place);
@@ -86,7 +91,7 @@ fn pairs_until(pairs: &[CodePair], rules: &[Rule], first: u32, last: u32) -> u32
 }
 
 /// A point up to which the points of the rule of this place have all points or none.
-fn rule_until(rules: &[Rule], place: usize, first: u32, last: u32) -> u32
+pub(crate) fn rule_until(rules: &[Rule], place: usize, first: u32, last: u32) -> u32
     requires ordered { first ≤ last }
     ensures steady { IsSteady (λ n. rule_at rules.now place (λ r. takes r.points (pos n))) first result }
     ensures reaches { first ≤ result }

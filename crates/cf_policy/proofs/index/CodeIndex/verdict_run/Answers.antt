@@ -1,14 +1,14 @@
 use Rattle.std.proofs.Common.{◌≡◌, ◌∙◌, sym, subst, ap}
 use Rattle.cf_policy.specs.declared.policy.Rule.{Rule}
 use Rattle.std.specs.Prelude.{List, position}
-use Rattle.cf_policy.specs.Index.{IsIndexOf, verdict_by, rule_at, has_group_to_value, tried}
+use Rattle.cf_policy.specs.Index.{ArePairsOf, verdict_by, rule_at, has_group_to_value, tried}
 use Rattle.cf_policy.specs.Run.{HasOneVerdict}
 use Rattle.cf_policy.proofs.Runs.{AreSteady, one_verdict}
 use Rattle.cf_policy.proofs.index.CodeIndex.verdict_run.Goals as goal
 
 pub returns-clause-run : goal.returns-clause-run
 returns-clause-run c = λ client index.
-    let own : IsIndexOf c.args.asset.now client c.pairs.result.now = subst (IsIndexOf c.args.asset.now client) (sym c.pairs.ensures) index in
+    let own : ArePairsOf c.args.asset.now client c.pairs.result.now = subst (ArePairsOf c.args.asset.now client) (sym c.pairs.ensures) index.pairs in
     let part = c.pairs_of-pairs.ensures own.ascending in
     let last = c.pairs_until.result in
     let part_pairs = c.pairs_of-pairs.result.now in
