@@ -17,3 +17,4 @@ pub mod Tables
 mod Theirs
 pub mod Turns
 mod Words
+mod Worked

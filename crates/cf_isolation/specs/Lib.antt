@@ -3,3 +3,4 @@ pub mod Lines
 pub mod Lives
 pub mod Logged
 pub mod Records
+pub mod Rows

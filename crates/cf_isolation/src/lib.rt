@@ -2,8 +2,10 @@
 #![tactic(auto)]
 
 mod laws;
+mod rows;
 
 pub use laws::{
     alike_sessions_own_the_same, captures_are_isolated, captures_hold_sessions, logs_are_isolated,
     logs_hold_sessions, sessions_own_their_lines, sessions_own_their_records,
 };
+pub use rows::rows_hold;

@@ -2,5 +2,7 @@
 #![tactic(auto)]
 
 mod laws;
+mod rows;
 
 pub use laws::{captures_are_read, runs_are_read_back, sent_may_be_written};
+pub use rows::rows_hold;

@@ -1,3 +1,4 @@
 mod Deciding
 mod Replies
 mod Telling
+mod Worked

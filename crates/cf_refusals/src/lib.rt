@@ -2,5 +2,7 @@
 #![tactic(auto)]
 
 mod laws;
+mod rows;
 
 pub use laws::{refused_commands_are_told, shown_commands_are_told};
+pub use rows::rows_hold;

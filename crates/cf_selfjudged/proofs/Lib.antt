@@ -15,3 +15,4 @@ mod Speaks
 mod Stepping
 mod Theirs
 mod Towards
+mod Worked

@@ -2,5 +2,7 @@
 #![tactic(auto)]
 
 mod laws;
+mod rows;
 
 pub use laws::runs_are_unobjected;
+pub use rows::rows_hold;

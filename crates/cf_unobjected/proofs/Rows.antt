@@ -1,13 +1,32 @@
--- The two flows that are worked by hand.
-use Rattle.std.proofs.Common.{◌≡◌, ◌∙◌, ◌+◌, ℕ, zero, suc, pos, [], ◌∷◌, map, slice_get, None, Some, refl, sym, ap, arith}
+-- The flows that are worked by hand.
+use Rattle.std.proofs.Common.{◌≡◌, ◌∙◌, ◌+◌, ◌<◌, ℕ, zero, suc, pos, Bool, true, false, [], ◌∷◌, map, replicate, slice_get, None, Some, Ok, refl, sym, ap, arith}
 use Rattle.std.proofs.lemmas.Bool.{false≢true}
 use Rattle.std.proofs.lemmas.Bool.Decides.{nat_tests}
 use Rattle.std.proofs.lemmas.Option.{none-some, same_Some}
 use Rattle.cf_session.specs.Laws.{HasLetter, IsFront, IsReassembly}
 use Rattle.cf_stream.specs.Stream.{Byte, End, Letter, Stream}
 use Rattle.cf_watch.specs.Carried.{Carried, Differs, HasConflict, copy_of, letter_of}
+use Rattle.cf_judge.specs.Objections.{IsJudgementOf, Reading}
+use Rattle.cf_judge.specs.Plain.{AreRead, Whole, completed_in}
+use Rattle.cf_lane.specs.Modbus.{HasCommandFate, of_its_acts}
+use Rattle.cf_lane.specs.Unit.{Adu, SpellsUnit}
+use Rattle.cf_lane.specs.declared.Fate.{Fate}
+use Rattle.cf_lane.specs.declared.Fate.TheVariants as fate
+use Rattle.cf_modbus.specs.Acts.{acts}
+use Rattle.cf_modbus.specs.Adu.{SpellsAdu}
+use Rattle.cf_modbus.specs.Request.{Reads, RequestValue}
+use Rattle.cf_policy.specs.Verdict.{verdict_of}
+use Rattle.cf_policy.specs.Within.{most_rated}
+use Rattle.cf_policy.specs.declared.Decider.TheVariants as decider
+use Rattle.cf_policy.specs.declared.Protocol.{Protocol}
+use Rattle.cf_policy.specs.declared.Protocol.TheVariants as protocol
+use Rattle.cf_view.specs.Framing.{Begins, IsPartial}
+use Rattle.cf_view.specs.Octets.{IsOctets}
+use Rattle.cf_view.specs.declared.Reason.TheVariants as reason
+use Rattle.cf_watch.specs.FlowValue.{FlowValue}
 use Rattle.cf_unobjected.specs.Allowed.{part_of}
-use Rattle.cf_unobjected.specs.Rows.{RowsHold, one_octet, out_of_order, with_conflict}
+use Rattle.cf_unobjected.specs.OneJudgement.{JudgementsAreOne}
+use Rattle.cf_unobjected.specs.Rows.{RowsHold, clear, objected, one_client, one_flow, one_octet, other_client, other_flow, out_of_order, pumps, read_octets, read_of, reads, with_conflict}
 use Rattle.cf_unobjected.proofs.Copies.{byte_of, is_end}
 
 no_end : (b : ℕ) → Some (Byte b) ≡ Some End → ⊥
@@ -73,12 +92,124 @@ never : (p : ℕ) → Differs (copy_of (one_octet 1 1 8 ∷ [])) (one_octet 2 0 
 never zero d = none-some d.first d.was
 never (suc p) d = let none : letter_of (one_octet 2 0 7) (suc p) ≡ None = grind (arith, nat_tests) in none-some d.other (sym none ∙ d.is)
 
-pub rows_hold : RowsHold
-rows_hold = record {
-  first_copy = first_copy;
-  other_copy = other_copy;
-  no_stream = no_stream;
-  conflict = conflict;
-  both = both;
-  clean = (None, none_first (one_octet 1 1 8), never);
+-- ---- two reads
+
+pdu_octets : (point : ℕ) → point < 256 → IsOctets (3 ∷ 0 ∷ point ∷ 0 ∷ 1 ∷ [])
+pdu_octets point h zero = omega arith
+pdu_octets point h (suc zero) = omega arith
+pdu_octets point h (suc (suc zero)) = h
+pdu_octets point h (suc (suc (suc zero))) = omega arith
+pdu_octets point h (suc (suc (suc (suc zero)))) = omega arith
+pdu_octets point h (suc (suc (suc (suc (suc i))))) = omega arith
+
+no_octets : IsOctets []
+no_octets i = omega arith
+
+spells : (point : ℕ) → point < 256 → SpellsAdu (read_of point) (read_octets point)
+spells point h = record {
+  transaction = omega arith;
+  unit = omega arith;
+  at_least = omega arith;
+  at_most = omega arith;
+  pdu = pdu_octets point h;
+  spelled = refl;
 }
+
+abbrev request : (point : ℕ) → RequestValue
+request point = record { code = 3; start = point; quantity = 1; second = 0; second_quantity = 0; values = [] }
+
+begins : (point : ℕ) → point < 256 → Begins (SpellsUnit reads.protocol) (read_octets point) (Adu (read_of point)) 12
+begins point h = record { inside = omega arith; spells = spells point h }
+
+nothing_left : IsPartial (SpellsUnit reads.protocol) []
+nothing_left = record { whole = Adu (read_of 0); more = read_octets 0; proper = omega arith; spells = spells 0 (omega arith) }
+
+-- what becomes of a read of register 0, and of register 1
+abbrev allowed : Fate
+allowed = fate.Admitted (record { used = replicate most_rated false; shown = None })
+
+abbrev denied : Fate
+denied = fate.Refused (record { decider = decider.Default; reason = reason.Point; act = record { code = 3; group = 0; point = 1; value = None } })
+
+read_0 : Reads (Ok (request 0)) (read_of 0).pdu
+read_0 = (
+  record { form = ((omega arith, omega arith), (refl, refl), refl); start = omega arith; second = omega arith; octets = no_octets; spelled = refl },
+  (omega arith, omega arith),
+)
+
+read_1 : Reads (Ok (request 1)) (read_of 1).pdu
+read_1 = (
+  record { form = ((omega arith, omega arith), (refl, refl), refl); start = omega arith; second = omega arith; octets = no_octets; spelled = refl },
+  (omega arith, omega arith),
+)
+
+is_allowed : (client : ℕ) → HasCommandFate reads (verdict_of reads client) (read_of 0) allowed
+unfolding acts
+is_allowed client = of_its_acts refl (request 0) read_0 refl
+
+is_denied : (client : ℕ) → HasCommandFate reads (verdict_of reads client) (read_of 1) denied
+unfolding acts
+is_denied client = of_its_acts refl (request 1) read_1 refl
+
+abbrev is_dnp3 : Protocol → Bool
+is_dnp3 protocol.Dnp3 = true
+is_dnp3 _ = false
+
+abbrev reading : FlowValue → (number point : ℕ) → Fate → Reading
+reading flow number point f = record { flow = flow; judged = completed_in number (Adu (read_of point)) f ∷ []; ending = Whole }
+
+one_read : AreRead reads one_client.address [] one_flow.bytes one_flow.born (completed_in 5 (Adu (read_of 0)) allowed ∷ []) Whole
+one_read = (Adu (read_of 0), 12, begins 0 (omega arith), omega arith, refl, is_allowed one_client.address, nothing_left)
+
+other_read : AreRead reads other_client.address [] (other_flow 0).bytes (other_flow 0).born (completed_in 7 (Adu (read_of 0)) allowed ∷ []) Whole
+other_read = (Adu (read_of 0), 12, begins 0 (omega arith), omega arith, refl, is_allowed other_client.address, nothing_left)
+
+wrong_read : AreRead reads other_client.address [] (other_flow 1).bytes (other_flow 1).born (completed_in 7 (Adu (read_of 1)) denied ∷ []) Whole
+wrong_read = (Adu (read_of 1), 12, begins 1 (omega arith), omega arith, refl, is_denied other_client.address, nothing_left)
+
+are_clear : IsJudgementOf pumps (one_flow ∷ other_flow 0 ∷ []) clear
+are_clear = record {
+  readings = reading one_flow 5 0 allowed ∷ reading (other_flow 0) 7 0 allowed ∷ [];
+  of_flows = refl;
+  are_read = (one_read, (other_read, tt));
+  counts = refl;
+  commands = refl;
+  objection = refl;
+}
+
+are_objected : IsJudgementOf pumps (one_flow ∷ other_flow 1 ∷ []) objected
+are_objected = record {
+  readings = reading one_flow 5 0 allowed ∷ reading (other_flow 1) 7 1 denied ∷ [];
+  of_flows = refl;
+  are_read = (one_read, (wrong_read, tt));
+  counts = refl;
+  commands = refl;
+  objection = refl;
+}
+
+module _ (judgements : JudgementsAreOne) where
+  pub rows_hold : RowsHold
+  rows_hold = record {
+    first_copy = first_copy;
+    other_copy = other_copy;
+    no_stream = no_stream;
+    conflict = conflict;
+    both = both;
+    clean = (None, none_first (one_octet 1 1 8), never);
+    are_clear = are_clear;
+    are_objected = are_objected;
+    not_objected = λ j. (let e = ap (λ k. k.commands) (judgements pumps _ _ _ are_clear j) in omega (arith, e));
+    not_clear = λ j. (let e = ap (λ k. k.commands) (judgements pumps _ _ _ are_objected j) in omega (arith, e));
+    spelled = refl;
+    in_seven = refl;
+    not_in_six = refl;
+    decodes = record {
+      units = Adu (read_of 0) ∷ [];
+      rest = [];
+      are_units = record { starts = (12, begins 0 (omega arith), refl); partial = nothing_left };
+      let_through = (5, allowed, is_allowed one_client.address, tt, tt);
+    };
+    rightly_passed = (_, is_allowed one_client.address);
+    refused = λ e. e;
+    lengthens = λ e. false≢true (ap is_dnp3 e);
+  }

@@ -69,7 +69,10 @@ pub fn objections_are_of_shortest_fronts()
     ensures shortest { ObjectionsAreOfShortestFronts }
 {}
 
-/// Two flows worked by hand: of one with a conflict a receiver may have taken either octet, and of one out of order both.
+/// Flows worked by hand: of one with a conflict a receiver may have taken either octet, and of one out of order both; of two with a
+/// read each a judge objects to the one that no rule allows.
 pub fn rows_hold()
     ensures { RowsHold }
-{}
+{
+    judgements_are_one();
+}

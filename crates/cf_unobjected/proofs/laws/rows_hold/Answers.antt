@@ -2,4 +2,4 @@ use Rattle.cf_unobjected.proofs.Rows.{rows_hold}
 use Rattle.cf_unobjected.proofs.laws.rows_hold.Goals as goal
 
 pub returns : goal.returns
-returns c = rows_hold
+returns c = rows_hold c.judgements_are_one.ensures.judgements
