@@ -16,7 +16,7 @@ IsLogged session =
     (judged : List Judged) → AreJudged session.flow.asset (client_of session.flow).address (history session.events) judged
     → work_of session.events ≡ work_by session.flow.asset (client_of session.flow) judged
 
--- after each event of a run, of the sessions in the table and those that left it
+-- the lines and counts after each event of a run, of the sessions in the table and those that left it
 abbrev pub EachIsLogged : List RunEvent → Type 0
 EachIsLogged [] = Unit {0}
 EachIsLogged (event ∷ earlier) = AllByRecursion IsLogged (sessions_of (event ∷ earlier)) × EachIsLogged earlier
