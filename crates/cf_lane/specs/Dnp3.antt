@@ -123,9 +123,7 @@ abbrev pub IsOfFragment : Fate → Type 0
 IsOfFragment fate.Carried = Unit {0}
 IsOfFragment (fate.Admitted used) = Unit {0}
 IsOfFragment (fate.Refused refusal) = refusal.reason ≢ reason.Station
-IsOfFragment (fate.Stray because) = ⊥
-IsOfFragment fate.Lengthens = ⊥
-IsOfFragment (fate.Cuts because) = ⊥
+IsOfFragment _ = ⊥
 
 -- why a segment is dropped
 abbrev pub drop_why : DropReason → Why

@@ -47,9 +47,6 @@ HasOwnDecider rules (fate.Cuts because) = Unit {0}
 
 -- a command is admitted or refused
 abbrev pub IsOfCommand : Fate → Type 0
-IsOfCommand fate.Carried = ⊥
 IsOfCommand (fate.Admitted used) = Unit {0}
 IsOfCommand (fate.Refused refusal) = Unit {0}
-IsOfCommand (fate.Stray because) = ⊥
-IsOfCommand fate.Lengthens = ⊥
-IsOfCommand (fate.Cuts because) = ⊥
+IsOfCommand _ = ⊥

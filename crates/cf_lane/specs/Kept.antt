@@ -42,14 +42,9 @@ pub record AreFragments (f : Fragments) : Type 0 where
 -- what is kept is what the protocol needs, and no frame of a client waits to be judged
 abbrev pub IsWireOf : Protocol → Wire → Type 0
 IsWireOf protocol.Modbus wire.Modbus = Unit {0}
-IsWireOf protocol.Modbus (wire.Dnp3 f) = ⊥
-IsWireOf protocol.Modbus (wire.Iec104 numbers) = ⊥
-IsWireOf protocol.Dnp3 wire.Modbus = ⊥
 IsWireOf protocol.Dnp3 (wire.Dnp3 f) = AreFragments f
-IsWireOf protocol.Dnp3 (wire.Iec104 numbers) = ⊥
-IsWireOf protocol.Iec104 wire.Modbus = ⊥
-IsWireOf protocol.Iec104 (wire.Dnp3 f) = ⊥
 IsWireOf protocol.Iec104 (wire.Iec104 numbers) = numbers.owed ≡ None
+IsWireOf _ _ = ⊥
 
 -- the most octets that a fragment that is begun adds to the frames that it goes on in: 292 octets carry 249
 abbrev pub owed_octets : AssemblyValue → ℕ

@@ -41,14 +41,9 @@ unit_spelling (Apdu a) = apdu_spelling a
 -- the octets are this unit of the protocol
 abbrev pub SpellsUnit : Protocol → UnitValue → List ℕ → Type 0
 SpellsUnit protocol.Modbus (Adu a) octets = SpellsAdu a octets
-SpellsUnit protocol.Modbus (Frame f) octets = ⊥
-SpellsUnit protocol.Modbus (Apdu a) octets = ⊥
-SpellsUnit protocol.Dnp3 (Adu a) octets = ⊥
 SpellsUnit protocol.Dnp3 (Frame f) octets = SpellsFrame f octets
-SpellsUnit protocol.Dnp3 (Apdu a) octets = ⊥
-SpellsUnit protocol.Iec104 (Adu a) octets = ⊥
-SpellsUnit protocol.Iec104 (Frame f) octets = ⊥
 SpellsUnit protocol.Iec104 (Apdu a) octets = SpellsApdu a octets
+SpellsUnit _ _ octets = ⊥
 
 -- the break at a place of a unit
 abbrev pub unit_break : Protocol → ℕ → Break

@@ -51,7 +51,7 @@ pub record IsTableOf (rules : List Rule) (pairs : List CodePair) (cells : List P
   pub sorted : AreSortedCells rules pairs cells
   pub reach : HasReaches cells reaches
 
--- of the rules of these pairs that have the code, none takes a point from the first to the last, or only that of a place
+-- a taker that holds of the rules of these pairs that have the code: none takes a point from the first to the last, or only that of a place
 abbrev pub HasTaker : List Rule → List CodePair → (code first last : ℕ) → Taker → Type 0
 HasTaker rules pairs code first last Nobody =
     (rule point : ℕ) → Contains pairs (record { code = code; rule = rule }) → first ≤ point → point ≤ last → takes_point rules rule point ≡ false
@@ -61,7 +61,7 @@ HasTaker rules pairs code first last (Only n) =
     → rule ≡ n)
 HasTaker rules pairs code first last Unknown = Unit {0}
 
--- so many cells begin at the place of the first point or before it, and no other begins up to that of the last
+-- a stretch of points with one answer: so many cells begin at the place of the first or before it, and no other begins up to that of the last
 pub record IsStretch (cells : List PointCell) (code first last count : ℕ) : Type 0 where
   pub inside : count ≤ length cells
   pub before : (k : ℕ) (d : PointCell) → k < count → (get_or cells k d).first ≤ line_place code first

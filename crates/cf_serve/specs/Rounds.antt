@@ -125,9 +125,9 @@ arrival_lines at lobby moment a =
 -- what is kept of all clients behind one more, and behind more of them
 abbrev pub lobby_with : Lobby → (moment : ℕ) → Arrival → Lobby
 lobby_with lobby moment a = elim a.closed [
-    None ↦ record lobby { next = lobby.next + 1 }
+  | None ↦ record lobby { next = lobby.next + 1 }
   | Some why ↦ lobby_closed why lobby a.seat.place moment a.seat.client.address
-  ]
+]
 
 abbrev pub lobby_behind : Lobby → (moment : ℕ) → List Arrival → Lobby
 lobby_behind lobby moment [] = lobby

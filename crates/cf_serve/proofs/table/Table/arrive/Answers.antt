@@ -59,7 +59,7 @@ returns-in-Some-close-clause-does g c =
     let f = c.args.self.now.lobby in
     let why = c.in-Some.closing in
     let d = due (has_line why f c.args.place c.args.moment c.in-Came.client.address) (came_by why f c.args.place) c.in-Some-close.came c.close.result
-        c.close.ensures.says c.in-Some-close.is in
+    c.close.ensures.says c.in-Some-close.is in
     for_all _ c.log_line.result (λ most.
     closed_said _ most c.args.moment c.args.place f _ _ _ c.in-Came.client _ _ _ (listening_at c.place_of-at.result) c.place_of-at.ensures.place
     why (sym c.in-Some.is ∙ c.closing.ensures) _ c.in-Came.ensures.entry c.leave.ensures.entry c.close.ensures.lobby d.0
@@ -70,7 +70,7 @@ returns-in-Some-close-clause-breaks g c =
     let f = c.args.self.now.lobby in
     let why = c.in-Some.closing in
     let d = due (has_line why f c.args.place c.args.moment c.in-Came.client.address) (came_by why f c.args.place) c.in-Some-close.came c.close.result
-        c.close.ensures.says c.in-Some-close.is in
+    c.close.ensures.says c.in-Some-close.is in
     err_for_all _ _ c.log_line.result (λ most.
     closed_missed _ most c.args.moment c.args.place f _ _ _ c.in-Came.client _ _ _ (listening_at c.place_of-at.result) c.place_of-at.ensures.place
     why (sym c.in-Some.is ∙ c.closing.ensures) _ c.in-Came.ensures.entry c.leave.ensures.entry c.close.ensures.lobby d.0
