@@ -6,11 +6,13 @@ mod header;
 mod options;
 mod packet;
 mod read;
+mod recorded;
 mod segment;
 mod sequence;
 mod write;
 
 pub use packet::{ACK, FIN, PSH, Packet, PacketRefusal, RST, SYN, URG};
 pub use read::read_packet;
+pub use recorded::read_recorded;
 pub use sequence::{position, sequence_number};
 pub use write::{headers, write_packet};

@@ -25,7 +25,7 @@ pub fn read_packet<'a>(link: &LinkKind, bytes: &'a [u8]) -> Result<Packet<'a>, P
 }
 
 /// What stands after an Ethernet header, if its type is that of IPv4.
-fn ethernet_payload<'a>(octets: &'a [u8]) -> Option<&'a [u8]>
+pub(crate) fn ethernet_payload<'a>(octets: &'a [u8]) -> Option<&'a [u8]>
     ensures { option_copied result ≡ ethernet_payload octets.now }
 {
     if octets.len() < 14 || View::one(octets).u16_be(12) != 0x0800 {

@@ -2,6 +2,7 @@
 ghost use Rattle.std.specs.Prelude.{◌≡◌, ◌+◌, ◌/◌, ◌%◌, ◌≤◌, ◌^◌, IfOk, false, length};
 ghost use Rattle.cf_packet.specs.Checksum.{total, words};
 ghost use Rattle.cf_packet.specs.Packet.{fields_of, packet_answer, packet_value, segment_in};
+ghost use Rattle.cf_packet.specs.Recorded.{is_partial_segment, recorded_segment};
 ghost use Rattle.cf_packet.specs.Tcp.{is_bad, is_right_segment, pseudo_header};
 
 use crate::checksum::{folded, gathered};
@@ -23,6 +24,25 @@ pub(crate) fn read_segment<'a>(
         return Err(PacketRefusal::BadTcp);
     }
     if !is_right_segment(source, dest, segment) {
+        return Err(PacketRefusal::BadTcpSum);
+    }
+    Ok(fields(source, dest, segment))
+}
+
+/// The segment between two addresses, its checksum right or partial, or the first test that it fails.
+pub(crate) fn recorded_segment<'a>(
+    source: u32,
+    dest: u32,
+    segment: &'a [u8],
+) -> Result<Packet<'a>, PacketRefusal>
+    requires { length segment.now ≤ 65535 }
+    ensures answer { packet_answer result ≡ recorded_segment source dest segment.now }
+    ensures text { IfOk result (λ packet. length packet.text.now ≤ length segment.now) }
+{
+    if is_bad(&View::one(segment)) {
+        return Err(PacketRefusal::BadTcp);
+    }
+    if !is_right_segment(source, dest, segment) && !is_partial_segment(source, dest, segment) {
         return Err(PacketRefusal::BadTcpSum);
     }
     Ok(fields(source, dest, segment))
@@ -71,6 +91,16 @@ fn is_right_segment(source: u32, dest: u32, segment: &[u8]) -> bool
 {
     let pseudo = pseudo_sum(source, dest, segment.len() as u64);
     folded(pseudo + gathered(segment)) == 0xFFFF
+}
+
+/// Whether the checksum field has the sum of the pseudo-header alone.
+fn is_partial_segment(source: u32, dest: u32, segment: &[u8]) -> bool
+    requires whole { 20 ≤ length segment.now }
+    requires short { length segment.now ≤ 65535 }
+    ensures { result ≡ is_partial_segment source dest segment.now }
+{
+    let pseudo = pseudo_sum(source, dest, segment.len() as u64);
+    View::one(segment).u16_be(16) == folded(pseudo)
 }
 
 /// The sum of the words of the pseudo-header of a segment of this length.

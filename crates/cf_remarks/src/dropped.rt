@@ -1,8 +1,7 @@
 //! Records by why they were dropped.
 
-use crate::partial::has_partial_sum;
 use crate::reason::{DropReason, REASONS, reason_of};
-use cf_packet::PacketRefusal;
+use cf_packet::{PacketRefusal, read_recorded};
 use cf_view::LinkKind;
 
 /// How many records there are, and how many of them were dropped for each reason. A count that would pass `u64::MAX` stays there.
@@ -35,7 +34,7 @@ impl Dropped {
             self.firsts[place] = self.records;
         }
         self.counts[place] = self.counts[place].saturating_add(1);
-        if matches!(reason, DropReason::BadTcpSum) && has_partial_sum(link, body) {
+        if matches!(reason, DropReason::BadTcpSum) && read_recorded(link, body).is_ok() {
             self.partial = self.partial.saturating_add(1);
         }
     }

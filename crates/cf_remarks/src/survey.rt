@@ -7,7 +7,7 @@ use crate::gaps::{Begins, Gaps, Sent};
 use crate::pair::{PairKey, pair_of};
 use crate::way::is_opening;
 use cf_outside::Files;
-use cf_packet::{Packet, read_packet};
+use cf_packet::{Packet, PacketRefusal, read_packet, read_recorded};
 use cf_policy::Asset;
 use cf_records::{NextRecord, RecordReader};
 use cf_view::{LinkKind, NoMemory, Side};
@@ -20,7 +20,7 @@ use std::collections::BTreeMap;
 pub enum Reading {
     /// Frames as they stand, and connections from their SYN on.
     FromSyn,
-    /// Frames without their VLAN tags, and connections that begin amid their stream too.
+    /// Frames without their VLAN tags, packets whose sum is partial, and connections that begin amid their stream too.
     Amid,
 }
 
@@ -31,6 +31,8 @@ pub struct Survey {
     /// The packets between clients and assets that come before any SYN from the client to the asset. A count that would pass
     /// `u64::MAX` stays there.
     pub amid: u64,
+    /// The packets whose sum is partial that were read all the same. A count that would pass `u64::MAX` stays there.
+    pub partial: u64,
     pub gaps: Gaps,
 }
 
@@ -40,6 +42,7 @@ struct Seen {
     reading: Reading,
     dropped: Dropped,
     amid: u64,
+    partial: u64,
     /// The pairs whose SYN was seen.
     begun: BTreeMap<PairKey, ()>,
     sent: Sent,
@@ -75,6 +78,7 @@ impl Seen {
             reading,
             dropped: Dropped::new(),
             amid: 0,
+            partial: 0,
             begun: BTreeMap::new(alloc),
             sent: Sent::new(alloc, begins),
         }
@@ -85,6 +89,7 @@ impl Seen {
         Some(Survey {
             dropped: self.dropped,
             amid: self.amid,
+            partial: self.partial,
             gaps,
         })
     }
@@ -121,7 +126,24 @@ impl Seen {
         self.dropped.records = self.dropped.records.saturating_add(1);
         match read_packet(link, octets) {
             Ok(packet) => self.take_packet(assets, &packet),
-            Err(refusal) => {
+            Err(refusal) => self.take_refused(assets, link, octets, refusal),
+        }
+    }
+
+    /// Takes what is refused as it stands: its sum may be partial.
+    fn take_refused(
+        &mut self,
+        assets: &[Asset],
+        link: &LinkKind,
+        octets: &[u8],
+        refusal: PacketRefusal,
+    ) -> Result<(), NoMemory> {
+        match (self.reading, read_recorded(link, octets)) {
+            (Reading::Amid, Ok(packet)) => {
+                self.partial = self.partial.saturating_add(1);
+                self.take_packet(assets, &packet)
+            }
+            _ => {
                 self.dropped.count(link, octets, refusal);
                 Ok(())
             }

@@ -39,6 +39,9 @@ const PARTIAL: &str =
     " that of the pseudo header alone, which a sending host's own recorder leaves: \
     such packets were right on the wire";
 
+const TAKEN: &str =
+    " that of the pseudo header alone, which a sending host's own recorder leaves, and counted as right";
+
 const FULL: &str = " would have begun a session while 256 others were open, and began none";
 
 /// A text that is put together piece by piece, and whether it has all that was put to it.
@@ -120,13 +123,21 @@ impl Lines {
     }
 }
 
-/// A line for each reason for which records were dropped, how many packets came amid connections of which nothing is read, and what
-/// stands behind gaps: nothing where all of a capture is read.
+/// A line for each reason for which records were dropped, how many packets came amid connections of which nothing is read, how many were
+/// read whose sum is partial, and what stands behind gaps: nothing where all of a capture is read, and each sum is right.
 pub fn survey_text(alloc: Global, survey: &Survey, reading: Reading) -> Result<String, AllocError> {
     let mut lines = Lines::new(alloc);
     put_dropped(&mut lines, &survey.dropped);
     if survey.amid > 0 && reading == Reading::FromSyn {
         lines.put(&[Number(survey.amid), Words(UNREAD)]);
+    }
+    if survey.partial > 0 {
+        put_partial(
+            &mut lines,
+            survey.partial,
+            [" TCP sum was", " TCP sums were"],
+            TAKEN,
+        );
     }
     put_gaps(&mut lines, &survey.gaps);
     lines.finish()
@@ -251,16 +262,19 @@ fn put_dropped(lines: &mut Lines, dropped: &Dropped) {
         }
     }
     if dropped.partial > 0 {
-        lines.put(&[
-            Number(dropped.partial),
-            Words(if dropped.partial == 1 {
-                " wrong TCP sum is"
-            } else {
-                " wrong TCP sums are"
-            }),
-            Words(PARTIAL),
-        ]);
+        let words = [" wrong TCP sum is", " wrong TCP sums are"];
+        put_partial(lines, dropped.partial, words, PARTIAL);
     }
+}
+
+/// How many sums are partial, with the words for one and for more, and what that means.
+fn put_partial(lines: &mut Lines, count: u64, words: [&str; 2], meaning: &str) {
+    let [one, more] = words;
+    lines.put(&[
+        Number(count),
+        Words(if count == 1 { one } else { more }),
+        Words(meaning),
+    ]);
 }
 
 /// What the records of a reason are, and what helps.

@@ -4,7 +4,7 @@ use Rattle.std.specs.List.{AllByRecursion}
 use Rattle.std.proofs.lemmas.Bool.{cond_both}
 use Rattle.std.proofs.lemmas.List.{map-append}
 use Rattle.std.proofs.lemmas.Option.{slice_get-get_or}
-use Rattle.cf_packet.specs.Packet.{PacketValue, read_record}
+use Rattle.cf_packet.specs.Packet.{PacketValue}
 use Rattle.cf_packet.specs.declared.PacketRefusal.{PacketRefusal}
 use Rattle.cf_policy.specs.declared.Asset.{Asset}
 use Rattle.cf_records.specs.Capture.{Record}
@@ -17,7 +17,7 @@ use Rattle.cf_stream.specs.Stream.{Extends}
 use Rattle.cf_watch.specs.Carried.{AreBorn, Carried, HasBytes, IsBornWith, copy_of, offer_of}
 use Rattle.cf_watch.specs.Flow.{AreFlowsOf}
 use Rattle.cf_watch.specs.FlowValue.{FlowValue}
-use Rattle.cf_watch.specs.Seen.{begins_amid, begun_with, frame_by, goes_from, goes_to_asset, opening_amid, seen_by, with_frame}
+use Rattle.cf_watch.specs.Seen.{begins_amid, begun_with, goes_from, goes_to_asset, opening_amid, packet_by, seen_by, with_frame}
 use Rattle.cf_watch.specs.Watched.{Watched, begins_anew, begun_by, goes_at, goes_to, last_place, with_packet}
 use Rattle.cf_watch.specs.declared.Scope.{Scope}
 use Rattle.cf_policy.specs.declared.Protocol.{Protocol}
@@ -84,8 +84,8 @@ seen_fall scope assets [] = tt
 seen_fall scope assets (r ∷ earlier) =
     let more : length earlier + 1 ≡ length (r ∷ earlier) = omega arith in
     let before = seen_by scope assets earlier in
-    subst (λ n. AllFall n (with_frame scope assets (length earlier + 1) (read_record r.link (frame_by scope r.link r.body)) before)) more
-    (fall_record (length earlier + 1) scope assets (read_record r.link (frame_by scope r.link r.body)) before
+    subst (λ n. AllFall n (with_frame scope assets (length earlier + 1) (packet_by scope r.link r.body) before)) more
+    (fall_record (length earlier + 1) scope assets (packet_by scope r.link r.body) before
     (all_more (length earlier) (length earlier + 1) before (omega arith) (seen_fall scope assets earlier)))
 
 -- ---- so the bytes come in their order

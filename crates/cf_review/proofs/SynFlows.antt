@@ -13,11 +13,11 @@ use Rattle.cf_records.specs.Capture.{Record}
 use Rattle.cf_policy.specs.AtEndpoint.{asset_place}
 use Rattle.cf_view.specs.Endpoints.{same_endpoint}
 use Rattle.cf_view.specs.declared.Endpoint.{Endpoint}
-use Rattle.cf_watch.specs.Seen.{begins_amid, begun_with, frame_by, goes_from, goes_to_asset, opening_amid, seen_by, with_frame}
+use Rattle.cf_watch.specs.Seen.{begins_amid, begun_with, goes_from, goes_to_asset, opening_amid, packet_by, seen_by, with_frame}
 use Rattle.cf_watch.specs.Watched.{Watched, begins_anew, begun_by, goes, goes_at, goes_to, is_between, last_place, later_place, watched, with_packet, with_record}
 use Rattle.cf_watch.specs.declared.Scope.TheVariants as scope
 use Rattle.cf_review.proofs.Alls.{all_append, all_get, all_set}
-use Rattle.cf_review.specs.SynFlows.{HasNoTag, SynFlowsAreWatched, begins_with_syn}
+use Rattle.cf_review.specs.SynFlows.{IsReadAlike, SynFlowsAreWatched, begins_with_syn}
 
 -- ---- lists
 
@@ -288,15 +288,15 @@ alike_record : (assets : List Asset) (number : ℕ) (r : Result PacketValue Pack
 alike_record assets number (Err refusal) ws f = (f, refl)
 alike_record assets number (Ok p) ws f = alike_goes number p (asset_place assets p.dest) ws f
 
-alike : (assets : List Asset) (newest : List Record) → AllByRecursion HasNoTag newest →
+alike : (assets : List Asset) (newest : List Record) → AllByRecursion IsReadAlike newest →
     AreFirst (seen_by scope.Recording assets newest) × (syn_flows (seen_by scope.Recording assets newest) ≡ watched assets newest)
 alike assets [] none = (tt, refl)
 alike assets (r ∷ earlier) none =
     let before = alike assets earlier none.1 in
     let number = length earlier + 1 in
-    let one = alike_record assets number (read_record r.link (frame_by scope.Recording r.link r.body)) (seen_by scope.Recording assets earlier) before.0 in (
+    let one = alike_record assets number (packet_by scope.Recording r.link r.body) (seen_by scope.Recording assets earlier) before.0 in (
       one.0,
-      one.1 ∙ ap (λ body. with_record assets number (read_record r.link body) (syn_flows (seen_by scope.Recording assets earlier))) none.0
+      one.1 ∙ ap (λ packet. with_record assets number packet (syn_flows (seen_by scope.Recording assets earlier))) none.0
           ∙ ap (with_record assets number (read_record r.link r.body)) before.1,
     )
 

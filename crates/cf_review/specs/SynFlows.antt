@@ -3,8 +3,7 @@ use Rattle.std.specs.Prelude.{◌≡◌, Bool, List, is_none}
 use Rattle.std.specs.List.{AllByRecursion, filter}
 use Rattle.cf_policy.specs.declared.Asset.{Asset}
 use Rattle.cf_records.specs.Capture.{Record}
-use Rattle.cf_watch.specs.Seen.{seen_by}
-use Rattle.cf_watch.specs.Tagged.{untagged}
+use Rattle.cf_watch.specs.Seen.{packet_by, seen_by}
 use Rattle.cf_watch.specs.Watched.{Watched, watched}
 use Rattle.cf_watch.specs.declared.Scope.TheVariants as scope
 
@@ -12,12 +11,12 @@ use Rattle.cf_watch.specs.declared.Scope.TheVariants as scope
 abbrev pub begins_with_syn : Watched → Bool
 begins_with_syn w = is_none w.midstream
 
--- the frame of a record has no VLAN tag
-abbrev pub HasNoTag : Record → Type 0
-HasNoTag r = untagged r.link r.body ≡ r.body
+-- a record in which a review reads what the judge does: all but those whose frame has a VLAN tag, or whose TCP checksum is partial
+abbrev pub IsReadAlike : Record → Type 0
+IsReadAlike r = packet_by scope.Recording r.link r.body ≡ packet_by scope.Connections r.link r.body
 
--- the flows of a capture without tags that begin with a SYN, in their order
+-- the flows of a capture of such records that begin with a SYN, in their order
 abbrev pub SynFlowsAreWatched : Type 0
 SynFlowsAreWatched =
-    (assets : List Asset) (newest : List Record) → AllByRecursion HasNoTag newest →
+    (assets : List Asset) (newest : List Record) → AllByRecursion IsReadAlike newest →
     filter begins_with_syn (seen_by scope.Recording assets newest) ≡ watched assets newest

@@ -15,7 +15,8 @@ pub fn records_come_first()
     ensures { RecordsComeFirst }
 {}
 
-/// The flows that a review reads of a capture without VLAN tags and that begin with a SYN are those that the judge reads of it.
+/// The flows that a review reads of a capture without VLAN tags and partial checksums and that begin with a SYN are those that the judge
+/// reads of it.
 pub fn syn_flows_are_watched()
     ensures { SynFlowsAreWatched }
 {}

@@ -3,7 +3,7 @@ use Rattle.std.proofs.Common.{◌≡◌, ◌<◌, ◌+◌, ◌++◌, ℕ, zero, 
 use Rattle.std.specs.List.{AllByRecursion, position}
 use Rattle.std.proofs.lemmas.List.Quantifiers.{position-Some}
 use Rattle.std.proofs.lemmas.Option.{none-some}
-use Rattle.cf_packet.specs.Packet.{PacketValue, read_record}
+use Rattle.cf_packet.specs.Packet.{PacketValue}
 use Rattle.cf_packet.specs.declared.packet.PacketRefusal.{PacketRefusal}
 use Rattle.cf_records.specs.Capture.{Record}
 use Rattle.cf_leg.specs.Segment.{is_opening}
@@ -12,7 +12,7 @@ use Rattle.cf_view.specs.Endpoints.{same_endpoint}
 use Rattle.cf_policy.specs.declared.Asset.{Asset}
 use Rattle.cf_watch.specs.Flow.{AreFlowsOf}
 use Rattle.cf_watch.specs.FlowValue.{FlowValue, IsForAsset}
-use Rattle.cf_watch.specs.Seen.{begins_amid, begun_with, goes_from, goes_to_asset, opening_amid, frame_by, seen_by, with_frame}
+use Rattle.cf_watch.specs.Seen.{begins_amid, begun_with, goes_from, goes_to_asset, opening_amid, packet_by, seen_by, with_frame}
 use Rattle.cf_watch.specs.Watched.{Watched, begins_anew, begun_by, goes_at, goes_to, last_place, watched, with_packet}
 use Rattle.cf_watch.specs.declared.scope.Scope.{Scope}
 use Rattle.cf_watch.specs.declared.scope.Scope.TheVariants as scope
@@ -71,7 +71,7 @@ small_record scope assets number (Ok packet) ws h = small_goes (length assets) s
 small_seen : (scope : Scope) (assets : List Asset) (newest : List Record) → Small (length assets) (seen_by scope assets newest)
 small_seen scope assets [] = tt
 small_seen scope assets (r ∷ earlier) =
-    small_record scope assets (length earlier + 1) (read_record r.link (frame_by scope r.link r.body)) (seen_by scope assets earlier) (small_seen scope assets earlier)
+    small_record scope assets (length earlier + 1) (packet_by scope r.link r.body) (seen_by scope assets earlier) (small_seen scope assets earlier)
 
 for_each : (assets : List Asset) (ws : List Watched) (flows : List FlowValue) → Small (length assets) ws → AreFlowsOf ws flows → AllByRecursion (IsForAsset assets) flows
 for_each assets [] flows h are = subst (AllByRecursion (IsForAsset assets)) (sym are) tt

@@ -5,6 +5,7 @@ use Rattle.std.specs.Prelude.{◌==◌, ◌&&◌, ◌+◌, ◌-◌, ◌%◌, ◌
 use Rattle.std.specs.Prelude.{Option, Some, None, Result, Ok, Err}
 use Rattle.cf_leg.specs.Segment.{has_rst, has_syn}
 use Rattle.cf_packet.specs.Packet.{PacketValue, read_record}
+use Rattle.cf_packet.specs.Recorded.{read_recorded}
 use Rattle.cf_packet.specs.declared.packet.PacketRefusal.{PacketRefusal}
 use Rattle.cf_policy.specs.declared.Asset.{Asset}
 use Rattle.cf_records.specs.Capture.{Record}
@@ -16,10 +17,10 @@ use Rattle.cf_watch.specs.declared.scope.Scope.{Scope}
 use Rattle.cf_watch.specs.declared.scope.Scope.TheVariants as scope
 use Rattle.cf_watch.specs.declared.watching.Opening.{Opening}
 
--- the octets of a record as they are watched
-abbrev pub frame_by : Scope → LinkKind → List ℕ → List ℕ
-frame_by scope.Connections link octets = octets
-frame_by scope.Recording link octets = untagged link octets
+-- the segment in the octets of a record as they are watched, or why there is none
+abbrev pub packet_by : Scope → LinkKind → List ℕ → Result PacketValue PacketRefusal
+packet_by scope.Connections link octets = read_record link octets
+packet_by scope.Recording link octets = read_recorded link (untagged link octets)
 
 -- a segment of a connection that goes on, with text: it has neither SYN nor RST
 abbrev pub begins_amid : Scope → PacketValue → Bool
@@ -62,4 +63,4 @@ with_frame scope assets number (Ok packet) flows = goes_to_asset scope number pa
 abbrev pub seen_by : Scope → List Asset → List Record → List Watched
 seen_by scope assets [] = []
 seen_by scope assets (r ∷ earlier) =
-    with_frame scope assets (length earlier + 1) (read_record r.link (frame_by scope r.link r.body)) (seen_by scope assets earlier)
+    with_frame scope assets (length earlier + 1) (packet_by scope r.link r.body) (seen_by scope assets earlier)

@@ -43,8 +43,9 @@ pub fn watch<F: Files>(
 }
 
 /// What a review reads of such a capture: its flows to the assets of a policy, also those whose beginning it does not have, and the stamp
-/// of each record, in microseconds. Frames are read without their VLAN tags. A flow without a SYN begins with its first packet with text
-/// that has neither SYN nor RST, and goes on up to the next SYN. The errors are those of `watch`. Changes no file. This project's own.
+/// of each record, in microseconds. Frames are read without their VLAN tags, and a partial TCP checksum counts as right. A flow without a
+/// SYN begins with its first packet with text that has neither SYN nor RST, and goes on up to the next SYN. The errors are those of
+/// `watch`. Changes no file. This project's own.
 ///
 /// It keeps the stamps besides.
 pub fn watch_recording<F: Files>(

@@ -5,6 +5,7 @@
 pub enum Scope {
     /// Flows from their SYN on, in frames as they stand.
     Connections,
-    /// Flows from their first segment with text on, in frames without their VLAN tags, and the stamp of each record.
+    /// Flows from their first segment with text on, in frames without their VLAN tags, a partial TCP checksum taken as right; and the
+    /// stamp of each record.
     Recording,
 }

@@ -1,9 +1,7 @@
 //! Frames without their VLAN tags.
 ghost use Rattle.std.specs.Prelude.{◌≡◌, length};
-ghost use Rattle.cf_watch.specs.Seen.{frame_by};
 ghost use Rattle.cf_watch.specs.Tagged.{has_tag, untagged, without_tags};
 
-use crate::scope::Scope;
 use cf_view::{LinkKind, View};
 
 /// The Ethernet type of a customer tag. IEEE 802.1Q-2018, section 9.5.
@@ -12,16 +10,6 @@ const CUSTOMER_TAG: u16 = 0x8100;
 const SERVICE_TAG: u16 = 0x88A8;
 /// How many octets a tag has.
 const TAG: usize = 4;
-
-/// The octets of a record as they are watched.
-pub(crate) fn frame_by<'a>(scope: Scope, link: &LinkKind, octets: &'a [u8]) -> &'a [u8]
-    ensures { result.now ≡ frame_by scope link.now octets.now }
-{
-    match scope {
-        Scope::Connections => octets,
-        Scope::Recording => untagged(link, octets),
-    }
-}
 
 /// The octets of a record without the VLAN tags of its frame, however many it has: of a frame with tags its octets from 4 further on for
 /// each, so that the type after the tags stands at octet 12. What then stands before it are no addresses. IEEE 802.1Q-2018, section 9.

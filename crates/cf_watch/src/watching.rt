@@ -1,14 +1,14 @@
 //! The flows of records, taken one after the other.
 ghost use Rattle.std.specs.Prelude.{◌≡◌, ◌+◌, ◌-◌, ◌*◌, cond, ◌^◌, ◌<◌, ◌≤◌, ◌++◌, ◌∷◌, ◌||◌, List, [], OnOk};
-ghost use Rattle.std.specs.Prelude.{IfSome, Some, None, length, slice_get};
-ghost use Rattle.cf_packet.specs.Packet.{packet_value, read_record};
+ghost use Rattle.std.specs.Prelude.{IfOk, IfSome, Some, None, length, slice_get};
+ghost use Rattle.cf_packet.specs.Packet.{packet_answer, packet_value};
 ghost use Rattle.cf_stream.specs.Stream.{letter_count};
 ghost use Rattle.std.specs.BTreeMap.{get};
 ghost use Rattle.std.specs.Ordering.{is_eq};
 ghost use Rattle.cf_watch.specs.Trail.{HasHeard, IsHeard, IsWatchOf, key_cmp, key_of};
 ghost use Rattle.cf_leg.specs.Segment.{has_ack};
 ghost use Rattle.cf_policy.specs.AtEndpoint.{asset_place};
-ghost use Rattle.cf_watch.specs.Seen.{begins_amid, begun_with, frame_by, goes_from, goes_to_asset, with_frame};
+ghost use Rattle.cf_watch.specs.Seen.{begins_amid, begun_with, goes_from, goes_to_asset, packet_by, with_frame};
 ghost use Rattle.cf_watch.specs.Watched.{Watched, begins_anew, goes_at, with_packet};
 
 use crate::born::Born;
@@ -16,8 +16,8 @@ use crate::carry::{Ahead, advance, carry};
 use crate::flow::Flow;
 use crate::place::{has, has_fin, is_opening, text_place, top_after};
 use crate::scope::Scope;
-use crate::tag::frame_by;
-use cf_packet::{ACK, Packet, RST, SYN, read_packet};
+use crate::tag::untagged;
+use cf_packet::{ACK, Packet, PacketRefusal, RST, SYN, read_packet, read_recorded};
 use cf_policy::Asset;
 use cf_view::{Endpoint, LinkKind, NoMemory, same_endpoint};
 use std::alloc::Global;
@@ -106,6 +106,21 @@ fn is_answered(answered: bool, packet: &Packet<'_>) -> bool
     answered || has(packet, ACK)
 }
 
+/// The segment in the octets of a record as they are watched.
+fn packet_by<'a>(
+    scope: Scope,
+    link: &LinkKind,
+    octets: &'a [u8],
+) -> Result<Packet<'a>, PacketRefusal>
+    ensures answer { packet_answer result ≡ packet_by scope link.now octets.now }
+    ensures text { IfOk result (λ packet. length packet.text.now ≤ 65535) }
+{
+    match scope {
+        Scope::Connections => read_packet(link, octets),
+        Scope::Recording => read_recorded(link, untagged(link, octets)),
+    }
+}
+
 /// The place of the asset at an endpoint.
 fn asset_at(assets: &[Asset], endpoint: &Endpoint) -> Option<usize>
     ensures place { result ≡ asset_place assets.now endpoint.now }
@@ -160,10 +175,9 @@ impl Watch {
         requires number { (1 ≤ number) × (number ≤ 2 ^ 27) }
         requires heard { HasHeard (number - 1) self.old }
         ensures heard { OnOk result ((ws : List Watched) → IsWatchOf (number - 1) self.old ws
-            → IsWatchOf number self.new (with_frame scope assets.now number (read_record link.now (frame_by scope link.now body.now)) ws)) }
+            → IsWatchOf number self.new (with_frame scope assets.now number (packet_by scope link.now body.now) ws)) }
     {
-        let frame = frame_by(scope, link, body);
-        let Ok(packet) = read_packet(link, frame) else {
+        let Ok(packet) = packet_by(scope, link, body) else {
             return Ok(());
         };
         match asset_at(assets, &packet.dest) {

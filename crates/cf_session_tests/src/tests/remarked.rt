@@ -150,9 +150,7 @@ note: 1 of 5 records dropped: a wrong TCP sum, as where a card fills it in behin
 INTERFACE tx off'), or off the host; the first is record 4
 note: 1 wrong TCP sum is that of the pseudo header alone, which a sending host's own recorder leaves: such packets were right on the wire
 amid:
-note: 1 of 5 records dropped: a wrong TCP sum, as where a card fills it in behind the recording; record with offload off ('ethtool -K \
-INTERFACE tx off'), or off the host; the first is record 4
-note: 1 wrong TCP sum is that of the pseudo header alone, which a sending host's own recorder leaves: such packets were right on the wire
+note: 1 TCP sum was that of the pseudo header alone, which a sending host's own recorder leaves, and counted as right
 
 row: a request that was not recorded, before two that were, of which one was sent again
 1.000000 c S 1000 0 65535

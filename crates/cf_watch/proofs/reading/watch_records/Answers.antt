@@ -1,7 +1,7 @@
 use Rattle.std.proofs.Common.{rules, ◌≡◌, ◌+◌, ◌-◌, ◌++◌, ◌∷◌, [], ◌∙◌, ℕ, List, Result, length, refl, sym, subst, ap, arith}
 use Rattle.cf_outside.specs.Files.{Content}
 use Rattle.cf_outside.proofs.Frames.{reads_none, reads_on}
-use Rattle.cf_packet.specs.Packet.{PacketValue, read_record}
+use Rattle.cf_packet.specs.Packet.{PacketValue}
 use Rattle.cf_packet.specs.declared.packet.PacketRefusal.{PacketRefusal}
 use Rattle.cf_records.proofs.Behind.{StandsBehind, stands_cut, stands_end, stands_large, stands_long, stands_refused}
 use Rattle.cf_records.specs.Capture.{Cut, FileEnd, Large, Refused, TooLong}
@@ -9,7 +9,7 @@ use Rattle.cf_records.specs.Reader.{FindsRecord, ReaderValue}
 use Rattle.cf_records.specs.declared.NextRecord.TheVariants as next
 use Rattle.cf_watch.specs.Trail.{IsWatchOf}
 use Rattle.cf_watch.specs.Watch.{EndsAt}
-use Rattle.cf_watch.specs.Seen.{frame_by, seen_by, with_frame}
+use Rattle.cf_watch.specs.Seen.{packet_by, seen_by, with_frame}
 use Rattle.cf_watch.proofs.Lengths.{large_is_long, read_inside}
 use Rattle.cf_watch.proofs.SoFar.{ends_at, first_low, for_assets, is_recording, so_far_first, so_far_on}
 use Rattle.cf_watch.proofs.reading.watch_records.Goals as goal
@@ -37,14 +37,14 @@ records-preserved g c =
     let found : FindsRecord (g.F.Files.content c.args.files.now c.args.name.now) c.records.reader reader (next.Whole stamp) =
     subst (λ (content : List ℕ → Content). FindsRecord (content c.args.name.now) c.records.reader reader (next.Whole stamp)) before.reads.same read.found in
     let before_number : number ≡ number + 1 - 1 = omega arith in
-    let packet : read_record c.link.result (frame_by c.args.scope c.link.result c.body.result.now) ≡ read_record reader.link (frame_by c.args.scope reader.link reader.body) =
-    ap (λ l. read_record l (frame_by c.args.scope l c.body.result.now)) c.link.ensures ∙ ap (λ b. read_record reader.link (frame_by c.args.scope reader.link b)) c.body.ensures in
+    let packet : packet_by c.args.scope c.link.result c.body.result.now ≡ packet_by c.args.scope reader.link reader.body =
+    ap (λ l. packet_by c.args.scope l c.body.result.now) c.link.ensures ∙ ap (λ b. packet_by c.args.scope reader.link b) c.body.ensures in
     let count : number + 1 ≡ length so.newest + 1 = ap (λ n. n + 1) (sym so.count) in
     let heard = c.in-Ok.ensures.heard ws (subst (λ (n : ℕ). IsWatchOf n c.records.watch ws) before_number so.heard) in
     record {
       all = before.all ++ stamp ∷ [];
       so = so_far_on so reader stamp c.take.new.self (before.all ++ stamp ∷ []) found
-          (subst (λ (n : ℕ). IsWatchOf (number + 1) c.take.new.self (with_frame c.args.scope assets n (read_record reader.link (frame_by c.args.scope reader.link reader.body)) ws)) count
+          (subst (λ (n : ℕ). IsWatchOf (number + 1) c.take.new.self (with_frame c.args.scope assets n (packet_by c.args.scope reader.link reader.body) ws)) count
           (subst (λ (p : Result PacketValue PacketRefusal). IsWatchOf (number + 1) c.take.new.self (with_frame c.args.scope assets (number + 1) p ws)) packet heard)) refl;
       kept = λ keeps. let pushed : c.keep_stamp.new.kept.items ≡ c.records.kept.items ++ stamp ∷ [] = search rules in
           pushed ∙ ap (λ (xs : List ℕ). xs ++ stamp ∷ []) (before.kept keeps);
