@@ -1,5 +1,6 @@
 pub mod Endpoints
 pub mod Framing
+pub mod LinkTypes
 pub mod Moment
 pub mod Octets
 pub mod Places
