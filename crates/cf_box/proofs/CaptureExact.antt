@@ -4,12 +4,14 @@ use Rattle.cf_outside.specs.Files.{holds}
 use Rattle.cf_policylang.specs.declared.PolicyRefusal.{PolicyRefusal}
 use Rattle.cf_records.specs.Capture.{AtPlace, Cut, FileEnd}
 use Rattle.cf_run.specs.RunCapture.{HasRunRecords, RunNamesValue}
+use Rattle.cf_view.specs.declared.LinkSet.{LinkSet}
+use Rattle.cf_view.specs.declared.LinkSet.TheVariants as set
 use Rattle.cf_watch.specs.Watch.{EndsAt as WatchEnd}
-use Rattle.cf_ending.specs.Captures.{EndsAt, Refuses}
+use Rattle.cf_ending.specs.Captures.{EndsAt, EndsIn, Refuses}
 use Rattle.cf_words.specs.Command.{Command, Judge, Packets, Review, Run, Learn}
 use Rattle.cf_box.specs.Ends.{Meets, RefusesPolicy}
 use Rattle.cf_box.specs.Judge.{Objects}
-use Rattle.cf_box.specs.Watching.{WatchCuts, WatchRefuses}
+use Rattle.cf_box.specs.Watching.{ReviewCuts, ReviewRefuses, WatchCuts, WatchCutsIn, WatchRefuses, WatchRefusesIn}
 use Rattle.cf_ending.specs.Outside.{Outside, ReadFailed, WriteFailed}
 use Rattle.cf_box.specs.Packets.{HasListedRecords}
 use Rattle.cf_box.specs.PolicyFile.{TellsPolicy}
@@ -27,8 +29,9 @@ use Rattle.cf_box.proofs.Complete.{Refusing, ends_refused, known_unrefused, list
 use Rattle.cf_box.proofs.Statuses.{IsOf, stop_is}
 
 -- a capture that ends with the file is not cut
-listing_apart : (bytes : List ℕ) (end cut : ℕ) → EndsAt HasListedRecords (holds bytes) FileEnd end → EndsAt HasListedRecords (holds bytes) Cut cut → ⊥
-listing_apart bytes end cut e g = cc (listing_once bytes FileEnd Cut end cut e g)
+listing_apart : (kinds : LinkSet) (bytes : List ℕ) (end cut : ℕ) → EndsIn kinds HasListedRecords (holds bytes) FileEnd end →
+    EndsIn kinds HasListedRecords (holds bytes) Cut cut → ⊥
+listing_apart kinds bytes end cut e g = cc (listing_once kinds bytes FileEnd Cut end cut e g)
 
 run_apart : (bytes : List ℕ) (end cut : ℕ) → EndsAt HasRunRecords (holds bytes) FileEnd end → EndsAt HasRunRecords (holds bytes) Cut cut → ⊥
 run_apart bytes end cut e g = cc (run_once bytes FileEnd Cut end cut e g)
@@ -82,7 +85,7 @@ module _ (failed : Type 0) (status : ℕ) (before after : Outside) where
 
   module _ (capture bytes : List ℕ) (told : before.files.content capture ≡ holds bytes) where
     abbrev ListingBy : Result Done Stop → Type 0
-    ListingBy r = EndsBy (EndsAt HasListedRecords (holds bytes)) (Refuses HasListedRecords (holds bytes)) (ends_refused HasListedRecords bytes (listing_once bytes)) (listing_apart bytes) r
+    ListingBy r = EndsBy (EndsAt HasListedRecords (holds bytes)) (Refuses HasListedRecords (holds bytes)) (ends_refused set.Plain HasListedRecords bytes (listing_once set.Plain bytes)) (listing_apart set.Plain bytes) r
 
     unread_policy : (r : PolicyRefusal) → RefusesPolicy (Packets capture) before r → ⊥
     unread_policy r (inl cause) = let none = cause.1 in cc
@@ -105,7 +108,7 @@ module _ (failed : Type 0) (status : ℕ) (before after : Outside) where
 
   module _ (policy : List ℕ) (names : RunNamesValue) (known : TellsPolicy (before.files.content policy)) (bytes : List ℕ) (told : before.files.content names.capture ≡ holds bytes) where
     abbrev RunBy : Result Done Stop → Type 0
-    RunBy r = EndsBy (EndsAt HasRunRecords (holds bytes)) (Refuses HasRunRecords (holds bytes)) (ends_refused HasRunRecords bytes (run_once bytes)) (run_apart bytes) r
+    RunBy r = EndsBy (EndsAt HasRunRecords (holds bytes)) (Refuses HasRunRecords (holds bytes)) (ends_refused set.Plain HasRunRecords bytes (run_once bytes)) (run_apart bytes) r
 
     run_by : (r : Result Done Stop) → Meets (Run policy names) before after r → RunBy r
     run_by (Ok d) meets =
@@ -126,31 +129,38 @@ module _ (failed : Type 0) (status : ℕ) (before after : Outside) where
 
   -- ---- a capture that is watched
 
-  module _ (policy capture : List ℕ) (known : TellsPolicy (before.files.content policy)) (bytes : List ℕ) (told : before.files.content capture ≡ holds bytes) where
+  module _ (kinds : LinkSet) (policy capture : List ℕ) (known : TellsPolicy (before.files.content policy)) (bytes : List ℕ) (told : before.files.content capture ≡ holds bytes) where
     -- one that is refused is watched to no other end
-    watch_apart : (r : CaptureRefusal) → WatchRefuses (holds bytes) r → (found : AtPlace) (place : ℕ) → WatchEnd (holds bytes) found place → Refusing found
+    watch_apart : (r : CaptureRefusal) → WatchRefusesIn kinds (holds bytes) r → (found : AtPlace) (place : ℕ) → WatchEnd kinds (holds bytes) found place → Refusing found
     watch_apart r (inl (is, long)) found place e = absurd (omega (arith, e.short, long))
-    watch_apart r (inr s) found place e = ends_refused HasListedRecords bytes (listing_once bytes) r s.refuses found place (listed (holds bytes) found place e)
+    watch_apart r (inr s) found place e = ends_refused kinds HasListedRecords bytes (listing_once kinds bytes) r s.refuses found place (listed kinds (holds bytes) found place e)
 
-    watch_once : (end cut : ℕ) → WatchEnd (holds bytes) FileEnd end → WatchEnd (holds bytes) Cut cut → ⊥
-    watch_once end cut e g = listing_apart bytes end cut (listed (holds bytes) FileEnd end e) (listed (holds bytes) Cut cut g)
+    watch_once : (end cut : ℕ) → WatchEnd kinds (holds bytes) FileEnd end → WatchEnd kinds (holds bytes) Cut cut → ⊥
+    watch_once end cut e g = listing_apart kinds bytes end cut (listed kinds (holds bytes) FileEnd end e) (listed kinds (holds bytes) Cut cut g)
 
     abbrev WatchedBy : Result Done Stop → Type 0
-    WatchedBy r = EndsBy (WatchEnd (holds bytes)) (WatchRefuses (holds bytes)) watch_apart watch_once r
+    WatchedBy r = EndsBy (WatchEnd kinds (holds bytes)) (WatchRefusesIn kinds (holds bytes)) watch_apart watch_once r
 
     abbrev ToItsEnd : Type 0
-    ToItsEnd = (place : ℕ) × WatchEnd (holds bytes) FileEnd place
+    ToItsEnd = (place : ℕ) × WatchEnd kinds (holds bytes) FileEnd place
 
-    to_its_end : (place : ℕ) → WatchEnd (before.files.content capture) FileEnd place → ToItsEnd
-    to_its_end place e = (place, subst (λ f. WatchEnd f FileEnd place) told e)
+    to_its_end : (place : ℕ) → WatchEnd kinds (before.files.content capture) FileEnd place → ToItsEnd
+    to_its_end place e = (place, subst (λ f. WatchEnd kinds f FileEnd place) told e)
 
+    watched_refused : (refused : CaptureRefusal) → WatchRefusesIn kinds (holds bytes) refused → (r : Result Done Stop) → WatchedBy r → IsOf r failed status → DueBehind 6
+    watched_refused = refused_due (WatchEnd kinds (holds bytes)) (WatchRefusesIn kinds (holds bytes)) watch_apart watch_once
+
+    watched_cut : (cut : ℕ) → WatchCutsIn kinds (holds bytes) cut → (r : Result Done Stop) → WatchedBy r → IsOf r failed status → DueBehind 7
+    watched_cut = cut_due (WatchEnd kinds (holds bytes)) (WatchRefusesIn kinds (holds bytes)) watch_apart watch_once
+
+  module _ (policy capture : List ℕ) (known : TellsPolicy (before.files.content policy)) (bytes : List ℕ) (told : before.files.content capture ≡ holds bytes) where
     -- a judgement
-    objects_end : (why : Denial) → Objects policy capture before why → ToItsEnd
-    objects_end (denial.Objects tells) o = to_its_end o.2.has_flows.place o.2.has_flows.ends
+    objects_end : (why : Denial) → Objects policy capture before why → ToItsEnd set.Plain policy capture known bytes told
+    objects_end (denial.Objects tells) o = to_its_end set.Plain policy capture known bytes told o.2.has_flows.place o.2.has_flows.ends
     objects_end _ o = absurd o
 
-    judge_by : (r : Result Done Stop) → Meets (Judge policy capture) before after r → WatchedBy r
-    judge_by (Ok d) meets = let has = meets.keeps.2.has_flows in to_its_end has.place has.ends
+    judge_by : (r : Result Done Stop) → Meets (Judge policy capture) before after r → WatchedBy set.Plain policy capture known bytes told r
+    judge_by (Ok d) meets = let has = meets.keeps.2.has_flows in to_its_end set.Plain policy capture known bytes told has.place has.ends
     judge_by (Err (stop.CaptureRefused r)) meets = subst (λ f. WatchRefuses f r) told meets.0.0
     judge_by (Err (stop.CaptureCut place)) meets = subst (λ f. WatchCuts f place) told meets.0.0
     judge_by (Err stop.ReadFault) meets = meets.0
@@ -163,8 +173,8 @@ module _ (failed : Type 0) (status : ℕ) (before after : Outside) where
     judge_by (Err _) meets = absurd meets.0.0
 
     -- what is learned of a capture
-    learn_by : (out : List ℕ) (r : Result Done Stop) → Meets (Learn policy capture out) before after r → WatchedBy r
-    learn_by out (Ok d) meets = let has = meets.holds.learns.watched.has_flows in to_its_end has.place has.ends
+    learn_by : (out : List ℕ) (r : Result Done Stop) → Meets (Learn policy capture out) before after r → WatchedBy set.Plain policy capture known bytes told r
+    learn_by out (Ok d) meets = let has = meets.holds.learns.watched.has_flows in to_its_end set.Plain policy capture known bytes told has.place has.ends
     learn_by out (Err (stop.CaptureRefused r)) meets = subst (λ f. WatchRefuses f r) told meets.0.0
     learn_by out (Err (stop.CaptureCut place)) meets = subst (λ f. WatchCuts f place) told meets.0.0
     learn_by out (Err stop.ReadFault) meets = meets.0
@@ -173,24 +183,25 @@ module _ (failed : Type 0) (status : ℕ) (before after : Outside) where
     learn_by out (Err (stop.PolicyRefused r)) meets =
         absurd (known_unrefused (Learn policy capture out) before policy known.bytes known.policy r refl known.told known.means (λ second e. cc e) meets.0)
     learn_by out (Err stop.UnknownAsset) meets = let none = meets.0.3 in cc
-    learn_by out (Err (stop.TooManyRules name)) meets = let has = meets.0.0.2.has_flows in to_its_end has.place has.ends
+    learn_by out (Err (stop.TooManyRules name)) meets = let has = meets.0.0.2.has_flows in to_its_end set.Plain policy capture known bytes told has.place has.ends
     learn_by out (Err _) meets = absurd meets.0.0
 
+  module _ (policy capture : List ℕ) (known : TellsPolicy (before.files.content policy)) (bytes : List ℕ) (told : before.files.content capture ≡ holds bytes) where
     -- a review of a capture
-    remarks_end : (why : Denial) → Remarks policy capture before why → ToItsEnd
-    remarks_end (denial.Remarks counts) o = let has = o.3.recorded in to_its_end has.place has.ends
+    remarks_end : (why : Denial) → Remarks policy capture before why → ToItsEnd set.Recorded policy capture known bytes told
+    remarks_end (denial.Remarks counts) o = let has = o.3.recorded in to_its_end set.Recorded policy capture known bytes told has.place has.ends
     remarks_end _ o = absurd o
 
-    review_end : (log : List ℕ) (d : Done) → DoesReview policy capture log before after d → ToItsEnd
+    review_end : (log : List ℕ) (d : Done) → DoesReview policy capture log before after d → ToItsEnd set.Recorded policy capture known bytes told
     review_end log (done.Reviewed counts) m =
         let h : HoldsReview policy capture log before after = m.0.holds in
-        let has = h.has.recorded in to_its_end has.place has.ends
+        let has = h.has.recorded in to_its_end set.Recorded policy capture known bytes told has.place has.ends
     review_end log d m = absurd m
 
-    review_by : (log : List ℕ) (r : Result Done Stop) → Meets (Review policy capture log) before after r → WatchedBy r
+    review_by : (log : List ℕ) (r : Result Done Stop) → Meets (Review policy capture log) before after r → WatchedBy set.Recorded policy capture known bytes told r
     review_by log (Ok d) meets = review_end log d meets
-    review_by log (Err (stop.CaptureRefused r)) meets = subst (λ f. WatchRefuses f r) told meets.0.0
-    review_by log (Err (stop.CaptureCut place)) meets = subst (λ f. WatchCuts f place) told meets.0.0
+    review_by log (Err (stop.CaptureRefused r)) meets = subst (λ f. ReviewRefuses f r) told meets.0.0
+    review_by log (Err (stop.CaptureCut place)) meets = subst (λ f. ReviewCuts f place) told meets.0.0
     review_by log (Err stop.ReadFault) meets = meets.0
     review_by log (Err stop.WriteFault) meets = meets.0.0
     review_by log (Err stop.NoMemory) meets = tt
@@ -200,40 +211,34 @@ module _ (failed : Type 0) (status : ℕ) (before after : Outside) where
     review_by log (Err (stop.Denied why)) meets = remarks_end why meets.0.0
     review_by log (Err _) meets = absurd meets.0.0
 
-    watched_refused : (refused : CaptureRefusal) → WatchRefuses (holds bytes) refused → (r : Result Done Stop) → WatchedBy r → IsOf r failed status → DueBehind 6
-    watched_refused = refused_due (WatchEnd (holds bytes)) (WatchRefuses (holds bytes)) watch_apart watch_once
-
-    watched_cut : (cut : ℕ) → WatchCuts (holds bytes) cut → (r : Result Done Stop) → WatchedBy r → IsOf r failed status → DueBehind 7
-    watched_cut = cut_due (WatchEnd (holds bytes)) (WatchRefuses (holds bytes)) watch_apart watch_once
-
   -- ---- a line a command that reads a capture
 
   pub capture_from : (c : Command) → TellsRefusedCapture c before → (r : Result Done Stop) → Meets c before after r → IsOf r failed status → DueBehind 6
   capture_from (Packets capture) t r meets h =
-      refused_due (EndsAt HasListedRecords (holds t.bytes)) (Refuses HasListedRecords (holds t.bytes)) (ends_refused HasListedRecords t.bytes (listing_once t.bytes)) (listing_apart t.bytes)
+      refused_due (EndsAt HasListedRecords (holds t.bytes)) (Refuses HasListedRecords (holds t.bytes)) (ends_refused set.Plain HasListedRecords t.bytes (listing_once set.Plain t.bytes)) (listing_apart set.Plain t.bytes)
       t.refusal t.refuses.0 r (listing_by capture t.bytes t.told r meets) h
   capture_from (Run policy names) (known, t) r meets h =
-      refused_due (EndsAt HasRunRecords (holds t.bytes)) (Refuses HasRunRecords (holds t.bytes)) (ends_refused HasRunRecords t.bytes (run_once t.bytes)) (run_apart t.bytes)
+      refused_due (EndsAt HasRunRecords (holds t.bytes)) (Refuses HasRunRecords (holds t.bytes)) (ends_refused set.Plain HasRunRecords t.bytes (run_once t.bytes)) (run_apart t.bytes)
       t.refusal t.refuses r (run_by policy names known t.bytes t.told r meets) h
   capture_from (Judge policy capture) (known, t) r meets h =
-      watched_refused policy capture known t.bytes t.told t.refusal t.refuses r (judge_by policy capture known t.bytes t.told r meets) h
+      watched_refused set.Plain policy capture known t.bytes t.told t.refusal t.refuses r (judge_by policy capture known t.bytes t.told r meets) h
   capture_from (Review policy capture log) (known, t) r meets h =
-      watched_refused policy capture known t.bytes t.told t.refusal t.refuses r (review_by policy capture known t.bytes t.told log r meets) h
+      watched_refused set.Recorded policy capture known t.bytes t.told t.refusal t.refuses r (review_by policy capture known t.bytes t.told log r meets) h
   capture_from (Learn policy capture out) (known, t) r meets h =
-      watched_refused policy capture known t.bytes t.told t.refusal t.refuses r (learn_by policy capture known t.bytes t.told out r meets) h
+      watched_refused set.Plain policy capture known t.bytes t.told t.refusal t.refuses r (learn_by policy capture known t.bytes t.told out r meets) h
   capture_from c t r meets h = absurd t
 
   pub capture_cut_from : (c : Command) → TellsCutCapture c before → (r : Result Done Stop) → Meets c before after r → IsOf r failed status → DueBehind 7
   capture_cut_from (Packets capture) t r meets h =
-      cut_due (EndsAt HasListedRecords (holds t.bytes)) (Refuses HasListedRecords (holds t.bytes)) (ends_refused HasListedRecords t.bytes (listing_once t.bytes)) (listing_apart t.bytes)
+      cut_due (EndsAt HasListedRecords (holds t.bytes)) (Refuses HasListedRecords (holds t.bytes)) (ends_refused set.Plain HasListedRecords t.bytes (listing_once set.Plain t.bytes)) (listing_apart set.Plain t.bytes)
       t.place t.cuts r (listing_by capture t.bytes t.told r meets) h
   capture_cut_from (Run policy names) (known, t) r meets h =
-      cut_due (EndsAt HasRunRecords (holds t.bytes)) (Refuses HasRunRecords (holds t.bytes)) (ends_refused HasRunRecords t.bytes (run_once t.bytes)) (run_apart t.bytes)
+      cut_due (EndsAt HasRunRecords (holds t.bytes)) (Refuses HasRunRecords (holds t.bytes)) (ends_refused set.Plain HasRunRecords t.bytes (run_once t.bytes)) (run_apart t.bytes)
       t.place t.cuts r (run_by policy names known t.bytes t.told r meets) h
   capture_cut_from (Judge policy capture) (known, t) r meets h =
-      watched_cut policy capture known t.bytes t.told t.place t.cuts r (judge_by policy capture known t.bytes t.told r meets) h
+      watched_cut set.Plain policy capture known t.bytes t.told t.place t.cuts r (judge_by policy capture known t.bytes t.told r meets) h
   capture_cut_from (Review policy capture log) (known, t) r meets h =
-      watched_cut policy capture known t.bytes t.told t.place t.cuts r (review_by policy capture known t.bytes t.told log r meets) h
+      watched_cut set.Recorded policy capture known t.bytes t.told t.place t.cuts r (review_by policy capture known t.bytes t.told log r meets) h
   capture_cut_from (Learn policy capture out) (known, t) r meets h =
-      watched_cut policy capture known t.bytes t.told t.place t.cuts r (learn_by policy capture known t.bytes t.told out r meets) h
+      watched_cut set.Plain policy capture known t.bytes t.told t.place t.cuts r (learn_by policy capture known t.bytes t.told out r meets) h
   capture_cut_from c t r meets h = absurd t

@@ -1,9 +1,10 @@
 -- The answer of a listing, as the answer of the command.
 use Rattle.std.proofs.Common.{◌≡◌, ◌≢◌, ℕ, List, Option, Result, Ok, Err, refl, ap, subst, inl, inr, arith}
 use Rattle.cf_outside.specs.Files.{Content}
-use Rattle.cf_policy.specs.declared.Asset.{Asset}
 use Rattle.cf_records.specs.Capture.{AtPlace, Large, LastPlace, Record, Refused, TooLong}
-use Rattle.cf_records.specs.Reader.{HasForm, OpensAs}
+use Rattle.cf_records.specs.Reader.{HasFormIn, OpensAs}
+use Rattle.cf_view.specs.declared.LinkSet.{LinkSet}
+use Rattle.cf_view.specs.declared.LinkSet.TheVariants as set
 use Rattle.cf_records.specs.declared.BlockRefusal.{BlockRefusal}
 use Rattle.cf_records.specs.declared.BlockRefusal.TheVariants as block
 use Rattle.cf_records.specs.declared.Form.{Form}
@@ -11,16 +12,16 @@ use Rattle.cf_records.specs.declared.FormRefusal.{FormRefusal}
 use Rattle.cf_records.specs.declared.FormRefusal.TheVariants as form
 use Rattle.cf_records.specs.declared.record_reader.OpenFault.{OpenFault}
 use Rattle.cf_records.specs.declared.record_reader.OpenFault.TheVariants as opened
-use Rattle.cf_watch.specs.Watch.{EndsAt as IsWatchedUpTo, WatchesAs}
+use Rattle.cf_watch.specs.Watch.{EndsAt as IsWatchedUpTo, FailsAs}
 use Rattle.cf_watch.specs.declared.WatchFault.{WatchFault}
 use Rattle.cf_watch.specs.declared.WatchFault.TheVariants as fault
 use Rattle.cf_watch.specs.declared.WatchRefusal.TheVariants as watch
-use Rattle.cf_ending.specs.Captures.{EndsAt, EndsSomewhere, Refuses, block_refusal, form_refusal}
+use Rattle.cf_ending.specs.Captures.{EndsAt, EndsIn, EndsSomewhere, RefusesIn, block_refusal, form_refusal}
 use Rattle.cf_words.specs.Command.{Command, Packets}
 use Rattle.cf_box.specs.Ends.{CutsCapture, Meets, PassesPolicy, RefusesCapture, StopsFor}
 use Rattle.cf_ending.specs.Outside.{Outside, ReadFailed, ReadsOnly}
 use Rattle.cf_box.specs.Packets.{HasListed, HasListedRecords, ListsFile, open_stop}
-use Rattle.cf_box.specs.Watching.{WatchCuts, WatchRefuses, fault_stop}
+use Rattle.cf_box.specs.Watching.{WatchCutsIn, WatchRefusesIn, fault_stop}
 use Rattle.cf_ending.specs.declared.CaptureRefusal.{CaptureRefusal}
 use Rattle.cf_ending.specs.declared.CaptureRefusal.TheVariants as refusal
 use Rattle.cf_ending.specs.declared.Done.{Done}
@@ -28,17 +29,19 @@ use Rattle.cf_ending.specs.declared.Stop.{Stop}
 use Rattle.cf_ending.specs.declared.Stop.TheVariants as stop
 
 -- a header that is refused refuses the capture, and so does a block
-pub form_refuses : (Has : Content → Form → List Record → LastPlace → Type 0) (file : Content) (of : FormRefusal) → HasForm file (Err of) → Refuses Has file (form_refusal of)
-form_refuses Has file form.Section h = inl h
-form_refuses Has file _ h = h
+pub form_refuses : (kinds : LinkSet) (Has : Content → Form → List Record → LastPlace → Type 0) (file : Content) (of : FormRefusal) →
+    HasFormIn kinds file (Err of) → RefusesIn kinds Has file (form_refusal of)
+form_refuses kinds Has file form.Section h = inl h
+form_refuses kinds Has file _ h = h
 
-pub block_refuses : (Has : Content → Form → List Record → LastPlace → Type 0) (file : Content) (of : BlockRefusal) → EndsSomewhere Has file (Refused of) → Refuses Has file (block_refusal of)
-block_refuses Has file block.Section h = inr h
-block_refuses Has file _ h = h
+pub block_refuses : (kinds : LinkSet) (Has : Content → Form → List Record → LastPlace → Type 0) (file : Content) (of : BlockRefusal) →
+    EndsSomewhere kinds Has file (Refused of) → RefusesIn kinds Has file (block_refusal of)
+block_refuses kinds Has file block.Section h = inr h
+block_refuses kinds Has file _ h = h
 
 -- where a watched capture ends, a listing ends too
-pub listed : (file : Content) (found : AtPlace) (place : ℕ) → IsWatchedUpTo file found place → EndsAt HasListedRecords file found place
-listed file found place e = record { form = e.form; has_form = e.has_form; records = e.records; are_records = e.are_records }
+pub listed : (kinds : LinkSet) (file : Content) (found : AtPlace) (place : ℕ) → IsWatchedUpTo kinds file found place → EndsIn kinds HasListedRecords file found place
+listed kinds file found place e = record { form = e.form; has_form = e.has_form; records = e.records; are_records = e.are_records }
 
 -- where the records of a listing end so
 pub listed_to : {file : Content} {old now : Option (List ℕ)} {failed : Type 0} {answer : Result Done Stop} (found : AtPlace) (l : HasListed file old now failed answer) → l.last.found ≡ found →
@@ -91,7 +94,7 @@ module _ (file : List ℕ) (before after : Outside) (content : after.files.conte
   unopened : (fault : OpenFault) → (fault ≡ opened.Read → ReadFailed before after) → OpensAs capture (Err fault) → StopsFor (Packets file) before after (open_stop fault)
   unopened opened.NoMemory read h = tt
   unopened opened.Read read h = read refl
-  unopened (opened.Refused of) read h = ((form_refuses HasListedRecords capture of h, (form_apart of).0), passes_none)
+  unopened (opened.Refused of) read h = ((form_refuses set.Plain HasListedRecords capture of h, (form_apart of).0), passes_none)
 
   pub closed_meets : (fault : OpenFault) → (fault ≡ opened.Read → ReadFailed before after) → OpensAs capture (Err fault) → after.sink ≡ before.sink → Meets (Packets file) before after (Err (open_stop fault))
   closed_meets fault read h same = (
@@ -107,23 +110,24 @@ not_a_write (fault.Refused watch.Long) e = cc e
 not_a_write _ e = cc e
 
 -- it is why a command stops that reads the capture after its policy
-module _ (c : Command) (before after : Outside) (capture : List ℕ) (assets : List Asset) (refuses : (r : CaptureRefusal) → WatchRefuses (before.files.content capture) r → RefusesCapture c before r)
-    (cuts : (place : ℕ) → WatchCuts (before.files.content capture) place → CutsCapture c before place) (passes : PassesPolicy c before) where
-  unwatched_by : (f : WatchFault) → (f ≡ fault.Read → ReadFailed before after) → WatchesAs assets (before.files.content capture) (Err f) → StopsFor c before after (fault_stop f)
+module _ (c : Command) (before after : Outside) (capture : List ℕ) (kinds : LinkSet)
+    (refuses : (r : CaptureRefusal) → WatchRefusesIn kinds (before.files.content capture) r → RefusesCapture c before r)
+    (cuts : (place : ℕ) → WatchCutsIn kinds (before.files.content capture) place → CutsCapture c before place) (passes : PassesPolicy c before) where
+  unwatched_by : (f : WatchFault) → (f ≡ fault.Read → ReadFailed before after) → FailsAs kinds (before.files.content capture) f → StopsFor c before after (fault_stop f)
   unwatched_by fault.NoMemory read w = tt
   unwatched_by fault.Read read w = read refl
   unwatched_by (fault.Cut place) read w = (cuts place w, passes)
   unwatched_by (fault.Refused watch.Long) read w = (refuses refusal.Long (inl (refl, w)), passes)
   unwatched_by (fault.Refused watch.TooLong) read w =
-      (refuses refusal.TooLong (inr (record { short = w.1.short; refuses = (w.0, listed _ TooLong w.0 w.1); no_clock = λ e. cc e; no_large = λ e. cc e })), passes)
+      (refuses refusal.TooLong (inr (record { short = w.1.short; refuses = (w.0, listed kinds _ TooLong w.0 w.1); no_clock = λ e. cc e; no_large = λ e. cc e })), passes)
   unwatched_by (fault.Refused (watch.Header of)) read w =
-      let refused = form_refuses HasListedRecords (before.files.content capture) of w.1 in
+      let refused = form_refuses kinds HasListedRecords (before.files.content capture) of w.1 in
       (refuses (form_refusal of) (inr (record { short = w.0; refuses = refused; no_clock = (form_apart of).0; no_large = (form_apart of).1 })), passes)
   unwatched_by (fault.Refused (watch.Block of)) read w =
-      let refused = block_refuses HasListedRecords (before.files.content capture) of (w.0, listed _ (Refused of) w.0 w.1) in
+      let refused = block_refuses kinds HasListedRecords (before.files.content capture) of (w.0, listed kinds _ (Refused of) w.0 w.1) in
       (refuses (block_refusal of) (inr (record { short = w.1.short; refuses = refused; no_clock = (block_apart of).0; no_large = (block_apart of).1 })), passes)
 
   pub unwatched : (middle : Outside) → ReadsOnly before.files middle.files → (f : WatchFault) → (f ≡ fault.Read → ReadFailed middle after) →
-      WatchesAs assets (middle.files.content capture) (Err f) → StopsFor c before after (fault_stop f)
+      FailsAs kinds (middle.files.content capture) f → StopsFor c before after (fault_stop f)
   unwatched middle only f read w =
-      unwatched_by f (λ e. let rose = read e in omega (arith, rose, only.reads)) (subst (λ k. WatchesAs assets (k capture) (Err f)) only.content w)
+      unwatched_by f (λ e. let rose = read e in omega (arith, rose, only.reads)) (subst (λ k. FailsAs kinds (k capture) f) only.content w)

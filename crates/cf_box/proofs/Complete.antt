@@ -4,7 +4,9 @@ use Rattle.std.proofs.Common.{◌≤◌, length, arith, ◌≡◌, ◌⊎◌, �
 use Rattle.cf_outside.specs.Files.{Content, holds, IsWhole}
 use Rattle.cf_records.proofs.RecordLists.{one_list, one_timed_list}
 use Rattle.cf_records.specs.Capture.{AreRecords, AtPlace, Clock, Cut, FileEnd, Large, LastPlace, Record, Refused, TooLong}
-use Rattle.cf_records.specs.Form.{first_place, form_of}
+use Rattle.cf_records.specs.Form.{first_place, form_in}
+use Rattle.cf_view.specs.declared.LinkSet.{LinkSet}
+use Rattle.cf_view.specs.declared.LinkSet.TheVariants as set
 use Rattle.cf_records.specs.Moments.{AreTimed, first_moment}
 use Rattle.cf_records.specs.declared.BlockRefusal.TheVariants as block
 use Rattle.cf_records.specs.declared.Form.{Form}
@@ -16,7 +18,7 @@ use Rattle.cf_policy.specs.declared.Policy.{Policy}
 use Rattle.cf_policylang.specs.Documents.{policy_meaning}
 use Rattle.cf_policylang.specs.declared.PolicyRefusal.{PolicyRefusal}
 use Rattle.cf_run.specs.RunCapture.{HasRunRecords}
-use Rattle.cf_ending.specs.Captures.{EndsAt, Refuses}
+use Rattle.cf_ending.specs.Captures.{EndsAt, EndsIn, Refuses, RefusesIn}
 use Rattle.cf_words.specs.Command.{Command, Compare, Judge, Packets, Review, Run, World, asset_name, capture_file, other_file, policy_file, Learn}
 use Rattle.cf_box.specs.Compare.{ExceedsAt, IsNotIncluded}
 use Rattle.cf_box.specs.Ends.{CutsCapture, CutsRun, CutsStream, Denies, EndsIdle, ExceedsCells, ExceedsRules, LacksAsset, LinkFails, Meets, RefusesCapture, RefusesMadePolicy, RefusesPolicy}
@@ -25,8 +27,8 @@ use Rattle.cf_box.specs.Packets.{HasListedRecords}
 use Rattle.cf_box.specs.PolicyFile.{HasPolicy, IsRefusedBy, TellsAsset}
 use Rattle.cf_box.specs.Run.{RunCuts, RunRefuses}
 use Rattle.cf_watch.specs.declared.fault.TheConstants.{CAPTURE_LIMIT}
-use Rattle.cf_box.specs.Watching.{WatchCuts, WatchRefuses}
-use Rattle.cf_box.specs.Status.{EndsWell, HasInput, HasRecordsToItsEnd, HasTimedRecords, HoldsWhatItAsks, NothingFails, TellsMade}
+use Rattle.cf_box.specs.Watching.{WatchCutsIn, WatchRefusesIn, WatchCuts, WatchRefuses}
+use Rattle.cf_box.specs.Status.{HasRecordsIn, EndsWell, HasInput, HasRecordsToItsEnd, HasTimedRecords, HoldsWhatItAsks, NothingFails, TellsMade}
 use Rattle.cf_ending.specs.declared.Denial.{Denial}
 use Rattle.cf_ending.specs.declared.Denial.TheVariants as denial
 use Rattle.cf_ending.specs.declared.CaptureRefusal.{CaptureRefusal}
@@ -84,8 +86,9 @@ known_unrefused c before file bytes p r needs told means one (inr (inr made)) = 
     made_unread _ before file e made = made
 
 -- the octets of a file have one list of records, so one end
-pub listing_once : (bytes : List ℕ) (found other : AtPlace) (place there : ℕ) → EndsAt HasListedRecords (holds bytes) found place → EndsAt HasListedRecords (holds bytes) other there → found ≡ other
-listing_once bytes found other place there e g =
+pub listing_once : (kinds : LinkSet) (bytes : List ℕ) (found other : AtPlace) (place there : ℕ) →
+    EndsIn kinds HasListedRecords (holds bytes) found place → EndsIn kinds HasListedRecords (holds bytes) other there → found ≡ other
+listing_once kinds bytes found other place there e g =
     let here = e.has_form in
     let also = g.has_form in
     let same : e.form ≡ g.form = cc in
@@ -111,15 +114,15 @@ Refusing (Refused of) = Unit {0}
 Refusing _ = ⊥
 
 -- a capture that is refused ends in no other way
-module _ (Has : Content → Form → List Record → LastPlace → Type 0) (bytes : List ℕ)
-    (once : (found other : AtPlace) (place there : ℕ) → EndsAt Has (holds bytes) found place → EndsAt Has (holds bytes) other there → found ≡ other) where
-  no_form : (of : FormRefusal) (found : AtPlace) (place : ℕ) → form_of bytes ≡ Err of → EndsAt Has (holds bytes) found place → ⊥
+module _ (kinds : LinkSet) (Has : Content → Form → List Record → LastPlace → Type 0) (bytes : List ℕ)
+    (once : (found other : AtPlace) (place there : ℕ) → EndsIn kinds Has (holds bytes) found place → EndsIn kinds Has (holds bytes) other there → found ≡ other) where
+  no_form : (of : FormRefusal) (found : AtPlace) (place : ℕ) → form_in kinds bytes ≡ Err of → EndsIn kinds Has (holds bytes) found place → ⊥
   no_form of found place refused e = let here = e.has_form in cc
 
-  ends_so : (at found : AtPlace) (place : ℕ) → (there : ℕ) × EndsAt Has (holds bytes) at there → EndsAt Has (holds bytes) found place → Refusing at → Refusing found
+  ends_so : (at found : AtPlace) (place : ℕ) → (there : ℕ) × EndsIn kinds Has (holds bytes) at there → EndsIn kinds Has (holds bytes) found place → Refusing at → Refusing found
   ends_so at found place h e refuses = subst Refusing (once at found h.0 place h.1 e) refuses
 
-  pub ends_refused : (r : CaptureRefusal) → Refuses Has (holds bytes) r → (found : AtPlace) (place : ℕ) → EndsAt Has (holds bytes) found place → Refusing found
+  pub ends_refused : (r : CaptureRefusal) → RefusesIn kinds Has (holds bytes) r → (found : AtPlace) (place : ℕ) → EndsIn kinds Has (holds bytes) found place → Refusing found
   ends_refused refusal.Short h found place e = absurd (no_form form.Short found place h e)
   ends_refused refusal.Magic h found place e = absurd (no_form form.Magic found place h e)
   ends_refused refusal.Version h found place e = absurd (no_form form.Version found place h e)
@@ -130,34 +133,37 @@ module _ (Has : Content → Form → List Record → LastPlace → Type 0) (byte
   ends_refused _ h found place e = ends_so _ found place h e tt
 
 -- so one whose header is read and whose records end with the file is not refused, nor cut
-listing_end : (bytes : List ℕ) (has : HasRecordsToItsEnd bytes) → EndsAt HasListedRecords (holds bytes) FileEnd has.2.1
-listing_end bytes has = record { form = has.0; has_form = has.1; records = has.2.0; are_records = has.2.2 }
+listing_end : (kinds : LinkSet) (bytes : List ℕ) (has : HasRecordsIn kinds bytes) → EndsIn kinds HasListedRecords (holds bytes) FileEnd has.2.1
+listing_end kinds bytes has = record { form = has.0; has_form = has.1; records = has.2.0; are_records = has.2.2 }
 
 run_end : (bytes : List ℕ) (has : HasTimedRecords bytes) → EndsAt HasRunRecords (holds bytes) FileEnd has.2.1
 run_end bytes has = record { form = has.0; has_form = has.1; records = has.2.0; are_records = has.2.2 }
 
-listing_unrefused : (bytes : List ℕ) → HasRecordsToItsEnd bytes → (r : CaptureRefusal) → Refuses HasListedRecords (holds bytes) r → ⊥
-listing_unrefused bytes has r h = ends_refused HasListedRecords bytes (listing_once bytes) r h FileEnd has.2.1 (listing_end bytes has)
+listing_unrefused : (kinds : LinkSet) (bytes : List ℕ) → HasRecordsIn kinds bytes → (r : CaptureRefusal) → RefusesIn kinds HasListedRecords (holds bytes) r → ⊥
+listing_unrefused kinds bytes has r h = ends_refused kinds HasListedRecords bytes (listing_once kinds bytes) r h FileEnd has.2.1 (listing_end kinds bytes has)
 
-listing_uncut : (bytes : List ℕ) → HasRecordsToItsEnd bytes → (place : ℕ) → EndsAt HasListedRecords (holds bytes) Cut place → ⊥
-listing_uncut bytes has place h = cc (listing_once bytes Cut FileEnd place has.2.1 h (listing_end bytes has))
+listing_uncut : (kinds : LinkSet) (bytes : List ℕ) → HasRecordsIn kinds bytes → (place : ℕ) → EndsIn kinds HasListedRecords (holds bytes) Cut place → ⊥
+listing_uncut kinds bytes has place h = cc (listing_once kinds bytes Cut FileEnd place has.2.1 h (listing_end kinds bytes has))
 
 pub not_refused_run : (bytes : List ℕ) → HasTimedRecords bytes → (r : CaptureRefusal) → RunRefuses (holds bytes) r → ⊥
-not_refused_run bytes has r h = ends_refused HasRunRecords bytes (run_once bytes) r h FileEnd has.2.1 (run_end bytes has)
+not_refused_run bytes has r h = ends_refused set.Plain HasRunRecords bytes (run_once bytes) r h FileEnd has.2.1 (run_end bytes has)
 
 pub not_cut_run : (bytes : List ℕ) → HasTimedRecords bytes → (place : ℕ) → RunCuts (holds bytes) place → ⊥
 not_cut_run bytes has place h = cc (run_once bytes Cut FileEnd place has.2.1 h (run_end bytes has))
 
 -- a watched capture that is not too long
-pub not_refused_watch : (bytes : List ℕ) → HasRecordsToItsEnd bytes × (length bytes ≤ CAPTURE_LIMIT) → (file : Content) → file ≡ holds bytes → (r : CaptureRefusal) → WatchRefuses file r → ⊥
-not_refused_watch bytes has file told r h = by (subst (λ f. WatchRefuses f r) told h)
+pub not_refused_watch : (kinds : LinkSet) (bytes : List ℕ) → HasRecordsIn kinds bytes × (length bytes ≤ CAPTURE_LIMIT) → (file : Content) → file ≡ holds bytes →
+    (r : CaptureRefusal) → WatchRefusesIn kinds file r → ⊥
+not_refused_watch kinds bytes has file told r h = by (subst (λ f. WatchRefusesIn kinds f r) told h)
   where
-    by : WatchRefuses (holds bytes) r → ⊥
+    by : WatchRefusesIn kinds (holds bytes) r → ⊥
     by (inl (is, long)) = omega (arith, has.1, long)
-    by (inr s) = listing_unrefused bytes has.0 r s.refuses
+    by (inr s) = listing_unrefused kinds bytes has.0 r s.refuses
 
-pub not_cut_watch : (bytes : List ℕ) → HasRecordsToItsEnd bytes × (length bytes ≤ CAPTURE_LIMIT) → (file : Content) → file ≡ holds bytes → (place : ℕ) → WatchCuts file place → ⊥
-not_cut_watch bytes has file told place h = listing_uncut bytes has.0 place (listed (holds bytes) Cut place (subst (λ f. WatchCuts f place) told h))
+pub not_cut_watch : (kinds : LinkSet) (bytes : List ℕ) → HasRecordsIn kinds bytes × (length bytes ≤ CAPTURE_LIMIT) → (file : Content) → file ≡ holds bytes →
+    (place : ℕ) → WatchCutsIn kinds file place → ⊥
+not_cut_watch kinds bytes has file told place h =
+    listing_uncut kinds bytes has.0 place (listed kinds (holds bytes) Cut place (subst (λ f. WatchCutsIn kinds f place) told h))
 
 abbrev pub IsInForm : Command → Outside → Type 0
 IsInForm c before = (file : List ℕ) → capture_file c ≡ Some file → (bytes : List ℕ) × (before.files.content file ≡ holds bytes) × EndsWell c bytes
@@ -172,8 +178,8 @@ pub ends_in_form : (c : Command) (before : Outside) → IsInForm c before → Te
 ends_in_form (Packets capture) before good tells =
     let (bytes, told, has) = good capture refl in
     record {
-      refused = λ r h. listing_unrefused bytes has r (subst (λ f. Refuses HasListedRecords f r) told h.0);
-      cut = λ place h. listing_uncut bytes has place (subst (λ f. EndsAt HasListedRecords f Cut place) told h);
+      refused = λ r h. listing_unrefused set.Plain bytes has r (subst (λ f. Refuses HasListedRecords f r) told h.0);
+      cut = λ place h. listing_uncut set.Plain bytes has place (subst (λ f. EndsAt HasListedRecords f Cut place) told h);
       run_cut = λ place h. h;
     }
 ends_in_form (Run policy names) before good tells =
@@ -182,13 +188,13 @@ ends_in_form (Run policy names) before good tells =
     record { refused = λ r h. not_refused_run bytes has r (subst (λ f. RunRefuses f r) told h); cut = uncut; run_cut = uncut }
 ends_in_form (Judge policy capture) before good tells =
     let (bytes, told, has) = good capture refl in
-    record { refused = not_refused_watch bytes has _ told; cut = not_cut_watch bytes has _ told; run_cut = λ place h. h }
+    record { refused = not_refused_watch set.Plain bytes has _ told; cut = not_cut_watch set.Plain bytes has _ told; run_cut = λ place h. h }
 ends_in_form (Learn policy capture out) before good tells =
     let (bytes, told, has) = good capture refl in
-    record { refused = not_refused_watch bytes has _ told; cut = not_cut_watch bytes has _ told; run_cut = λ place h. h }
+    record { refused = not_refused_watch set.Plain bytes has _ told; cut = not_cut_watch set.Plain bytes has _ told; run_cut = λ place h. h }
 ends_in_form (Review policy capture log) before good tells =
     let (bytes, told, has) = good capture refl in
-    record { refused = not_refused_watch bytes has _ told; cut = not_cut_watch bytes has _ told; run_cut = λ place h. h }
+    record { refused = not_refused_watch set.Recorded bytes has _ told; cut = not_cut_watch set.Recorded bytes has _ told; run_cut = λ place h. h }
 ends_in_form (World seed sessions policy names) before good tells = record { refused = λ r h. tells.1 h; cut = λ place h. tells.1 h; run_cut = λ place h. tells.1 h }
 ends_in_form _ before good tells = record { refused = λ r h. h; cut = λ place h. h; run_cut = λ place h. h }
 

@@ -16,6 +16,7 @@ use Rattle.cf_policy.specs.declared.Policy.{Policy}
 use Rattle.cf_policylang.specs.Documents.{policy_meaning}
 use Rattle.cf_policylang.specs.declared.PolicyRefusal.{PolicyRefusal}
 use Rattle.cf_words.specs.Command.{Command, Check, Compare, Judge, Migrate, Packets, Review, Run, Relay, World, Sift, policy_file, Learn}
+use Rattle.cf_view.specs.declared.LinkSet.TheVariants as set
 use Rattle.cf_box.specs.Compare.{IsIncluded, OfPolicies, TellsNotIncluded}
 use Rattle.cf_box.specs.Ends.{Does, LacksAsset, Meets, PassesPolicy, RefusesPolicy}
 use Rattle.cf_box.specs.Learn.{Learns}
@@ -281,8 +282,8 @@ module _ (failed : Type 0) (status : ℕ) (before after : Outside) where
         absurd (known_unrefused (Judge policy capture) before policy t.known.bytes t.known.policy r refl t.known.told t.known.means (λ second e. cc e) meets.0)
     objection_from (Err stop.UnknownAsset) meets h = let cause : LacksAsset (Judge policy capture) before = meets.0 in absurd (cc (cause.3))
     objection_from (Err stop.WriteFault) meets h = absurd (meets.1.unwritten refl)
-    objection_from (Err (stop.CaptureRefused r)) meets h = absurd (not_refused_watch t.bytes (t.ends, t.short) _ t.told r meets.0.0)
-    objection_from (Err (stop.CaptureCut place)) meets h = absurd (not_cut_watch t.bytes (t.ends, t.short) _ t.told place meets.0.0)
+    objection_from (Err (stop.CaptureRefused r)) meets h = absurd (not_refused_watch set.Plain t.bytes (t.ends, t.short) _ t.told r meets.0.0)
+    objection_from (Err (stop.CaptureCut place)) meets h = absurd (not_cut_watch set.Plain t.bytes (t.ends, t.short) _ t.told place meets.0.0)
     objection_from (Err (stop.Denied why)) meets h = inl (inl (stop_is failed status (stop.Denied why) h))
     objection_from (Err _) meets h = absurd meets.0.0
 
@@ -299,8 +300,8 @@ module _ (failed : Type 0) (status : ℕ) (before after : Outside) where
         absurd (known_unrefused (Review policy capture log) before policy t.known.bytes t.known.policy r refl t.known.told t.known.means (λ second e. cc e) meets.0)
     remark_from (Err stop.UnknownAsset) meets h = let cause : LacksAsset (Review policy capture log) before = meets.0 in absurd (cc (cause.3))
     remark_from (Err stop.WriteFault) meets h = inr (inl (stop_is failed status stop.WriteFault h, inl meets.0.0))
-    remark_from (Err (stop.CaptureRefused r)) meets h = absurd (not_refused_watch t.bytes (t.ends, t.short) _ t.told r meets.0.0)
-    remark_from (Err (stop.CaptureCut place)) meets h = absurd (not_cut_watch t.bytes (t.ends, t.short) _ t.told place meets.0.0)
+    remark_from (Err (stop.CaptureRefused r)) meets h = absurd (not_refused_watch set.Recorded t.bytes (t.ends, t.short) _ t.told r meets.0.0)
+    remark_from (Err (stop.CaptureCut place)) meets h = absurd (not_cut_watch set.Recorded t.bytes (t.ends, t.short) _ t.told place meets.0.0)
     remark_from (Err (stop.Denied why)) meets h = inl (stop_is failed status (stop.Denied why) h)
     remark_from (Err _) meets h = absurd meets.0.0
 
@@ -317,8 +318,8 @@ module _ (failed : Type 0) (status : ℕ) (before after : Outside) where
         absurd (known_unrefused (Learn policy capture out) before policy t.known.bytes t.known.policy r refl t.known.told t.known.means (λ second e. cc e) meets.0)
     rules_from (Err stop.UnknownAsset) meets h = let cause : LacksAsset (Learn policy capture out) before = meets.0 in absurd (cc (cause.3))
     rules_from (Err stop.WriteFault) meets h = absurd (t.none_learned meets.1.learned meets.1.learns)
-    rules_from (Err (stop.CaptureRefused r)) meets h = absurd (not_refused_watch t.bytes (t.ends, t.short) _ t.told r meets.0.0)
-    rules_from (Err (stop.CaptureCut place)) meets h = absurd (not_cut_watch t.bytes (t.ends, t.short) _ t.told place meets.0.0)
+    rules_from (Err (stop.CaptureRefused r)) meets h = absurd (not_refused_watch set.Plain t.bytes (t.ends, t.short) _ t.told r meets.0.0)
+    rules_from (Err (stop.CaptureCut place)) meets h = absurd (not_cut_watch set.Plain t.bytes (t.ends, t.short) _ t.told place meets.0.0)
     rules_from (Err (stop.TooManyRules name)) meets h = inl (stop_is failed status (stop.TooManyRules name) h)
     rules_from (Err _) meets h = absurd meets.0.0
 

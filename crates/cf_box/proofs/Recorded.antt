@@ -10,7 +10,8 @@ use Rattle.cf_review.specs.Review.{IsReviewOf}
 use Rattle.cf_review.specs.declared.Counts.{Counts}
 use Rattle.cf_review.specs.declared.Reviewed.{Reviewed}
 use Rattle.cf_watch.specs.FlowValue.{FlowValue}
-use Rattle.cf_watch.specs.Watch.{IsRecordingOf, WatchesAs}
+use Rattle.cf_view.specs.declared.LinkSet.TheVariants as set
+use Rattle.cf_watch.specs.Watch.{FailsAs, IsRecordingOf}
 use Rattle.cf_watch.specs.declared.WatchFault.{WatchFault}
 use Rattle.cf_watch.specs.declared.WatchFault.TheVariants as fault
 use Rattle.cf_watch.specs.declared.WatchRefusal.TheVariants as watch
@@ -40,9 +41,9 @@ module _ (policy capture log : List ℕ) (before : Outside) (p : Policy) (has : 
 
   pub unwatched_meets : (middle after : Outside) → ReadsOnly before.files middle.files → after.files.content ≡ middle.files.content → after.sink ≡ before.sink →
       after.pair ≡ before.pair → (f : WatchFault) → (f ≡ fault.Read → ReadFailed middle after) →
-      WatchesAs p.assets (middle.files.content capture) (Err f) → Meets (Review policy capture log) before after (Err (fault_stop f))
+      FailsAs set.Recorded (middle.files.content capture) f → Meets (Review policy capture log) before after (Err (fault_stop f))
   unwatched_meets middle after only same sink pair f read w = (
-    unwatched (Review policy capture log) before after capture p.assets (λ r h. h) (λ place h. h) passes middle only f read w,
+    unwatched (Review policy capture log) before after capture set.Recorded (λ r h. h) (λ place h. h) passes middle only f read w,
     unwatched_leaves after f (record { content = same ∙ only.content; sink = sink; pair = pair }),
   )
 

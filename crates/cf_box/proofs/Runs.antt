@@ -12,6 +12,7 @@ use Rattle.cf_run.specs.declared.run.RunFault.{RunFault}
 use Rattle.cf_run.specs.declared.run.RunFault.TheVariants as fault
 use Rattle.cf_run.specs.declared.run.RunRefusal.TheVariants as by
 use Rattle.cf_run.specs.declared.summary.Summary.{Summary}
+use Rattle.cf_view.specs.declared.LinkSet.TheVariants as set
 use Rattle.cf_ending.specs.Captures.{EndsAt}
 use Rattle.cf_words.specs.Command.{Run}
 use Rattle.cf_box.specs.Ends.{Meets, PassesPolicy, StopsFor}
@@ -48,9 +49,9 @@ module _ (policy_name : List ℕ) (names : RunNamesValue) (before after : Outsid
   stops fault.NoMemory h read write = tt
   stops fault.Read h read write = read refl
   stops fault.Write h read write = (inl (write refl), passes)
-  stops (fault.Refused (by.Header of)) h read write = (form_refuses HasRunRecords (before.files.content names.capture) of h.0, passes)
+  stops (fault.Refused (by.Header of)) h read write = (form_refuses set.Plain HasRunRecords (before.files.content names.capture) of h.0, passes)
   stops (fault.Refused (by.Block of)) h read write =
-      (block_refuses HasRunRecords (before.files.content names.capture) of (h.0, ends_at _ h.0 h.1 h.2), passes)
+      (block_refuses set.Plain HasRunRecords (before.files.content names.capture) of (h.0, ends_at _ h.0 h.1 h.2), passes)
   stops (fault.Cut at summary) h read write = (ends_at _ at summary h, passes)
   stops (fault.Refused _) h read write = ((h.0, ends_at _ h.0 h.1 h.2), passes)
 

@@ -14,7 +14,7 @@ use Rattle.cf_words.specs.Command.{policy_file, Learn}
 use Rattle.cf_box.specs.Compare.{CompareLeaves, Compares, DeniesInclusion, FilesExceed}
 use Rattle.cf_ending.specs.Ending.{Puts, Reports}
 use Rattle.cf_box.specs.Judge.{JudgesClean, Objects}
-use Rattle.cf_box.specs.Watching.{WatchCuts, WatchRefuses}
+use Rattle.cf_box.specs.Watching.{ReviewCuts, ReviewRefuses, WatchCuts, WatchRefuses}
 use Rattle.cf_box.specs.Learn.{FilesShowTooMuch, LearnLeaves, WritesLearned}
 use Rattle.cf_box.specs.Migrate.{MigrateLeaves, Migrates}
 use Rattle.cf_ending.specs.Outside.{Outside, ReadFailed, WriteFailed}
@@ -68,7 +68,7 @@ abbrev pub RefusesCapture : Command → Outside → CaptureRefusal → Type 0
 RefusesCapture (Packets capture) before r = ListingRefuses (before.files.content capture) r
 RefusesCapture (Judge policy capture) before r = WatchRefuses (before.files.content capture) r
 RefusesCapture (Learn policy capture out) before r = WatchRefuses (before.files.content capture) r
-RefusesCapture (Review policy capture log) before r = WatchRefuses (before.files.content capture) r
+RefusesCapture (Review policy capture log) before r = ReviewRefuses (before.files.content capture) r
 RefusesCapture (Run policy names) before r = RunRefuses (before.files.content names.capture) r
 RefusesCapture (World seed sessions policy names) before r = before.files.content names.capture ≡ untold
 RefusesCapture _ before r = ⊥
@@ -78,7 +78,7 @@ abbrev pub CutsCapture : Command → Outside → ℕ → Type 0
 CutsCapture (Packets capture) before place = ListingCuts (before.files.content capture) place
 CutsCapture (Judge policy capture) before place = WatchCuts (before.files.content capture) place
 CutsCapture (Learn policy capture out) before place = WatchCuts (before.files.content capture) place
-CutsCapture (Review policy capture log) before place = WatchCuts (before.files.content capture) place
+CutsCapture (Review policy capture log) before place = ReviewCuts (before.files.content capture) place
 CutsCapture (Run policy names) before place = RunCuts (before.files.content names.capture) place
 CutsCapture (World seed sessions policy names) before place = before.files.content names.capture ≡ untold
 CutsCapture _ before place = ⊥

@@ -8,7 +8,9 @@ use Rattle.cf_lane.specs.Rates.{KeepsRates}
 use Rattle.cf_outside.specs.Files.{Content, holds, untold, IsWhole, content_after_write}
 use Rattle.cf_outside.specs.PairValue.{PairValue}
 use Rattle.cf_records.specs.Capture.{AreRecords, FileEnd, Record}
-use Rattle.cf_records.specs.Form.{first_place, form_of}
+use Rattle.cf_records.specs.Form.{first_place, form_in, form_of}
+use Rattle.cf_view.specs.declared.LinkSet.{LinkSet}
+use Rattle.cf_view.specs.declared.LinkSet.TheVariants as set
 use Rattle.cf_records.specs.Moments.{AreTimed, first_moment}
 use Rattle.cf_records.specs.declared.Form.{Form}
 use Rattle.cf_policy.specs.declared.Asset.{Asset}
@@ -22,7 +24,7 @@ use Rattle.cf_box.specs.Compare.{IncludesAll, IsIncluded, OfPolicies, TellsNotIn
 use Rattle.cf_box.specs.Ends.{CutsCapture, CutsStream, Denies, EndsIdle, ExceedsCells, LacksAsset, LinkFails, RefusesCapture, RefusesPolicy}
 use Rattle.cf_box.specs.Ends.{ExceedsRules}
 use Rattle.cf_box.specs.Judge.{KeepsPolicy, NeverObjects}
-use Rattle.cf_box.specs.Watching.{WatchCuts, WatchRefuses}
+use Rattle.cf_box.specs.Watching.{ReviewCuts, ReviewRefuses, WatchCuts, WatchRefuses}
 use Rattle.cf_box.specs.Learn.{Learns, NeverTooMuch}
 use Rattle.cf_ending.specs.Outside.{Outside, ReadFailed, WriteFailed}
 use Rattle.cf_box.specs.Packets.{ListingCuts, ListingRefuses}
@@ -109,11 +111,15 @@ pub record SiftPassesAllowed (policy name : List ℕ) (client : ℕ) (names : Si
   pub output : after.files.content names.out ≡ content_after_write (before.files.content names.out) passed
 
 -- a capture's records, up to the end of its bytes; and the same where each has its moment
-abbrev pub HasRecordsToItsEnd : List ℕ → Type 0
-HasRecordsToItsEnd bytes =
-    (form : Form) × (form_of bytes ≡ Ok form)
+abbrev pub HasRecordsIn : LinkSet → List ℕ → Type 0
+HasRecordsIn kinds bytes =
+    (form : Form) × (form_in kinds bytes ≡ Ok form)
     × ((records : List Record) × (place : ℕ)
     × AreRecords form (first_place form) (drop (first_place form) bytes) records (record { place = place; found = FileEnd }))
+
+-- the same of a capture of Ethernet or raw IP
+abbrev pub HasRecordsToItsEnd : List ℕ → Type 0
+HasRecordsToItsEnd bytes = HasRecordsIn set.Plain bytes
 
 -- a capture each of whose records is tested with its moment
 abbrev pub HasTimedRecords : List ℕ → Type 0
@@ -127,7 +133,7 @@ abbrev pub EndsWell : Command → List ℕ → Type 0
 EndsWell (Packets capture) bytes = HasRecordsToItsEnd bytes
 EndsWell (Judge policy capture) bytes = HasRecordsToItsEnd bytes × (length bytes ≤ CAPTURE_LIMIT)
 EndsWell (Learn policy capture out) bytes = HasRecordsToItsEnd bytes × (length bytes ≤ CAPTURE_LIMIT)
-EndsWell (Review policy capture log) bytes = HasRecordsToItsEnd bytes × (length bytes ≤ CAPTURE_LIMIT)
+EndsWell (Review policy capture log) bytes = HasRecordsIn set.Recorded bytes × (length bytes ≤ CAPTURE_LIMIT)
 EndsWell (Run policy names) bytes = HasTimedRecords bytes
 EndsWell _ bytes = Unit {0}
 
@@ -237,7 +243,7 @@ pub record TellsRemark (policy capture : List ℕ) (before : Outside) : Type 0 w
   pub known : TellsPolicy (before.files.content policy)
   pub bytes : List ℕ
   pub told : before.files.content capture ≡ holds bytes
-  pub ends : HasRecordsToItsEnd bytes
+  pub ends : HasRecordsIn set.Recorded bytes
   pub short : length bytes ≤ CAPTURE_LIMIT
   pub not_clean : NothingRemarked policy capture before → ⊥
 
@@ -283,7 +289,7 @@ TellsRefusedCapture (Judge policy capture) before = TellsPolicy (before.files.co
 TellsRefusedCapture (Run policy names) before = TellsPolicy (before.files.content policy)
     × TellsRefusal RunRefuses (before.files.content names.capture)
 TellsRefusedCapture (Review policy capture log) before = TellsPolicy (before.files.content policy)
-    × TellsRefusal WatchRefuses (before.files.content capture)
+    × TellsRefusal ReviewRefuses (before.files.content capture)
 TellsRefusedCapture (Learn policy capture out) before = TellsPolicy (before.files.content policy)
     × TellsRefusal WatchRefuses (before.files.content capture)
 TellsRefusedCapture _ before = ⊥
@@ -296,7 +302,7 @@ TellsCutCapture (Judge policy capture) before = TellsPolicy (before.files.conten
 TellsCutCapture (Run policy names) before = TellsPolicy (before.files.content policy)
     × TellsCutAt RunCuts (before.files.content names.capture)
 TellsCutCapture (Review policy capture log) before = TellsPolicy (before.files.content policy)
-    × TellsCutAt WatchCuts (before.files.content capture)
+    × TellsCutAt ReviewCuts (before.files.content capture)
 TellsCutCapture (Learn policy capture out) before = TellsPolicy (before.files.content policy)
     × TellsCutAt WatchCuts (before.files.content capture)
 TellsCutCapture _ before = ⊥

@@ -1,4 +1,4 @@
--- Why the capture of a command is not watched to its end, and the flows of one that is: `WatchRefuses`, `WatchCuts` and `HasWatched`.
+-- Why the capture of a command is not watched to its end, and the flows of one that is: `WatchRefusesIn`, `WatchCutsIn` and `HasWatched`.
 -- What is watched is said in `cf_watch`.
 use Rattle.std.specs.Prelude.{◌≡◌, ◌≢◌, ◌⊎◌, ℕ, List}
 use Rattle.cf_outside.specs.Files.{Content, IsAtEnd, IsLongerThan}
@@ -10,7 +10,9 @@ use Rattle.cf_watch.specs.declared.WatchFault.{WatchFault}
 use Rattle.cf_watch.specs.declared.WatchFault.TheVariants as fault
 use Rattle.cf_watch.specs.declared.WatchRefusal.TheVariants as watch
 use Rattle.cf_watch.specs.declared.fault.TheConstants.{CAPTURE_LIMIT}
-use Rattle.cf_ending.specs.Captures.{Refuses, block_refusal, form_refusal}
+use Rattle.cf_ending.specs.Captures.{RefusesIn, block_refusal, form_refusal}
+use Rattle.cf_view.specs.declared.LinkSet.{LinkSet}
+use Rattle.cf_view.specs.declared.LinkSet.TheVariants as set
 use Rattle.cf_ending.specs.Outside.{Outside}
 use Rattle.cf_box.specs.Packets.{HasListedRecords}
 use Rattle.cf_box.specs.PolicyFile.{HasPolicy}
@@ -30,19 +32,32 @@ fault_stop (fault.Refused (watch.Header of)) = stop.CaptureRefused (form_refusal
 fault_stop (fault.Refused (watch.Block of)) = stop.CaptureRefused (block_refusal of)
 
 -- a capture that is not longer than the limit is refused as a listing refuses it; no place of it reaches 2^40
-pub record WatchRefusesShort (file : Content) (r : CaptureRefusal) : Type 0 where
+pub record WatchRefusesShort (kinds : LinkSet) (file : Content) (r : CaptureRefusal) : Type 0 where
   pub short : IsAtEnd file CAPTURE_LIMIT
-  pub refuses : Refuses HasListedRecords file r
+  pub refuses : RefusesIn kinds HasListedRecords file r
   pub no_clock : r ≢ refusal.Clock
   pub no_large : r ≢ refusal.Large
 
--- a refusal of a capture whose length is tested first
-abbrev pub WatchRefuses : Content → CaptureRefusal → Type 0
-WatchRefuses file r = ((r ≡ refusal.Long) × IsLongerThan file CAPTURE_LIMIT) ⊎ WatchRefusesShort file r
+-- a refusal of a capture of these link types whose length is tested first
+abbrev pub WatchRefusesIn : LinkSet → Content → CaptureRefusal → Type 0
+WatchRefusesIn kinds file r = ((r ≡ refusal.Long) × IsLongerThan file CAPTURE_LIMIT) ⊎ WatchRefusesShort kinds file r
 
 -- the capture that is watched ends inside the record at this place
+abbrev pub WatchCutsIn : LinkSet → Content → (place : ℕ) → Type 0
+WatchCutsIn kinds file place = EndsAt kinds file Cut place
+
+-- the same of a capture whose connections are watched, and of a recording that is reviewed
+abbrev pub WatchRefuses : Content → CaptureRefusal → Type 0
+WatchRefuses file r = WatchRefusesIn set.Plain file r
+
 abbrev pub WatchCuts : Content → (place : ℕ) → Type 0
-WatchCuts file place = EndsAt file Cut place
+WatchCuts file place = WatchCutsIn set.Plain file place
+
+abbrev pub ReviewRefuses : Content → CaptureRefusal → Type 0
+ReviewRefuses file r = WatchRefusesIn set.Recorded file r
+
+abbrev pub ReviewCuts : Content → (place : ℕ) → Type 0
+ReviewCuts file place = WatchCutsIn set.Recorded file place
 
 -- the policy of a file means this, and these are the flows of a capture to its assets
 pub record HasWatched (policy capture : List ℕ) (before : Outside) (p : Policy) (flows : List FlowValue) : Type 0 where

@@ -9,7 +9,7 @@ use cf_outside::{Files, ReadAnswer};
 use cf_pcap::{CAPTURED_LIMIT, u32_at};
 use cf_pcapng::is_section;
 use cf_records::{FormRefusal, MOMENT_LIMIT, NextRecord, OpenFault, RecordReader};
-use cf_view::View;
+use cf_view::{LinkSet, View};
 use std::alloc::{AllocError, Global};
 
 /// The first octets of a file that gzip made. RFC 1952, section 2.3.1.
@@ -27,26 +27,33 @@ enum Last {
     TooLate,
 }
 
-/// Why the capture in a file is refused, or where it is cut, and what to do. It is read again, record by record. A command that
-/// gives each record a moment refuses one that comes too late (`has_moments`). Nothing where the records end with the file, and
-/// where it cannot be read again, as a pipe.
+/// Why the capture in a file is refused by a command that reads these link types, or where it is cut, and what to do. It is read again,
+/// record by record. A command that gives each record a moment refuses one that comes too late (`has_moments`). Nothing where the records
+/// end with the file, and where it cannot be read again, as a pipe.
 pub fn capture_message<F: Files>(
     alloc: Global,
+    kinds: LinkSet,
     file: &str,
     has_moments: bool,
     files: &mut F,
 ) -> Result<Option<String>, AllocError> {
     let mut out = Page::new(alloc);
     out.push_all(&[file, ": "]);
-    let is_told = push_why(&mut out, file, has_moments, files);
+    let is_told = push_why(&mut out, kinds, file, has_moments, files);
     let text = out.finish()?;
     Ok(is_told.then_some(text))
 }
 
 /// Says why a capture is refused or where it is cut, if it is, and whether it did.
-fn push_why<F: Files>(out: &mut Page, file: &str, has_moments: bool, files: &mut F) -> bool {
+fn push_why<F: Files>(
+    out: &mut Page,
+    kinds: LinkSet,
+    file: &str,
+    has_moments: bool,
+    files: &mut F,
+) -> bool {
     let first = first_octets(file, files);
-    match RecordReader::open(out.alloc, file, files) {
+    match RecordReader::open_in(out.alloc, kinds, file, files) {
         Err(OpenFault::Refused(refusal)) => {
             push_header(out, refusal, &first);
             true

@@ -27,7 +27,10 @@ pub(crate) fn link_hint(link: u32) -> &'static str {
     if has_check_sequence(link) {
         return "\n  'editcap -F pcap -T ether IN OUT' writes it as Ethernet";
     }
-    "\n  capture on one interface, as 'tcpdump -i eth0 -w OUT'; '-i any' has another link type"
+    if link == 113 || link == 276 {
+        return "\n  'cmdwall review' reads it; for others capture on one interface, as 'tcpdump -i eth0 -w OUT'";
+    }
+    "\n  capture on one interface, as 'tcpdump -i eth0 -w OUT'"
 }
 
 /// Whether the link type of a classic file's header is Ethernet with more in its upper half: the length of a frame check sequence.

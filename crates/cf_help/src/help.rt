@@ -220,11 +220,13 @@ writes all that POLICY objects to in what clients sent to its assets in a captur
 (docs/REVIEW.md): what a box with POLICY would have met there
 
   POLICY   a text in the policy language (docs/POLICY.md)
-  CAPTURE  a pcap or pcapng file, of Ethernet or raw IP, of at most 67,108,864 bytes
+  CAPTURE  a pcap or pcapng file, of Ethernet, raw IP or 'tcpdump -i any', of at most
+           67,108,864 bytes
   LOG      is created behind all else, and gets the lines, in the order of the records
 
 The three names differ. A flow is what one client sends to one asset, from a SYN on, or from its
-first data in the capture on; VLAN tags are passed over. Each line has the moment of the record
+first data in the capture on; VLAN tags are passed over, and a TCP sum of the pseudo header
+alone, as a sending host records it, counts as right. Each line has the moment of the record
 with which the thing was whole, the client, the asset, and one of
 
   refuse RULE REASON code C group G point X value V unanswered HEX   (docs/LOG.md)

@@ -15,6 +15,7 @@ use cf_machine::{LinkFault, Part, RealFiles, Withheld};
 use cf_outside::{Files, ReadAnswer, WholeFault, read_whole};
 use cf_policy::Policy;
 use cf_policylang::{Cause, Key, LONGEST_TEXT, PolicyFault, PolicyRefusal, read_policy};
+use cf_view::LinkSet;
 use cf_watch::CAPTURE_LIMIT;
 use cf_words::status::{
     CAPTURE_CUT, CAPTURE_REFUSED, DENIED, DONE, IDLE_END, LINK_FAULT, NO_MEMORY, POLICY_REFUSED,
@@ -204,16 +205,21 @@ fn explain_bad_capture<R: FileSystem + Eprint + AllocGlobal>(
 ) -> io::Result<()> {
     match command {
         Command::Run { names, .. } | Command::World { names, .. } => {
-            explain_capture(rt, names.capture, true, files)
+            explain_capture(rt, LinkSet::Plain, names.capture, true, files)
+        }
+        Command::Judge { capture, .. } | Command::Learn { capture, .. }
+            if status == CAPTURE_REFUSED => explain_watched(rt, LinkSet::Plain, capture, files),
+        Command::Review { capture, .. } if status == CAPTURE_REFUSED => {
+            explain_watched(rt, LinkSet::Recorded, capture, files)
+        }
+        Command::Review { capture, .. } => {
+            explain_capture(rt, LinkSet::Recorded, capture, false, files)
         }
         Command::Judge { capture, .. }
         | Command::Learn { capture, .. }
-        | Command::Review { capture, .. }
-            if status == CAPTURE_REFUSED => explain_watched(rt, capture, files),
-        Command::Judge { capture, .. }
-        | Command::Learn { capture, .. }
-        | Command::Review { capture, .. }
-        | Command::Packets { capture } => explain_capture(rt, capture, false, files),
+        | Command::Packets { capture } => {
+            explain_capture(rt, LinkSet::Plain, capture, false, files)
+        }
         _ => Ok(()),
     }
 }
@@ -475,6 +481,7 @@ fn explain_asset<R: FileSystem + Eprint + AllocGlobal>(
 /// Why a capture is refused that is watched: it is too long, or its octets are at fault. A pipe cannot be read a second time.
 fn explain_watched<R: FileSystem + Eprint + AllocGlobal>(
     rt: &R,
+    kinds: LinkSet,
     name: &str,
     files: &mut RealFiles<'_, R>,
 ) -> io::Result<()> {
@@ -485,18 +492,19 @@ fn explain_watched<R: FileSystem + Eprint + AllocGlobal>(
                 "cmdwall: {name}: it has more than 67,108,864 bytes, and no longer capture is watched"
             )
         }
-        ReadAnswer::End | ReadAnswer::Failed => explain_capture(rt, name, false, files),
+        ReadAnswer::End | ReadAnswer::Failed => explain_capture(rt, kinds, name, false, files),
     }
 }
 
 /// Why a capture is refused, or where it is cut. `has_moments`: the command gives each record a moment.
 fn explain_capture<R: FileSystem + Eprint + AllocGlobal>(
     rt: &R,
+    kinds: LinkSet,
     name: &str,
     has_moments: bool,
     files: &mut RealFiles<'_, R>,
 ) -> io::Result<()> {
-    match capture_message(rt.alloc(), name, has_moments, files)? {
+    match capture_message(rt.alloc(), kinds, name, has_moments, files)? {
         Some(message) => eprintln!(rt; "cmdwall: {message}"),
         None => Ok(()),
     }

@@ -5,7 +5,7 @@ use cf_pcap::{
     Header, HeaderRefusal, RecordAnswer, read_header, read_record, write_header, write_record_head,
 };
 use cf_samples::rows::row;
-use cf_view::LinkKind;
+use cf_view::{LinkKind, LinkSet};
 use std::alloc::Global;
 use std::process::Abort;
 
@@ -61,6 +61,8 @@ fn header_text(rt: &impl Abort, alloc: Global, header: Header) -> String {
     let link = match header.link {
         LinkKind::Ethernet => "ethernet",
         LinkKind::RawIp => "raw",
+        LinkKind::LinuxCooked => "cooked",
+        LinkKind::LinuxCooked2 => "cooked2",
     };
     format!(in alloc; "{order} {fraction} {link}").expect(rt, "memory")
 }
@@ -86,7 +88,7 @@ fn record_text(rt: &impl Abort, alloc: Global, record: &RecordAnswer<'_>) -> Str
 }
 
 fn check_header(rt: &impl Abort, alloc: Global, line: &str, octets: &[u8], wanted: &str) {
-    match read_header(octets) {
+    match read_header(LinkSet::Plain, octets) {
         Ok(header) => same(rt, line, header_text(rt, alloc, header).as_str(), wanted),
         Err(refusal) => same(rt, line, refusal_word(refusal), wanted),
     }

@@ -3,7 +3,7 @@
 use crate::lines::{hex, octets, parted, same};
 use cf_pcapng::{BlockAnswer, BlockSize, Interface, Reader, is_section};
 use cf_samples::rows::row;
-use cf_view::LinkKind;
+use cf_view::{LinkKind, LinkSet};
 use std::alloc::Global;
 use std::process::Abort;
 
@@ -166,6 +166,8 @@ fn link_word(link: LinkKind) -> &'static str {
     match link {
         LinkKind::Ethernet => "ethernet",
         LinkKind::RawIp => "raw",
+        LinkKind::LinuxCooked => "cooked",
+        LinkKind::LinuxCooked2 => "cooked2",
     }
 }
 
@@ -209,13 +211,13 @@ fn found(rt: &impl Abort, alloc: Global, reader: &mut Reader, what: &str, octets
 #[test]
 fn reads_blocks(rt: HostRuntime) {
     let alloc = rt.alloc();
-    let mut reader = Reader::new(alloc).expect(&rt, "memory");
+    let mut reader = Reader::new(alloc, LinkSet::Plain).expect(&rt, "memory");
     for line in BLOCKS.lines() {
         if let Some((given, wanted)) = row(line) {
             let (what, spelled) = parted(given);
             let octets = octets(&rt, alloc, spelled);
             if what == "new" {
-                reader = Reader::new(alloc).expect(&rt, "memory");
+                reader = Reader::new(alloc, LinkSet::Plain).expect(&rt, "memory");
             }
             let found = found(&rt, alloc, &mut reader, what, octets.as_slice());
             same(&rt, line, found.as_str(), wanted);

@@ -8,17 +8,20 @@ use Rattle.cf_packet.specs.Checksum.{is_right}
 use Rattle.cf_packet.specs.declared.packet.PacketRefusal.{PacketRefusal}
 use Rattle.cf_packet.specs.declared.packet.PacketRefusal.TheVariants as refusal
 
--- what stands after the Ethernet header of 14 octets, if its type is that of IPv4. RFC 894
-abbrev pub ethernet_payload : List ℕ → Option (List ℕ)
-ethernet_payload octets =
-    if nat_lt (length octets) 14 then None
-    else if u16_be_at octets 12 == 0x0800 then Some (drop 14 octets)
+-- what stands after a header of so many octets, if the type at this place of it is that of IPv4
+abbrev pub typed_payload : (type_at size : ℕ) → List ℕ → Option (List ℕ)
+typed_payload type_at size octets =
+    if nat_lt (length octets) size then None
+    else if u16_be_at octets type_at == 0x0800 then Some (drop size octets)
     else None
 
--- the packet in the octets of a record
+-- the packet in the octets of a record: after the header of Ethernet (RFC 894), or that of LINKTYPE_LINUX_SLL or LINKTYPE_LINUX_SLL2
+-- (tcpdump.org's list of link types), with its type in it
 abbrev pub payload : LinkKind → List ℕ → Option (List ℕ)
-payload link.Ethernet octets = ethernet_payload octets
+payload link.Ethernet octets = typed_payload 12 14 octets
 payload link.RawIp octets = Some octets
+payload link.LinuxCooked octets = typed_payload 14 16 octets
+payload link.LinuxCooked2 octets = typed_payload 0 20 octets
 
 -- the field Version
 abbrev pub version : List ℕ → ℕ

@@ -5,7 +5,7 @@ ghost use Rattle.cf_packet.specs.Recorded.{read_recorded, recorded_payload};
 
 use crate::header::{header_length, header_refusal, total_length};
 use crate::packet::{Packet, PacketRefusal};
-use crate::read::ethernet_payload;
+use crate::read::payload;
 use crate::segment::recorded_segment;
 use cf_view::{LinkKind, View};
 
@@ -16,12 +16,9 @@ pub fn read_recorded<'a>(link: &LinkKind, bytes: &'a [u8]) -> Result<Packet<'a>,
     ensures answer { packet_answer result ≡ read_recorded link.now bytes.now }
     ensures text { IfOk result (λ packet. length packet.text.now ≤ 65535) }
 {
-    match link {
-        LinkKind::RawIp => recorded_ipv4(bytes),
-        LinkKind::Ethernet => match ethernet_payload(bytes) {
-            Some(packet) => recorded_ipv4(packet),
-            None => Err(PacketRefusal::NotIpv4),
-        },
+    match payload(link, bytes) {
+        Some(packet) => recorded_ipv4(packet),
+        None => Err(PacketRefusal::NotIpv4),
     }
 }
 

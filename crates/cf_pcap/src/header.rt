@@ -1,8 +1,8 @@
 //! The header of a capture file.
 ghost use Rattle.std.specs.Prelude.{◌≡◌, ◌+◌, ◌≤◌, length};
-ghost use Rattle.cf_pcap.specs.Header.{fields_of, header_of, is_magic, u16_at, u32_at};
+ghost use Rattle.cf_pcap.specs.Header.{fields_of, header_in, is_magic, u16_at, u32_at};
 
-use cf_view::{LinkKind, View};
+use cf_view::{LinkKind, LinkSet, View, link_kind};
 
 /// What the header of a capture file says about its records. draft-ietf-opsawg-pcap, section 4.
 #[derive(Clone, Copy)]
@@ -24,7 +24,7 @@ pub enum HeaderRefusal {
     Magic,
     /// The version is not 2.4.
     Version,
-    /// The link type is neither 1 (Ethernet) nor 101 (raw IP).
+    /// The link type is none of those that are read.
     LinkType,
 }
 
@@ -33,20 +33,20 @@ pub const MICROSECONDS: u32 = 0xA1B2_C3D4;
 /// The magic of files whose fractions are nanoseconds. draft-ietf-opsawg-pcap, section 4.
 pub const NANOSECONDS: u32 = 0xA1B2_3C4D;
 
-/// The header that begins a capture file of these octets. draft-ietf-opsawg-pcap, section 4; zone, accuracy and snap
-/// length are not used.
-pub fn read_header(bytes: &[u8]) -> Result<Header, HeaderRefusal>
-    ensures { result ≡ header_of bytes.now }
+/// The header that begins a capture file of these octets, of one of these link types. draft-ietf-opsawg-pcap, section 4; zone, accuracy and
+/// snap length are not used.
+pub fn read_header(kinds: LinkSet, bytes: &[u8]) -> Result<Header, HeaderRefusal>
+    ensures { result ≡ header_in kinds bytes.now }
 {
     if bytes.len() < 24 {
         return Err(HeaderRefusal::Short);
     }
     let bytes = View::one(bytes);
     if is_magic(bytes.u32_be(0)) {
-        return fields(&bytes, true);
+        return fields(kinds, &bytes, true);
     }
     if is_magic(bytes.u32_le(0)) {
-        return fields(&bytes, false);
+        return fields(kinds, &bytes, false);
     }
     Err(HeaderRefusal::Magic)
 }
@@ -59,24 +59,22 @@ fn is_magic(n: u32) -> bool
 }
 
 /// What the fields of a header in this byte order say.
-fn fields(bytes: &View<'_>, big_endian: bool) -> Result<Header, HeaderRefusal>
+fn fields(kinds: LinkSet, bytes: &View<'_>, big_endian: bool) -> Result<Header, HeaderRefusal>
     requires { 24 ≤ length bytes.now.bytes }
-    ensures { result ≡ fields_of big_endian bytes.now.bytes }
+    ensures { result ≡ fields_of kinds big_endian bytes.now.bytes }
 {
     if u16_at(bytes, 4, big_endian) != 2 || u16_at(bytes, 6, big_endian) != 4 {
         return Err(HeaderRefusal::Version);
     }
     let nanos = u32_at(bytes, 0, big_endian) == NANOSECONDS;
-    let link = match u32_at(bytes, 20, big_endian) {
-        1 => LinkKind::Ethernet,
-        101 => LinkKind::RawIp,
-        _ => return Err(HeaderRefusal::LinkType),
-    };
-    Ok(Header {
-        big_endian,
-        nanos,
-        link,
-    })
+    match link_kind(kinds, u32_at(bytes, 20, big_endian)) {
+        Some(link) => Ok(Header {
+            big_endian,
+            nanos,
+            link,
+        }),
+        None => Err(HeaderRefusal::LinkType),
+    }
 }
 
 /// The number of two octets in a file's byte order.

@@ -1,10 +1,12 @@
 -- What stands at the front of octets of a section: block_at, by the first of ten tests that applies. The blocks are those of
 -- draft-ietf-opsawg-pcapng, sections 3.1 and 4.1 to 4.3; the order of the tests and all limits are this project's own.
 use Rattle.std.specs.Prelude.{ℕ, ◌+◌, ◌-◌, ◌*◌, ◌%◌, ◌==◌, ◌&&◌, ◌||◌, not, nat_lt, Bool, false, if◌then◌else◌, List, [], ◌∷◌, ◌++◌, length}
-use Rattle.std.specs.Prelude.{slice_get, slice_range, Option, Some, None}
+use Rattle.std.specs.Prelude.{is_some, slice_get, slice_range, unwrap_or, Option, Some, None}
+use Rattle.cf_view.specs.LinkTypes.{link_kind}
 use Rattle.cf_view.specs.Octets.{u32_be_at}
 use Rattle.cf_view.specs.declared.LinkKind.{LinkKind}
 use Rattle.cf_view.specs.declared.LinkKind.TheVariants as link
+use Rattle.cf_view.specs.declared.LinkSet.{LinkSet}
 use Rattle.cf_pcap.specs.Header.{u16_at, u32_at}
 use Rattle.cf_pcap.specs.declared.record.TheConstants.{CAPTURED_LIMIT}
 use Rattle.cf_pcapng.specs.declared.block.BlockKind.{BlockKind}
@@ -108,15 +110,15 @@ least_length kind.Other = 12
 unfoldable pub is_allowed : ℕ → BlockKind → Bool
 is_allowed size of_kind = (size % 4 == 0) && not (nat_lt BLOCK_LIMIT size) && not (nat_lt size (least_length of_kind))
 
--- the link type of an interface is 1, Ethernet, or 101, raw IP
-abbrev pub is_served : Option Interface → Bool
-is_served None = false
-is_served (Some interface) = (interface.link == 1) || (interface.link == 101)
+-- the link type of an interface is one that is read
+abbrev pub is_served : LinkSet → Option Interface → Bool
+is_served kinds None = false
+is_served kinds (Some interface) = is_some (link_kind kinds interface.link)
 
--- the link type of an interface, raw IP where there is none
-abbrev pub link_of : Option Interface → LinkKind
-link_of None = link.RawIp
-link_of (Some interface) = if interface.link == 1 then link.Ethernet else link.RawIp
+-- the link type of an interface, raw IP where there is none that is read
+abbrev pub link_of : LinkSet → Option Interface → LinkKind
+link_of kinds None = link.RawIp
+link_of kinds (Some interface) = unwrap_or (link_kind kinds interface.link) link.RawIp
 
 -- the unit of time of an interface, a power of ten down to nanoseconds: an octet above 9 has its top bit set, or stands for a smaller unit
 abbrev pub unit_of : Option Interface → ℕ
@@ -138,10 +140,13 @@ first_tests big_endian octets =
     ∷ (not (is_allowed (length_at big_endian octets) (kind_at big_endian octets)), Refuses REFUSED_BLOCK)
     ∷ []
 
-module _ (interfaces : List Interface) (big_endian : Bool) (octets : List ℕ) where
-  -- the interface of a packet, if it is described
-  abbrev pub described_at : Option Interface
-  described_at = slice_get interfaces (number_at big_endian octets)
+-- the interface of a packet, if it is described
+abbrev pub described_at : List Interface → Bool → List ℕ → Option Interface
+described_at interfaces big_endian octets = slice_get interfaces (number_at big_endian octets)
+
+module _ (kinds : LinkSet) (interfaces : List Interface) (big_endian : Bool) (octets : List ℕ) where
+  abbrev described : Option Interface
+  described = described_at interfaces big_endian octets
 
   -- the last five: an interface is one too many; a packet's interface is not described, or its link type is not read; its captured length
   -- is too great; its bytes do not fit; its unit of time is not read
@@ -149,10 +154,10 @@ module _ (interfaces : List Interface) (big_endian : Bool) (octets : List ℕ) w
   last_tests kind.Section = []
   last_tests kind.Interface = (not (nat_lt (length interfaces) INTERFACE_LIMIT), Refuses REFUSED_INTERFACE) ∷ []
   last_tests kind.Packet =
-      (not (is_served described_at), Refuses REFUSED_INTERFACE)
+      (not (is_served kinds described), Refuses REFUSED_INTERFACE)
       ∷ (nat_lt CAPTURED_LIMIT (captured_at big_endian octets), Refuses REFUSED_LENGTH)
       ∷ (nat_lt (length_at big_endian octets) (32 + padded (captured_at big_endian octets)), Refuses REFUSED_BLOCK)
-      ∷ (nat_lt 9 (unit_of described_at), Refuses REFUSED_RESOLUTION)
+      ∷ (nat_lt 9 (unit_of described), Refuses REFUSED_RESOLUTION)
       ∷ []
   last_tests kind.Other = []
 
@@ -169,8 +174,8 @@ module _ (interfaces : List Interface) (big_endian : Bool) (octets : List ℕ) w
   meaning_of kind.Section = Begins big_endian
   meaning_of kind.Interface = Describes (interface_at big_endian octets)
   meaning_of kind.Packet = Holds (record {
-    stamp = stamp_of (unit_of described_at) (ticks_at big_endian octets);
-    link = link_of described_at;
+    stamp = stamp_of (unit_of described) (ticks_at big_endian octets);
+    link = link_of kinds described;
     body = slice_range octets 28 (28 + captured_at big_endian octets);
   })
   meaning_of kind.Other = Other
@@ -185,7 +190,7 @@ module _ (interfaces : List Interface) (big_endian : Bool) (octets : List ℕ) w
 
 -- what stands at the front of octets of a section
 abbrev pub block_at : Section → List ℕ → Found
-block_at section octets = block_in section.interfaces (order_at section.big_endian octets) octets
+block_at section octets = block_in section.kinds section.interfaces (order_at section.big_endian octets) octets
 
 -- the first three tests alone: how many octets the block has
 unfoldable pub size_in : Bool → List ℕ → Found

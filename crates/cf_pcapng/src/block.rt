@@ -9,7 +9,7 @@ ghost use Rattle.cf_pcapng.specs.Block.{last_of, least_length, least_told, lengt
 use crate::options::{padded, resolution_in};
 use crate::packet::stamp;
 use cf_pcap::{CAPTURED_LIMIT, u16_at, u32_at};
-use cf_view::{LinkKind, View};
+use cf_view::{LinkKind, LinkSet, View, link_kind};
 
 /// The type of a section header. draft-ietf-opsawg-pcapng, section 4.1.
 pub const SECTION_HEADER: u32 = 0x0A0D_0D0A;
@@ -41,7 +41,7 @@ pub const REFUSED_RESOLUTION: u8 = 12;
 /// An interface of a section. draft-ietf-opsawg-pcapng, section 4.2.
 #[derive(Clone, Copy)]
 pub struct Interface {
-    /// What stands before the IPv4 packets: 1 is Ethernet, 101 raw IP.
+    /// What stands before the IPv4 packets, as `cf_view::link_kind` reads it.
     pub link: u16,
     /// The unit of time is 10 to the power of −this seconds, up to 9. Others are not read.
     pub resolution: u8,
@@ -214,6 +214,7 @@ pub fn differs(big_endian: bool, bytes: &[u8], used: usize) -> bool
 
 /// What the block says that begins these octets, of which it takes so many, in its byte order. Its two lengths are the same.
 pub fn whole_in<'a>(
+    kinds: LinkSet,
     interfaces: &[Interface],
     big_endian: bool,
     bytes: &'a [u8],
@@ -223,14 +224,14 @@ pub fn whole_in<'a>(
     requires least { least_length (kind_at big_endian bytes.now) ≤ used }
     requires most { used ≤ 16777216 }
     requires inside { used ≤ length bytes.now }
-    ensures found { whole_block_value used result ≡ last_of interfaces.now big_endian bytes.now (kind_at big_endian bytes.now) }
+    ensures found { whole_block_value used result ≡ last_of kinds interfaces.now big_endian bytes.now (kind_at big_endian bytes.now) }
     ensures room { HasRoom (length interfaces.now) result }
     ensures placed { HoldsPlaced bytes.now used result }
 {
     match kind_in(big_endian, bytes) {
         BlockKind::Section => WholeBlock::Begins(big_endian),
         BlockKind::Interface => interface_in(interfaces, big_endian, bytes, used),
-        BlockKind::Packet => packet_in(interfaces, big_endian, bytes, used),
+        BlockKind::Packet => packet_in(kinds, interfaces, big_endian, bytes, used),
         BlockKind::Other => WholeBlock::Other,
     }
 }
@@ -246,7 +247,7 @@ fn interface_in<'a>(
     requires told { used ≡ length_at big_endian bytes.now }
     requires least { 20 ≤ used }
     requires inside { used ≤ length bytes.now }
-    ensures found { whole_block_value used result ≡ last_of interfaces.now big_endian bytes.now BlockKind.Interface }
+    ensures found { (kinds : LinkSet) → whole_block_value used result ≡ last_of kinds interfaces.now big_endian bytes.now BlockKind.Interface }
     ensures room { HasRoom (length interfaces.now) result }
     ensures placed { HoldsPlaced bytes.now used result }
 {
@@ -261,6 +262,7 @@ fn interface_in<'a>(
 
 /// What an enhanced packet says.
 fn packet_in<'a>(
+    kinds: LinkSet,
     interfaces: &[Interface],
     big_endian: bool,
     bytes: &'a [u8],
@@ -270,14 +272,14 @@ fn packet_in<'a>(
     requires least { 32 ≤ used }
     requires most { used ≤ 16777216 }
     requires inside { used ≤ length bytes.now }
-    ensures found { whole_block_value used result ≡ last_of interfaces.now big_endian bytes.now BlockKind.Packet }
+    ensures found { whole_block_value used result ≡ last_of kinds interfaces.now big_endian bytes.now BlockKind.Packet }
     ensures room { HasRoom (length interfaces.now) result }
     ensures placed { HoldsPlaced bytes.now used result }
 {
     let Some(interface) = interfaces.get(number_in(big_endian, bytes) as usize) else {
         return WholeBlock::Refused(REFUSED_INTERFACE);
     };
-    let Some(link) = link_in(interface) else {
+    let Some(link) = link_in(kinds, interface) else {
         return WholeBlock::Refused(REFUSED_INTERFACE);
     };
     let captured = captured_in(big_endian, bytes);
@@ -299,14 +301,10 @@ fn packet_in<'a>(
 }
 
 /// The link kind of an interface, if it is one that is read.
-fn link_in(interface: &Interface) -> Option<LinkKind>
-    ensures { result ≡ (if is_served (Some interface.now) then Some (link_of (Some interface.now)) else None) }
+fn link_in(kinds: LinkSet, interface: &Interface) -> Option<LinkKind>
+    ensures { result ≡ (if is_served kinds (Some interface.now) then Some (link_of kinds (Some interface.now)) else None) }
 {
-    match interface.link {
-        1 => Some(LinkKind::Ethernet),
-        101 => Some(LinkKind::RawIp),
-        _ => None,
-    }
+    link_kind(kinds, u32::from(interface.link))
 }
 
 /// The number of a packet's interface.

@@ -5,14 +5,14 @@ ghost use Rattle.std.specs.Prelude.{◌≡◌, IfOk, slice_get};
 ghost use Rattle.cf_pcapng.specs.Answers.{HasLimits, IsInside, answer_of, block_answer_value, block_size_value};
 ghost use Rattle.cf_pcapng.specs.Block.{block_at, size_at};
 ghost use Rattle.cf_pcapng.specs.Blocks.{after_found};
-ghost use Rattle.cf_pcapng.specs.Section.{no_section};
+ghost use Rattle.cf_pcapng.specs.Section.{before_sections};
 
 use crate::block::{
     BlockSize, INTERFACE_LIMIT, Interface, REFUSED_BLOCK, WholeBlock, differs, order_in, size_in,
     whole_in,
 };
 use crate::options::MICROSECONDS;
-use cf_view::{LinkKind, NoMemory};
+use cf_view::{LinkKind, LinkSet, NoMemory};
 use std::alloc::Global;
 use std::marker::Model;
 
@@ -42,6 +42,7 @@ pub enum BlockAnswer<'a> {
 /// draft-ietf-opsawg-pcapng, section 3.
 #[derive(Drop)]
 pub struct Reader {
+    kinds: LinkSet,
     big_endian: bool,
     slots: Vec<Interface>,
     count: usize,
@@ -53,15 +54,15 @@ impl Model for Reader {
 
     ghost Value = { Section };
 
-    ghost view = { λ r. record { big_endian = r.big_endian; interfaces = take r.count r.slots.items } };
+    ghost view = { λ r. record { kinds = r.kinds; big_endian = r.big_endian; interfaces = take r.count r.slots.items } };
 
     ghost invariant = { λ r. (length r.slots.items ≡ 64) × (r.count ≤ 64) };
 }
 
 impl Reader {
-    /// Before the first section header. Has room for 64 interfaces.
-    pub fn new(alloc: Global) -> Result<Reader, NoMemory>
-        ensures { IfOk result (λ r. r ≡ no_section) }
+    /// Before the first section header of a file in which these link types are read. Has room for 64 interfaces.
+    pub fn new(alloc: Global, kinds: LinkSet) -> Result<Reader, NoMemory>
+        ensures { IfOk result (λ r. r ≡ before_sections kinds) }
     {
         let none = Interface {
             link: 0,
@@ -69,6 +70,7 @@ impl Reader {
         };
         match Vec::from_elem(alloc, none, INTERFACE_LIMIT) {
             Ok(slots) => Ok(Reader {
+                kinds,
                 big_endian: false,
                 slots,
                 count: 0,
@@ -112,7 +114,13 @@ impl Reader {
         if differs(big_endian, bytes, used) {
             return BlockAnswer::Refused(REFUSED_BLOCK);
         }
-        match whole_in(&self.slots[..self.count], big_endian, bytes, used) {
+        match whole_in(
+            self.kinds,
+            &self.slots[..self.count],
+            big_endian,
+            bytes,
+            used,
+        ) {
             WholeBlock::Begins(big_endian) => {
                 self.big_endian = big_endian;
                 self.count = 0;

@@ -3,9 +3,10 @@ use Rattle.std.proofs.Common.{ℕ, ◌+◌, ◌≤◌, List, slice_range, Err, r
 use Rattle.cf_outside.specs.Files.{Content, untold, absent, holds}
 use Rattle.cf_outside.specs.Part.{IsFilled}
 use Rattle.cf_view.specs.declared.LinkKind.{LinkKind}
+use Rattle.cf_view.specs.declared.LinkSet.{LinkSet}
 use Rattle.cf_records.specs.Form.{FormsAs}
 use Rattle.cf_records.specs.Pieces.{FindsBehind, IsPastRecord, IsNoRecord}
-use Rattle.cf_records.specs.Reader.{FindsRecord, Finds, OpensAs, ReaderValue}
+use Rattle.cf_records.specs.Reader.{FindsRecord, Finds, OpensIn, ReaderValue}
 use Rattle.cf_records.specs.declared.form.Form.{Form}
 use Rattle.cf_records.specs.declared.record_reader.NextRecord.{NextRecord}
 use Rattle.cf_records.specs.declared.record_reader.NextRecord.TheVariants as next
@@ -14,10 +15,10 @@ use Rattle.cf_records.specs.declared.record_reader.OpenFault.TheVariants as faul
 use Rattle.cf_records.specs.declared.record_reader.Piece.TheVariants as piece
 use Rattle.cf_records.proofs.Forms.{has_form}
 
-pub not_opened : (file : Content) (octets : List ℕ) (why : OpenFault) → IsFilled file 0 28 octets → FormsAs octets (Err why) → OpensAs file (Err why)
-not_opened file octets (fault.Refused refusal) f h = has_form file octets (Err refusal) f h
-not_opened file octets fault.Read f h = tt
-not_opened file octets fault.NoMemory f h = tt
+pub not_opened : (kinds : LinkSet) (file : Content) (octets : List ℕ) (why : OpenFault) → IsFilled file 0 28 octets → FormsAs kinds octets (Err why) → OpensIn kinds file (Err why)
+not_opened kinds file octets (fault.Refused refusal) f h = has_form kinds file octets (Err refusal) f h
+not_opened kinds file octets fault.Read f h = tt
+not_opened kinds file octets fault.NoMemory f h = tt
 
 -- a record
 pub record_found : (file : Content) (old : ReaderValue) (g : Form) (place stamp from to used : ℕ) (link : LinkKind) (buffer : List ℕ) →

@@ -2,8 +2,10 @@
 use Rattle.std.specs.Prelude.{◌≡◌, ℕ, zero, suc, ◌+◌, List, drop, Result, Ok, Err}
 use Rattle.cf_outside.specs.Files.{Content, untold, absent, holds}
 use Rattle.cf_view.specs.declared.LinkKind.{LinkKind}
+use Rattle.cf_view.specs.declared.LinkSet.{LinkSet}
+use Rattle.cf_view.specs.declared.LinkSet.TheVariants as set
 use Rattle.cf_records.specs.Capture.{AtPlace, Cut, FileEnd, Fits, Large, Passes, Refused, TooLong, at_place, form_behind}
-use Rattle.cf_records.specs.Form.{first_place, form_of}
+use Rattle.cf_records.specs.Form.{first_place, form_in}
 use Rattle.cf_records.specs.declared.form.Form.{Form}
 use Rattle.cf_records.specs.declared.form.FormRefusal.{FormRefusal}
 use Rattle.cf_records.specs.declared.record_reader.NextRecord.{NextRecord}
@@ -19,18 +21,26 @@ pub record ReaderValue : Type 0 where
   pub link : LinkKind
   pub body : List ℕ
 
--- the file has this form, or is refused, as far as it is told
-abbrev pub HasForm : Content → Result Form FormRefusal → Type 0
-HasForm untold answer = Unit {0}
-HasForm absent answer = ⊥
-HasForm (holds all) answer = form_of all ≡ answer
+-- the file has this form where these link types are read, or is refused, as far as it is told
+abbrev pub HasFormIn : LinkSet → Content → Result Form FormRefusal → Type 0
+HasFormIn kinds untold answer = Unit {0}
+HasFormIn kinds absent answer = ⊥
+HasFormIn kinds (holds all) answer = form_in kinds all ≡ answer
 
--- what opening a file answers
+-- the same where Ethernet and raw IP are read
+abbrev pub HasForm : Content → Result Form FormRefusal → Type 0
+HasForm file answer = HasFormIn set.Plain file answer
+
+-- what opening a file answers where these link types are read
+abbrev pub OpensIn : LinkSet → Content → Result ReaderValue OpenFault → Type 0
+OpensIn kinds file (Ok reader) = HasFormIn kinds file (Ok reader.form) × (reader.place ≡ first_place reader.form)
+OpensIn kinds file (Err (fault.Refused refusal)) = HasFormIn kinds file (Err refusal)
+OpensIn kinds file (Err fault.Read) = Unit {0}
+OpensIn kinds file (Err fault.NoMemory) = Unit {0}
+
+-- the same where Ethernet and raw IP are read
 abbrev pub OpensAs : Content → Result ReaderValue OpenFault → Type 0
-OpensAs file (Ok reader) = HasForm file (Ok reader.form) × (reader.place ≡ first_place reader.form)
-OpensAs file (Err (fault.Refused refusal)) = HasForm file (Err refusal)
-OpensAs file (Err fault.Read) = Unit {0}
-OpensAs file (Err fault.NoMemory) = Unit {0}
+OpensAs file answer = OpensIn set.Plain file answer
 
 module _ (all : List ℕ) where
   -- from one place of these octets to another there are only so many blocks that are passed over

@@ -7,6 +7,7 @@ ghost use Rattle.cf_records.specs.Form.{FormsAs, classic_form, first_place, room
 use crate::record_reader::OpenFault;
 use cf_pcap::{CAPTURED_LIMIT, Header, HeaderRefusal, read_header};
 use cf_pcapng::{BLOCK_LIMIT, BlockSize, REFUSED_SECTION, Reader, is_section};
+use cf_view::LinkSet;
 use std::alloc::Global;
 
 /// How many octets tell a file's form, and whether it is refused: those of a section header before its options.
@@ -33,20 +34,20 @@ pub enum FormRefusal {
     Magic,
     /// Its version is not 2.4.
     Version,
-    /// Its link type is neither 1 (Ethernet) nor 101 (raw IP).
+    /// Its link type is none of those that are read.
     LinkType,
     /// A pcapng file begins with a section header of another magic, or of another major version than 1.
     Section,
 }
 
-/// What file these octets begin; of one of more than 28, its first 28.
-pub fn read_form(alloc: Global, bytes: &[u8]) -> Result<Form, OpenFault>
-    ensures { FormsAs bytes.now result }
+/// What file of these link types the octets begin; of one of more than 28, its first 28.
+pub fn read_form(alloc: Global, kinds: LinkSet, bytes: &[u8]) -> Result<Form, OpenFault>
+    ensures { FormsAs kinds bytes.now result }
 {
     if is_section(bytes) {
-        read_section(alloc, bytes)
+        read_section(alloc, kinds, bytes)
     } else {
-        match read_header(bytes) {
+        match read_header(kinds, bytes) {
             Ok(header) => Ok(Form::Classic(header)),
             Err(refusal) => Err(OpenFault::Refused(refusal_of(refusal))),
         }
@@ -54,11 +55,11 @@ pub fn read_form(alloc: Global, bytes: &[u8]) -> Result<Form, OpenFault>
 }
 
 /// What pcapng file these octets begin.
-fn read_section(alloc: Global, bytes: &[u8]) -> Result<Form, OpenFault>
+fn read_section(alloc: Global, kinds: LinkSet, bytes: &[u8]) -> Result<Form, OpenFault>
     requires { is_section bytes.now ≡ true }
-    ensures { FormsAs bytes.now result }
+    ensures { FormsAs kinds bytes.now result }
 {
-    let Ok(reader) = Reader::new(alloc) else {
+    let Ok(reader) = Reader::new(alloc, kinds) else {
         return Err(OpenFault::NoMemory);
     };
     match reader.block_size(bytes) {

@@ -4,7 +4,7 @@ ghost use Rattle.std.specs.Prelude.{◌≡◌, ℕ, ◌^◌, ◌≤◌, IsErrOf,
 ghost use Rattle.cf_outside.specs.Frames.{OnlyReads};
 ghost use Rattle.cf_records.specs.Form.{interface_of, room_of};
 ghost use Rattle.cf_records.specs.Pieces.{FindsBehind, FindsPiece, IsPastRecord, IsPieceInside};
-ghost use Rattle.cf_records.specs.Reader.{FindsRecord, OpensAs};
+ghost use Rattle.cf_records.specs.Reader.{FindsRecord, OpensAs, OpensIn};
 ghost use Rattle.cf_records.specs.declared.record_reader.NextRecord.TheVariants as next;
 ghost use Rattle.cf_records.specs.declared.record_reader.Piece.TheVariants as piece;
 
@@ -13,7 +13,7 @@ use crate::classic::classic_piece;
 use crate::form::{FORM_OCTETS, Form, FormRefusal, first_place, read_form, room};
 use cf_outside::{Files, fill};
 use cf_pcapng::Interface;
-use cf_view::LinkKind;
+use cf_view::{LinkKind, LinkSet};
 use std::alloc::Global;
 use std::marker::Model;
 
@@ -90,7 +90,7 @@ impl Model for RecordReader {
 }
 
 impl RecordReader {
-    /// Reads what form a file has, and takes the buffer. Changes no file.
+    /// Reads what form a file has, of Ethernet or raw IP, and takes the buffer. Changes no file.
     pub fn open<F: Files>(
         alloc: Global,
         name: &str,
@@ -99,11 +99,24 @@ impl RecordReader {
         ensures opened { OpensAs (F.content files.old name.now) result }
         ensures reads { OnlyReads F.content F.read_faults F.write_faults files.old files.new (IsErrOf result OpenFault.Read) }
     {
+        RecordReader::open_in(alloc, LinkSet::Plain, name, files)
+    }
+
+    /// Reads what form a file has, of one of these link types, and takes the buffer. Changes no file.
+    pub fn open_in<F: Files>(
+        alloc: Global,
+        kinds: LinkSet,
+        name: &str,
+        files: &mut F,
+    ) -> Result<RecordReader, OpenFault>
+        ensures opened { OpensIn kinds (F.content files.old name.now) result }
+        ensures reads { OnlyReads F.content F.read_faults F.write_faults files.old files.new (IsErrOf result OpenFault.Read) }
+    {
         let mut head = [0u8; FORM_OCTETS];
         let Some(have) = fill(name, 0, 0, FORM_OCTETS, &mut head, files) else {
             return Err(OpenFault::Read);
         };
-        let form = match read_form(alloc, &head[..have]) {
+        let form = match read_form(alloc, kinds, &head[..have]) {
             Ok(form) => form,
             Err(fault) => return Err(fault),
         };

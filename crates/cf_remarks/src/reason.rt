@@ -46,14 +46,21 @@ pub(crate) fn reason_of(link: &LinkKind, body: &[u8], refusal: PacketRefusal) ->
 /// What octets hold that are no IPv4 packet: a frame by its Ethernet type. IANA, IEEE 802 Numbers.
 fn content_of(link: &LinkKind, body: &[u8]) -> DropReason {
     match link {
-        LinkKind::Ethernet if body.len() >= 14 => match View::one(body).u16_be(12) {
-            0x86DD => DropReason::Ipv6,
-            0x8100 => DropReason::Tag,
-            0x88A8 => DropReason::ServiceTag,
-            0x0806 => DropReason::Arp,
-            _ => DropReason::NotIpv4,
-        },
+        LinkKind::Ethernet if body.len() >= 14 => typed(View::one(body).u16_be(12)),
+        LinkKind::LinuxCooked if body.len() >= 16 => typed(View::one(body).u16_be(14)),
+        LinkKind::LinuxCooked2 if body.len() >= 20 => typed(View::one(body).u16_be(0)),
         LinkKind::RawIp if !body.is_empty() && body[0] / 16 == 6 => DropReason::Ipv6,
+        _ => DropReason::NotIpv4,
+    }
+}
+
+/// What a frame of this Ethernet type is.
+fn typed(number: u16) -> DropReason {
+    match number {
+        0x86DD => DropReason::Ipv6,
+        0x8100 => DropReason::Tag,
+        0x88A8 => DropReason::ServiceTag,
+        0x0806 => DropReason::Arp,
         _ => DropReason::NotIpv4,
     }
 }

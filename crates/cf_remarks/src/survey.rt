@@ -10,8 +10,8 @@ use cf_outside::Files;
 use cf_packet::{Packet, PacketRefusal, read_packet, read_recorded};
 use cf_policy::Asset;
 use cf_records::{NextRecord, RecordReader};
-use cf_view::{LinkKind, NoMemory, Side};
-use cf_watch::untagged;
+use cf_view::{LinkKind, LinkSet, NoMemory, Side};
+use cf_watch::{untagged, untagged_kind};
 use std::alloc::Global;
 use std::collections::BTreeMap;
 
@@ -20,7 +20,7 @@ use std::collections::BTreeMap;
 pub enum Reading {
     /// Frames as they stand, and connections from their SYN on.
     FromSyn,
-    /// Frames without their VLAN tags, packets whose sum is partial, and connections that begin amid their stream too.
+    /// Linux cooked captures too, frames without their VLAN tags, packets whose sum is partial, and connections that begin amid their stream.
     Amid,
 }
 
@@ -59,7 +59,11 @@ pub fn survey_capture<F: Files>(
 ) -> Option<Survey>
     ensures reads { OnlyReads F.content F.read_faults F.write_faults files.old files.new ⊥ }
 {
-    let mut reader = RecordReader::open(alloc, capture, files).ok()?;
+    let kinds = match reading {
+        Reading::FromSyn => LinkSet::Plain,
+        Reading::Amid => LinkSet::Recorded,
+    };
+    let mut reader = RecordReader::open_in(alloc, kinds, capture, files).ok()?;
     let mut seen = Seen::new(alloc, reading);
     if seen.take_all(assets, &mut reader, capture, files) {
         seen.finish()
@@ -119,14 +123,14 @@ impl Seen {
     }
 
     fn take(&mut self, assets: &[Asset], link: &LinkKind, body: &[u8]) -> Result<(), NoMemory> {
-        let octets = match self.reading {
-            Reading::FromSyn => body,
-            Reading::Amid => untagged(link, body),
+        let (kind, octets) = match self.reading {
+            Reading::FromSyn => (*link, body),
+            Reading::Amid => (untagged_kind(link, body), untagged(link, body)),
         };
         self.dropped.records = self.dropped.records.saturating_add(1);
-        match read_packet(link, octets) {
+        match read_packet(&kind, octets) {
             Ok(packet) => self.take_packet(assets, &packet),
-            Err(refusal) => self.take_refused(assets, link, octets, refusal),
+            Err(refusal) => self.take_refused(assets, &kind, octets, refusal),
         }
     }
 

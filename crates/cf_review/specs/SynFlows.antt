@@ -11,7 +11,8 @@ use Rattle.cf_watch.specs.declared.Scope.TheVariants as scope
 abbrev pub begins_with_syn : Watched → Bool
 begins_with_syn w = is_none w.midstream
 
--- a record in which a review reads what the judge does: all but those whose frame has a VLAN tag, or whose TCP checksum is partial
+-- a record in which a review reads what the judge does: all but those of a Linux cooked capture, those whose frame has a VLAN tag, and those
+-- whose TCP checksum is partial
 abbrev pub IsReadAlike : Record → Type 0
 IsReadAlike r = packet_by scope.Recording r.link r.body ≡ packet_by scope.Connections r.link r.body
 

@@ -9,7 +9,7 @@ use crate::row::Row;
 use crate::service::wrong_session;
 use cf_outside::Told;
 use cf_pcap::{RecordAnswer, read_header, read_record};
-use cf_view::Side;
+use cf_view::{LinkSet, Side};
 
 /// More records than a row has.
 const RECORDS: u32 = 1_000_000;
@@ -106,7 +106,7 @@ fn wrong_world<'a>(book: &Book, left: &Left) -> Option<&'a str> {
 
 /// Whether octets are the header of a capture and whole records.
 pub fn is_capture(octets: &[u8]) -> bool {
-    let Ok(header) = read_header(octets) else {
+    let Ok(header) = read_header(LinkSet::Plain, octets) else {
         return false;
     };
     let mut left = octets.get(24..).unwrap_or(b"");

@@ -142,6 +142,33 @@ fn segment(book: &Book, row: &Row, spelled: &str) -> Result<Vec<u8>, Fault> {
     )
 }
 
+/// The header of a Linux cooked capture before its type, of the first version.
+const COOKED: &str = "0000 0001 0006 0200000000050000";
+
+/// What follows the type of one of the second version.
+const COOKED2: &str = "0000 00000002 0001 00 06 0200000000050000";
+
+/// What a record of a Linux cooked capture holds: its header, with these tags and the type of IPv4, and the packet. In the second version
+/// the first of these types stands in front of the header, and the others behind it.
+fn cooked(book: &Book, tags: &str, packet: &[u8], link: LinkKind) -> Result<Vec<u8>, Fault> {
+    let mut types = octets(book, tags)?;
+    types.extend_from_slice(&octets(book, IPV4)?)?;
+    let mut body = Vec::new(book.alloc);
+    if link == LinkKind::LinuxCooked {
+        body.extend_from_slice(&octets(book, COOKED)?)?;
+        body.extend_from_slice(&types)?;
+    } else {
+        let (first, others) = types
+            .split_at_checked(2)
+            .ok_or(Fault::Wanted(Wanted::Field))?;
+        body.extend_from_slice(first)?;
+        body.extend_from_slice(&octets(book, COOKED2)?)?;
+        body.extend_from_slice(others)?;
+    }
+    body.extend_from_slice(packet)?;
+    Ok(body)
+}
+
 /// What a record holds: the packet alone, or a frame that is filled up to 60 octets. The frame of `tag HEX ..` has these tags.
 fn body(book: &Book, row: &Row, spelled: &str, link: LinkKind) -> Result<Vec<u8>, Fault> {
     if spelled == "arp" {
@@ -155,8 +182,12 @@ fn body(book: &Book, row: &Row, spelled: &str, link: LinkKind) -> Result<Vec<u8>
         Some(spelled) => octets(book, spelled)?,
         None => segment(book, row, spelled)?,
     };
-    if link == LinkKind::RawIp {
-        return Ok(packet);
+    match link {
+        LinkKind::RawIp => return Ok(packet),
+        LinkKind::LinuxCooked | LinkKind::LinuxCooked2 => {
+            return cooked(book, tags, &packet, link);
+        }
+        LinkKind::Ethernet => {}
     }
     let mut frame = octets(book, ADDRESSES)?;
     frame.extend_from_slice(&octets(book, tags)?)?;
@@ -211,8 +242,14 @@ fn records(book: &Book, row: &Row, line: &str, link: LinkKind) -> Result<Vec<u8>
 fn header(link: LinkKind) -> [u8; 24] {
     let mut header = [0; 24];
     write_header(&mut header);
-    if link == LinkKind::Ethernet {
-        header[20] = 1;
+    match link {
+        LinkKind::RawIp => {}
+        LinkKind::Ethernet => header[20] = 1,
+        LinkKind::LinuxCooked => header[20] = 113,
+        LinkKind::LinuxCooked2 => {
+            header[20] = 20;
+            header[21] = 1;
+        }
     }
     header
 }
@@ -221,6 +258,8 @@ fn header(link: LinkKind) -> [u8; 24] {
 pub fn capture(book: &Book, row: &Row) -> Result<Vec<u8>, Fault> {
     let link = match row.field("link:") {
         Some("raw") => LinkKind::RawIp,
+        Some("cooked") => LinkKind::LinuxCooked,
+        Some("cooked2") => LinkKind::LinuxCooked2,
         _ => LinkKind::Ethernet,
     };
     let mut capture = header(link).to_vec(book.alloc)?;

@@ -3,7 +3,7 @@
 use crate::fault::{Fault, Wanted};
 
 /// The standards that rows cite by a section.
-const STANDARDS: [&str; 9] = [
+const STANDARDS: [&str; 10] = [
     "RFC 791",
     "RFC 9293",
     "IEEE 802.1Q-2018",
@@ -13,6 +13,7 @@ const STANDARDS: [&str; 9] = [
     "Modbus application protocol V1.1b3",
     "Modbus TCP guide V1.0b",
     "draft-ietf-opsawg-pcapng",
+    "draft-ietf-opsawg-pcaplinktype",
 ];
 
 /// The lines of a row behind its name and its source, which is `# STANDARD, SECTION: WORDS` or `# own: WORDS`.

@@ -5,8 +5,9 @@ use Rattle.cf_outside.specs.Files.{Content, untold, absent, holds}
 use Rattle.cf_records.proofs.Behind.{StandsBehind}
 use Rattle.cf_records.specs.Capture.{AreRecords, AtPlace, IsLast, LastPlace, Record, form_behind}
 use Rattle.cf_records.specs.Form.{first_place}
-use Rattle.cf_records.specs.Reader.{FindsRecord, HasForm, PassesTo, ReaderValue}
+use Rattle.cf_records.specs.Reader.{FindsRecord, HasFormIn, PassesTo, ReaderValue}
 use Rattle.cf_records.specs.declared.Form.{Form}
+use Rattle.cf_view.specs.declared.LinkSet.{LinkSet}
 use Rattle.cf_records.specs.declared.NextRecord.TheVariants as next
 use Rattle.cf_watch.specs.Watch.{HasRecords}
 
@@ -18,10 +19,10 @@ Leads (holds all) start file_form place records =
     (more : List Record) (last : LastPlace) → AreRecords file_form place (drop place all) more last →
     AreRecords start (first_place start) (drop (first_place start) all) (records ++ more) last
 
-pub leads_first : (file : Content) (start : Form) → HasForm file (Ok start) → Leads file start start (first_place start) []
-leads_first untold start h = tt
-leads_first absent start h = absurd h
-leads_first (holds all) start h = λ more last are. are
+pub leads_first : (kinds : LinkSet) (file : Content) (start : Form) → HasFormIn kinds file (Ok start) → Leads file start start (first_place start) []
+leads_first kinds untold start h = tt
+leads_first kinds absent start h = absurd h
+leads_first kinds (holds all) start h = λ more last are. are
 
 -- after blocks that are passed over stand the records that stand before them
 passed_back : (all : List ℕ) (count : ℕ) (old new : Form) (from place : ℕ) (rs : List Record) (last : LastPlace) → PassesTo all count old from new place →

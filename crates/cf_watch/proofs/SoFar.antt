@@ -7,7 +7,7 @@ use Rattle.cf_policy.specs.declared.Asset.{Asset}
 use Rattle.cf_records.proofs.Behind.{StandsBehind}
 use Rattle.cf_records.specs.Capture.{AtPlace, FileEnd, IsLast, Record}
 use Rattle.cf_records.specs.Form.{first_place}
-use Rattle.cf_records.specs.Reader.{FindsRecord, HasForm, ReaderValue}
+use Rattle.cf_records.specs.Reader.{FindsRecord, HasFormIn, ReaderValue}
 use Rattle.cf_records.specs.declared.Form.{Form}
 use Rattle.cf_records.specs.declared.Form.TheVariants as form
 use Rattle.cf_records.specs.declared.NextRecord.TheVariants as next
@@ -15,7 +15,7 @@ use Rattle.cf_watch.specs.Flow.{AreFlowsOf}
 use Rattle.cf_watch.specs.FlowValue.{IsForAsset, flow_value}
 use Rattle.cf_watch.specs.Trail.{IsHeard, IsWatchOf}
 use Rattle.cf_watch.specs.Seen.{seen_by}
-use Rattle.cf_watch.specs.Watch.{EndsAt, IsRecordingFor}
+use Rattle.cf_watch.specs.Watch.{EndsAt, IsRecordingFor, kinds_by}
 use Rattle.cf_watch.specs.Watched.{Watched}
 use Rattle.cf_watch.specs.declared.scope.Scope.{Scope}
 use Rattle.cf_watch.specs.declared.fault.TheConstants.{CAPTURE_LIMIT}
@@ -27,19 +27,19 @@ use Rattle.cf_watch.proofs.Leading.{Leads, leads_first, leads_on, leads_to}
 
 -- these records stand in front of a reader's place, the newest first, and their flows and stamps are kept
 pub record SoFar (scope : Scope) (assets : List Asset) (file : Content) (start : Form) (reader : ReaderValue) (number : ℕ) (watch : Watch) (stamps : List ℕ) : Type 0 where
-  pub has_form : HasForm file (Ok start)
+  pub has_form : HasFormIn (kinds_by scope) file (Ok start)
   pub newest : List Record
   pub leads : Leads file start reader.form reader.place (reverse newest)
   pub heard : IsWatchOf number watch (seen_by scope assets newest)
   pub count : length newest ≡ number
   pub stamped : stamps ≡ map (λ r. r.stamp) (reverse newest)
 
-pub so_far_first : (scope : Scope) (assets : List Asset) (file : Content) (reader : ReaderValue) (watch : Watch) (stamps : List ℕ) → HasForm file (Ok reader.form) → reader.place ≡ first_place reader.form → IsWatchOf 0 watch [] →
+pub so_far_first : (scope : Scope) (assets : List Asset) (file : Content) (reader : ReaderValue) (watch : Watch) (stamps : List ℕ) → HasFormIn (kinds_by scope) file (Ok reader.form) → reader.place ≡ first_place reader.form → IsWatchOf 0 watch [] →
     stamps ≡ [] → SoFar scope assets file reader.form reader 0 watch stamps
 so_far_first scope assets file reader watch stamps h first heard none = record {
   has_form = h;
   newest = [];
-  leads = subst (λ n. Leads file reader.form reader.form n []) (sym first) (leads_first file reader.form h);
+  leads = subst (λ n. Leads file reader.form reader.form n []) (sym first) (leads_first (kinds_by scope) file reader.form h);
   heard = heard;
   count = refl;
   stamped = none;
@@ -76,7 +76,7 @@ module _ {scope : Scope} {assets : List Asset} {file : Content} {start : Form} {
       }
 
   -- the records end here
-  abbrev pub ends_at : (place : ℕ) (found : AtPlace) → IsAtEnd file CAPTURE_LIMIT → StandsBehind file reader place found → IsLast found → EndsAt file found place
+  abbrev pub ends_at : (place : ℕ) (found : AtPlace) → IsAtEnd file CAPTURE_LIMIT → StandsBehind file reader place found → IsLast found → EndsAt (kinds_by scope) file found place
   ends_at place found short stands is = record {
     short = short;
     form = start;

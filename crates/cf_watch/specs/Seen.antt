@@ -11,7 +11,7 @@ use Rattle.cf_policy.specs.declared.Asset.{Asset}
 use Rattle.cf_records.specs.Capture.{Record}
 use Rattle.cf_policy.specs.AtEndpoint.{asset_place}
 use Rattle.cf_view.specs.declared.LinkKind.{LinkKind}
-use Rattle.cf_watch.specs.Tagged.{untagged}
+use Rattle.cf_watch.specs.Tagged.{untagged, untagged_kind}
 use Rattle.cf_watch.specs.Watched.{Watched, goes_at, last_place, with_packet}
 use Rattle.cf_watch.specs.declared.scope.Scope.{Scope}
 use Rattle.cf_watch.specs.declared.scope.Scope.TheVariants as scope
@@ -20,7 +20,7 @@ use Rattle.cf_watch.specs.declared.watching.Opening.{Opening}
 -- the segment in the octets of a record as they are watched, or why there is none
 abbrev pub packet_by : Scope → LinkKind → List ℕ → Result PacketValue PacketRefusal
 packet_by scope.Connections link octets = read_record link octets
-packet_by scope.Recording link octets = read_recorded link (untagged link octets)
+packet_by scope.Recording link octets = read_recorded (untagged_kind link octets) (untagged link octets)
 
 -- a segment of a connection that goes on, with text: it has neither SYN nor RST
 abbrev pub begins_amid : Scope → PacketValue → Bool

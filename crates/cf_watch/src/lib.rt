@@ -19,4 +19,4 @@ pub use flow::{Conflict, Flow, Recording};
 pub use laws::{flows_are_for_assets, one_stream_is_seen};
 pub use reading::{watch, watch_recording};
 pub use scope::Scope;
-pub use tag::untagged;
+pub use tag::{untagged, untagged_kind};

@@ -4,9 +4,10 @@ ghost use Rattle.std.specs.Prelude.{IsErrOf, length, map, IfOk, IfErr};
 ghost use Rattle.cf_outside.specs.Frames.{OnlyReads};
 ghost use Rattle.cf_outside.specs.Files.{IsAtEnd, IsLongerThan};
 ghost use Rattle.cf_records.specs.Form.{first_place};
-ghost use Rattle.cf_records.specs.Reader.{HasForm};
+ghost use Rattle.cf_records.specs.Reader.{HasFormIn};
 ghost use Rattle.cf_watch.specs.FlowValue.{IsForAsset, flow_value};
-ghost use Rattle.cf_watch.specs.Watch.{IsRecordingFor, IsRecordingOf, WatchesAs};
+ghost use Rattle.cf_view.specs.declared.LinkSet.TheVariants as set;
+ghost use Rattle.cf_watch.specs.Watch.{FailsAs, IsRecordingFor, IsRecordingOf, WatchesAs, kinds_by};
 
 use crate::fault::{CAPTURE_LIMIT, WatchFault, WatchRefusal};
 use crate::flow::{Flow, Recording};
@@ -15,7 +16,7 @@ use crate::watching::Watch;
 use cf_outside::{Files, ReadAnswer};
 use cf_policy::{Asset, Policy};
 use cf_records::{NextRecord, RecordReader};
-use cf_view::NoMemory;
+use cf_view::{LinkSet, NoMemory};
 use std::alloc::Global;
 
 /// The flows of a capture to the assets of a policy, in the order of their beginning, each from a SYN on: of a pcap or a pcapng file of at
@@ -43,9 +44,9 @@ pub fn watch<F: Files>(
 }
 
 /// What a review reads of such a capture: its flows to the assets of a policy, also those whose beginning it does not have, and the stamp
-/// of each record, in microseconds. Frames are read without their VLAN tags, and a partial TCP checksum counts as right. A flow without a
-/// SYN begins with its first packet with text that has neither SYN nor RST, and goes on up to the next SYN. The errors are those of
-/// `watch`. Changes no file. This project's own.
+/// of each record, in microseconds. Linux cooked captures are read too, frames without their VLAN tags, and a partial TCP checksum counts
+/// as right. A flow without a SYN begins with its first packet with text that has neither SYN nor RST, and goes on up to the next SYN. The
+/// errors are those of `watch`. Changes no file. This project's own.
 ///
 /// It keeps the stamps besides.
 pub fn watch_recording<F: Files>(
@@ -58,7 +59,7 @@ pub fn watch_recording<F: Files>(
     ensures watched { IfOk result (λ r. IsRecordingOf policy.now.assets (F.content files.old capture.now) (map flow_value r.flows.items)
         r.stamps.items) }
     ensures for_assets { IfOk result (λ r. All (IsForAsset policy.now.assets) (map flow_value r.flows.items)) }
-    ensures fault { IfErr result (λ fault. WatchesAs policy.now.assets (F.content files.old capture.now) (Err fault)) }
+    ensures fault { IfErr result (λ fault. FailsAs set.Recorded (F.content files.old capture.now) fault) }
     ensures reads { OnlyReads F.content F.read_faults F.write_faults files.old files.new (IsErrOf result WatchFault.Read) }
 {
     watch_for(alloc, Scope::Recording, policy, capture, files)
@@ -76,7 +77,7 @@ fn watch_for<F: Files>(
     ensures watched { IfOk result (λ r. (all : List ℕ) × IsRecordingFor scope policy.now.assets (F.content files.old capture.now)
         (map flow_value r.flows.items) all × (scope ≡ Scope.Recording → r.stamps.items ≡ all)) }
     ensures for_assets { IfOk result (λ r. All (IsForAsset policy.now.assets) (map flow_value r.flows.items)) }
-    ensures fault { IfErr result (λ fault. WatchesAs policy.now.assets (F.content files.old capture.now) (Err fault)) }
+    ensures fault { IfErr result (λ fault. FailsAs (kinds_by scope) (F.content files.old capture.now) fault) }
     ensures reads { OnlyReads F.content F.read_faults F.write_faults files.old files.new (IsErrOf result WatchFault.Read) }
 {
     match is_long(capture, files) {
@@ -84,7 +85,7 @@ fn watch_for<F: Files>(
         Some(true) => return Err(WatchFault::Refused(WatchRefusal::Long)),
         None => return Err(WatchFault::Read),
     }
-    match RecordReader::open(alloc, capture, files) {
+    match RecordReader::open_in(alloc, kinds_by(scope), capture, files) {
         Ok(mut reader) => {
             let assets = policy.assets.as_slice();
             watch_records(alloc, scope, assets, capture, &mut reader, files)
@@ -104,6 +105,16 @@ fn is_long<F: Files>(name: &str, files: &mut F) -> Option<bool>
         ReadAnswer::Got(_) => Some(true),
         ReadAnswer::End => Some(false),
         ReadAnswer::Failed => None,
+    }
+}
+
+/// The link types that are read.
+fn kinds_by(scope: Scope) -> LinkSet
+    ensures { result ≡ kinds_by scope }
+{
+    match scope {
+        Scope::Connections => LinkSet::Plain,
+        Scope::Recording => LinkSet::Recorded,
     }
 }
 
@@ -131,13 +142,13 @@ fn watch_records<F: Files>(
 ) -> Result<Recording, WatchFault>
     requires assets { length assets.now < 2 ^ 32 }
     requires short { IsAtEnd (F.content files.old name.now) CAPTURE_LIMIT }
-    requires form { HasForm (F.content files.old name.now) (Ok reader.old.form) }
+    requires form { HasFormIn (kinds_by scope) (F.content files.old name.now) (Ok reader.old.form) }
     requires place { reader.old.place ≡ first_place reader.old.form }
     ensures watched { IfOk result (λ r. (all : List ℕ)
         × IsRecordingFor scope assets.now (F.content files.old name.now) (map flow_value r.flows.items) all
         × (scope ≡ Scope.Recording → r.stamps.items ≡ all)) }
     ensures for_assets { IfOk result (λ r. All (IsForAsset assets.now) (map flow_value r.flows.items)) }
-    ensures fault { IfErr result (λ fault. WatchesAs assets.now (F.content files.old name.now) (Err fault)) }
+    ensures fault { IfErr result (λ fault. FailsAs (kinds_by scope) (F.content files.old name.now) fault) }
     ensures reads { OnlyReads F.content F.read_faults F.write_faults files.old files.new (IsErrOf result WatchFault.Read) }
 {
     let mut watch = Watch::new(alloc);

@@ -18,7 +18,7 @@ use crate::carry::{Ahead, advance, carry};
 use crate::flow::Flow;
 use crate::place::{has, has_fin, is_opening, text_place, top_after};
 use crate::scope::Scope;
-use crate::tag::untagged;
+use crate::tag::{untagged, untagged_kind};
 use cf_packet::{ACK, Packet, PacketRefusal, RST, SYN, read_packet, read_recorded};
 use cf_policy::Asset;
 use cf_view::{Endpoint, LinkKind, NoMemory, same_endpoint};
@@ -119,7 +119,7 @@ fn packet_by<'a>(
 {
     match scope {
         Scope::Connections => read_packet(link, octets),
-        Scope::Recording => read_recorded(link, untagged(link, octets)),
+        Scope::Recording => { read_recorded(&untagged_kind(link, octets), untagged(link, octets)) }
     }
 }
 

@@ -3,6 +3,7 @@ use cf_explain::{asset_message, capture_message, outputs_message, words_message}
 use cf_outside::MemoryFiles;
 use cf_policylang::read_policy;
 use cf_samples::rows::octets;
+use cf_view::LinkSet;
 use std::alloc::Global;
 use std::test::Fail;
 
@@ -138,7 +139,7 @@ c: its version is not 2.4
 
 run d4c3b2a1 02000400 0000000000000000ffff0000 71000000
 c: its link type is 113 (Linux cooked, that of '-i any'), and only 1 (Ethernet) and 101 (raw IP) are read
-  capture on one interface, as 'tcpdump -i eth0 -w OUT'; '-i any' has another link type
+  'cmdwall review' reads it; for others capture on one interface, as 'tcpdump -i eth0 -w OUT'
 
 run d4c3b2a1 02000400 0000000000000000ffff0000 e4000000
 c: its link type is 228 (raw IPv4), and only 1 (Ethernet) and 101 (raw IP) are read
@@ -183,7 +184,7 @@ pub(super) fn capture(alloc: Global, given: &str) -> Result<String, Fail> {
         let name = String::from_str(alloc, "c")?;
         files.files.insert(name, octets(alloc, spelled)?)?;
     }
-    match capture_message(alloc, "c", command == "run", &mut files)? {
+    match capture_message(alloc, LinkSet::Plain, "c", command == "run", &mut files)? {
         Some(message) => Ok(message),
         None => Ok(String::from_str(alloc, "nothing")?),
     }

@@ -8,7 +8,7 @@ use Rattle.cf_records.specs.Capture.{Cut, FileEnd, Large, Refused, TooLong}
 use Rattle.cf_records.specs.Reader.{FindsRecord, ReaderValue}
 use Rattle.cf_records.specs.declared.NextRecord.TheVariants as next
 use Rattle.cf_watch.specs.Trail.{IsWatchOf}
-use Rattle.cf_watch.specs.Watch.{EndsAt}
+use Rattle.cf_watch.specs.Watch.{EndsAt, kinds_by}
 use Rattle.cf_watch.specs.Seen.{packet_by, seen_by, with_frame}
 use Rattle.cf_watch.proofs.Lengths.{large_is_long, read_inside}
 use Rattle.cf_watch.proofs.SoFar.{ends_at, first_low, for_assets, is_recording, so_far_first, so_far_on}
@@ -77,7 +77,7 @@ returns-in-Cut-clause-fault g c =
     let before = c.records.invariant in
     let stands = subst (λ (content : List ℕ → Content). StandsBehind (content c.args.name.now) c.records.reader c.next.new.self.place Cut) before.reads.same
     (stands_cut (g.F.Files.content c.records.files c.args.name.now) c.records.reader c.next.new.self c.in-Cut.ensures.found) in
-    subst (EndsAt (g.F.Files.content c.args.files.now c.args.name.now) Cut) (sym c.place-in-Cut.ensures) (ends_at before.so c.next.new.self.place Cut c.requires.short stands tt)
+    subst (EndsAt (kinds_by c.args.scope) (g.F.Files.content c.args.files.now c.args.name.now) Cut) (sym c.place-in-Cut.ensures) (ends_at before.so c.next.new.self.place Cut c.requires.short stands tt)
 
 pub returns-in-Refused-clause-fault : goal.returns-in-Refused-clause-fault
 returns-in-Refused-clause-fault g c =

@@ -7,7 +7,7 @@ invariant-tags l = record {
   inside : l.at ≤ length l.frame;
   left : ℕ;
   enough : length l.frame ≤ left + l.at;
-  same : without_tags (length l.frame) l.frame ≡ without_tags left (drop l.at l.frame);
+  same : without_tags l.type_at (length l.frame) l.frame ≡ without_tags l.type_at left (drop l.at l.frame);
 }
 
 abbrev pub decreases-tags : goal.decreases-tags
