@@ -10,7 +10,9 @@ ghost use Rattle.cf_policy.specs.declared.policy.Verdict.TheVariants as verdict;
 ghost use Rattle.cf_policy.specs.Run.{HasOneVerdict};
 ghost use Rattle.cf_policy.specs.Verdict.{IsInside, default_reason, has_point, is_allow, verdict_of};
 
-use crate::index::{CodeIndex, allows_point, pairs_of, rule_has, some_allows_group, verdict_of_rule};
+use crate::index::{
+    CodeIndex, allows_point, pairs_of, rule_has, some_allows_group, verdict_of_rule,
+};
 use crate::point_table::{Taker, find_taker};
 use crate::policy::{Asset, Decider, Verdict};
 use crate::run::rule_until;
