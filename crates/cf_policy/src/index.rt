@@ -84,12 +84,32 @@ impl CodeIndex {
         ensures decides { (client : ℕ) → IsIndexOf asset.now client self.now → result ≡ verdict_of asset.now client act.now }
         ensures inside { IsInside asset.now.rules result }
     {
-        let pairs = self.pairs_from(act.code);
-        if is_long(pairs, act.code) {
-            if let Some((verdict, _)) = self.run_by_table(asset, act, act.point) {
-                return verdict;
-            }
+        if is_long(self.pairs_from(act.code), act.code) {
+            self.verdict_of_many(asset, act)
+        } else {
+            self.verdict_in_order(asset, act)
         }
+    }
+
+    /// What `verdict` says, by the table where it tells.
+    #[inline(never)]
+    fn verdict_of_many(&self, asset: &Asset, act: &Act) -> Verdict
+        ensures decides { (client : ℕ) → IsIndexOf asset.now client self.now → result ≡ verdict_of asset.now client act.now }
+        ensures inside { IsInside asset.now.rules result }
+    {
+        match self.run_by_table(asset, act, act.point) {
+            Some((verdict, _)) => verdict,
+            None => self.verdict_in_order(asset, act),
+        }
+    }
+
+    /// What `verdict` says, by the rules of the code one after the other.
+    #[inline(always)]
+    fn verdict_in_order(&self, asset: &Asset, act: &Act) -> Verdict
+        ensures decides { (client : ℕ) → IsIndexOf asset.now client self.now → result ≡ verdict_of asset.now client act.now }
+        ensures inside { IsInside asset.now.rules result }
+    {
+        let pairs = self.pairs_from(act.code);
         verdict_of_front(pairs, asset.rules.as_slice(), act)
     }
 

@@ -1,12 +1,8 @@
-use Rattle.std.proofs.Common.{◌∙◌, ap, arith, sym, take}
+use Rattle.std.proofs.Common.{◌∙◌, ap, take}
 use Rattle.cf_policy.specs.Index.{verdict_by}
 use Rattle.cf_policy.proofs.ByCode.{verdict_is}
 use Rattle.cf_policy.proofs.Fronts.{front_of}
-use Rattle.cf_policy.proofs.index.CodeIndex.verdict.Goals as goal
-
-pub returns-in-Some-clause-decides : goal.returns-in-Some-clause-decides
-returns-in-Some-clause-decides c = λ client index.
-    sym (c.in-Some.ensures.run client index c.args.act.now.point (omega arith) c.in-Some.ensures.reaches)
+use Rattle.cf_policy.proofs.index.CodeIndex.verdict_in_order.Goals as goal
 
 pub returns-clause-decides : goal.returns-clause-decides
 returns-clause-decides c = λ client index.
