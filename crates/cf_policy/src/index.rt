@@ -84,10 +84,11 @@ impl CodeIndex {
         ensures decides { (client : ℕ) → IsIndexOf asset.now client self.now → result ≡ verdict_of asset.now client act.now }
         ensures inside { IsInside asset.now.rules result }
     {
-        if is_long(self.pairs_from(act.code), act.code) {
+        let pairs = self.pairs_from(act.code);
+        if is_long(pairs, act.code) {
             self.verdict_of_many(asset, act)
         } else {
-            self.verdict_in_order(asset, act)
+            verdict_of_front(pairs, asset.rules.as_slice(), act)
         }
     }
 
@@ -99,18 +100,12 @@ impl CodeIndex {
     {
         match self.run_by_table(asset, act, act.point) {
             Some((verdict, _)) => verdict,
-            None => self.verdict_in_order(asset, act),
+            None => {
+                let pairs = pairs_of(self.pairs(), act.code);
+                let rules = asset.rules.as_slice();
+                verdict_at(pairs, rules, act, first_place(pairs, rules, act))
+            }
         }
-    }
-
-    /// What `verdict` says, by the rules of the code one after the other.
-    #[inline(always)]
-    fn verdict_in_order(&self, asset: &Asset, act: &Act) -> Verdict
-        ensures decides { (client : ℕ) → IsIndexOf asset.now client self.now → result ≡ verdict_of asset.now client act.now }
-        ensures inside { IsInside asset.now.rules result }
-    {
-        let pairs = self.pairs_from(act.code);
-        verdict_of_front(pairs, asset.rules.as_slice(), act)
     }
 
     /// The pairs from the first of a code on, where they ascend by code.
