@@ -1,7 +1,7 @@
 -- What an asset's rules say of an act whose point at most one rule of the code takes.
-use Rattle.std.proofs.Common.{◌≡◌, ℕ, ◌<◌, ◌≤◌, pos, Bool, true, false, not, if◌then◌else◌, ◌&&◌, List, Option, length, get_or, Some, None, refl, sym, ap, subst, ◌∙◌, arith}
+use Rattle.std.proofs.Common.{◌≡◌, ℕ, ◌≤◌, pos, Bool, true, false, not, if◌then◌else◌, ◌&&◌, List, Some, refl, sym, ap, subst, ◌∙◌, arith}
 use Rattle.std.specs.Prelude.{slice_get, Contains}
-use Rattle.std.specs.List.{Any, list_any}
+use Rattle.std.specs.List.{list_any}
 use Rattle.std.specs.Cmp.{both_ways, first_so, second_so}
 use Rattle.std.proofs.lemmas.Bool.{cases_Bool, false≢true}
 use Rattle.std.proofs.lemmas.List.Folds.{Any-from_list_any, list_any-from_Any}
@@ -18,7 +18,7 @@ use Rattle.cf_policy.specs.declared.policy.Decider.TheVariants as decider
 use Rattle.cf_policy.specs.declared.index.CodePair.{CodePair}
 use Rattle.cf_policy.specs.declared.point_table.Taker.TheVariants.{Nobody, Only, Unknown}
 use Rattle.cf_policy.specs.declared.point_table.Taker.{Taker}
-use Rattle.cf_policy.specs.Verdict.{by_rule, takes, takes_value, numbered, has_act, has_point, has_function, is_allow, decided, default_reason, first_rule, verdict_of}
+use Rattle.cf_policy.specs.Verdict.{by_rule, takes, takes_value, numbered, has_act, has_point, has_function, is_allow, decided, default_reason, verdict_of}
 use Rattle.cf_policy.specs.Index.{ArePairsOf, IsPartOfCode, rule_at, has_group, has_group_and_point, has_group_to_value}
 use Rattle.cf_policy.specs.PointTable.{takes_point, HasTaker}
 use Rattle.cf_policy.specs.Run.{at_point, HasOneVerdict, IsSteady}

@@ -15,7 +15,7 @@ use Rattle.cf_policy.specs.Verdict.{takes}
 abbrev pub line_place : (code point : ℕ) → ℕ
 line_place code point = code * 2 ^ 32 + point
 
--- whether the rule of this place takes the point
+-- the rule of this place takes the point
 abbrev pub takes_point : List Rule → (place point : ℕ) → Bool
 takes_point rules place point = option_map_or (λ r. takes r.points (pos point)) (slice_get rules place) false
 
@@ -31,7 +31,7 @@ pub record IsCellOf (rules : List Rule) (pair : CodePair) (cell : PointCell) : T
   pub around : (point : ℕ) → point < 2 ^ 32 → takes_point rules pair.rule point ≡ true
       → (cell.first ≤ line_place pair.code point) × (line_place pair.code point ≤ cell.last)
 
--- each cell is that of the pair at its place
+-- the cells are those of the pairs, place by place
 abbrev pub HasCells : List Rule → List CodePair → List PointCell → Type 0
 HasCells rules pairs cells =
     (length cells ≡ length pairs) × ((k : ℕ) (d : CodePair) (e : PointCell) → k < length cells → IsCellOf rules (get_or pairs k d) (get_or cells k e))
@@ -42,7 +42,7 @@ pub record AreSortedCells (rules : List Rule) (pairs : List CodePair) (cells : L
   pub known : (cell : PointCell) → Contains cells cell → Any (λ pair. IsCellOf rules pair cell) pairs
   pub ascending : IsNonDecreasingBy (λ cell. cell.first) cells
 
--- no cell before a place reaches beyond the number of that place
+-- the cells before a place do not reach beyond the number of that place
 abbrev pub HasReaches : List PointCell → List ℕ → Type 0
 HasReaches cells reaches = (i j : ℕ) (d : PointCell) → i < j → j < length reaches → (get_or cells i d).last ≤ get_or reaches j 0
 
@@ -51,7 +51,7 @@ pub record IsTableOf (rules : List Rule) (pairs : List CodePair) (cells : List P
   pub sorted : AreSortedCells rules pairs cells
   pub reach : HasReaches cells reaches
 
--- a taker that holds of the rules of these pairs that have the code: none takes a point from the first to the last, or only that of a place
+-- the rules of these pairs that have the code: none takes a point from the first to the last, or only that of a place
 abbrev pub HasTaker : List Rule → List CodePair → (code first last : ℕ) → Taker → Type 0
 HasTaker rules pairs code first last Nobody =
     (rule point : ℕ) → Contains pairs (record { code = code; rule = rule }) → first ≤ point → point ≤ last → takes_point rules rule point ≡ false
@@ -61,18 +61,18 @@ HasTaker rules pairs code first last (Only n) =
     → rule ≡ n)
 HasTaker rules pairs code first last Unknown = Unit {0}
 
--- a stretch of points with one answer: so many cells begin at the place of the first or before it, and no other begins up to that of the last
+-- the cells that begin at the place of the first point or before it are so many, and no other begins up to that of the last
 pub record IsStretch (cells : List PointCell) (code first last count : ℕ) : Type 0 where
   pub inside : count ≤ length cells
   pub before : (k : ℕ) (d : PointCell) → k < count → (get_or cells k d).first ≤ line_place code first
   pub after : (d : PointCell) → count < length cells → line_place code last < (get_or cells count d).first
 
--- what is said of the place of the first point, after so many cells, is so up to the last point
+-- the answer about the place of a first point, behind so many cells, is so up to the last point
 abbrev pub HasTakerAfter : List PointCell → List ℕ → (count place : ℕ) → Taker → Type 0
 HasTakerAfter cells reaches count place taker =
     (rules : List Rule) (pairs : List CodePair) (code first last : ℕ) → IsTableOf rules pairs cells reaches → place ≡ line_place code first
     → last < 2 ^ 32 → first ≤ last → IsStretch cells code first last count → HasTaker rules pairs code first last taker
 
--- what a cell says of a place that no other cell has
+-- the answer of a cell about a place that no other cell has
 abbrev pub taker_of : PointCell → ℕ → Taker
 taker_of cell place = if ltb cell.last place then Nobody else Only cell.rule

@@ -86,11 +86,26 @@ impl CodeIndex {
     {
         let pairs = self.pairs_from(act.code);
         if is_long(pairs, act.code) {
-            if let Some((verdict, _)) = self.run_by_table(asset, act, act.point) {
-                return verdict;
+            self.verdict_of_many(asset, act)
+        } else {
+            verdict_of_front(pairs, asset.rules.as_slice(), act)
+        }
+    }
+
+    /// What `verdict` says, by the table where it tells.
+    #[inline(never)]
+    fn verdict_of_many(&self, asset: &Asset, act: &Act) -> Verdict
+        ensures decides { (client : ℕ) → IsIndexOf asset.now client self.now → result ≡ verdict_of asset.now client act.now }
+        ensures inside { IsInside asset.now.rules result }
+    {
+        match self.run_by_table(asset, act, act.point) {
+            Some((verdict, _)) => verdict,
+            None => {
+                let pairs = pairs_of(self.pairs(), act.code);
+                let rules = asset.rules.as_slice();
+                verdict_at(pairs, rules, act, first_place(pairs, rules, act))
             }
         }
-        verdict_of_front(pairs, asset.rules.as_slice(), act)
     }
 
     /// The pairs from the first of a code on, where they ascend by code.

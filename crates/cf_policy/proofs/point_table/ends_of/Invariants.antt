@@ -1,4 +1,4 @@
-use Rattle.std.proofs.Common.{ℕ, ◌≡◌, ◌<◌, ◌≤◌, ◌^◌, true, take, pos}
+use Rattle.std.proofs.Common.{ℕ, ◌≡◌, ◌≤◌, true, take, pos}
 use Rattle.std.specs.List.{list_any}
 use Rattle.cf_policy.specs.Verdict.{covers}
 use Rattle.cf_policy.proofs.point_table.ends_of.Given as goal

@@ -1,4 +1,4 @@
-use Rattle.std.proofs.Common.{◌≡◌, ◌+◌, ◌<◌, ◌≤◌, sym, subst, ap, refl, ◌∙◌, arith}
+use Rattle.std.proofs.Common.{◌+◌, arith}
 use Rattle.cf_policy.proofs.point_table.find_taker.Goals as goal
 
 pub returns-clause-taker : goal.returns-clause-taker

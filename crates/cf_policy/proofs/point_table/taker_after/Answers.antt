@@ -1,10 +1,8 @@
-use Rattle.std.proofs.Common.{◌≡◌, ◌+◌, ◌-◌, ◌<◌, ◌≤◌, Some, Bool, true, false, ltb, ltb-true, ltb-false, sym, subst, ap, refl, ◌∙◌, arith}
+use Rattle.std.proofs.Common.{◌≡◌, ◌-◌, ◌<◌, ◌≤◌, Some, ltb, ltb-true, ltb-false, sym, subst, ap, ◌∙◌, arith}
 use Rattle.std.specs.Prelude.{slice_get, if◌then◌else◌}
 use Rattle.std.proofs.lemmas.Bool.{cases_Bool}
 use Rattle.std.proofs.lemmas.Option.{slice_get-get_or}
 use mathlib.Core.Logic.{⊎_elim}
-use Rattle.cf_policy.specs.declared.point_table.PointCell.{PointCell}
-use Rattle.cf_policy.specs.declared.point_table.Taker.{Taker}
 use Rattle.cf_policy.specs.declared.point_table.Taker.TheVariants.{Nobody, Only}
 use Rattle.cf_policy.specs.PointTable.{HasTaker, line_place}
 use Rattle.cf_policy.proofs.PointTable.{nobody_first, nobody_after, only_after}

@@ -1,12 +1,11 @@
-use Rattle.std.proofs.Common.{◌≡◌, ◌∙◌, ◌&&◌, if◌then◌else◌, not, sym, subst, ap, List}
+use Rattle.std.proofs.Common.{◌∙◌, ◌&&◌, if◌then◌else◌, not, sym, subst, ap, List}
 use Rattle.std.specs.List.{list_any}
 use Rattle.cf_view.specs.declared.base.Reason.TheVariants as reason
 use Rattle.cf_policy.specs.declared.policy.Rule.{Rule}
-use Rattle.cf_policy.specs.declared.index.CodePair.{CodePair}
 use Rattle.cf_policy.specs.declared.policy.Decider.TheVariants as decider
 use Rattle.cf_policy.specs.declared.policy.Verdict.TheVariants as verdict
-use Rattle.cf_policy.specs.Index.{ArePairsOf, IsPartOfCode, has_group, rule_at}
-use Rattle.cf_policy.specs.Verdict.{has_function, has_point, is_allow}
+use Rattle.cf_policy.specs.Index.{ArePairsOf, has_group, rule_at}
+use Rattle.cf_policy.specs.Verdict.{is_allow}
 use Rattle.cf_policy.proofs.ByTable.{group_same}
 use Rattle.cf_policy.proofs.index.CodeIndex.refusal.Goals as goal
 

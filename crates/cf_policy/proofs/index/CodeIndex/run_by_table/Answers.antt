@@ -1,7 +1,6 @@
-use Rattle.std.proofs.Common.{◌≡◌, ◌∙◌, sym, subst, ap, ℕ, List, arith}
+use Rattle.std.proofs.Common.{sym, subst, ℕ, List, arith}
 use Rattle.cf_policy.specs.declared.policy.Rule.{Rule}
 use Rattle.cf_policy.specs.declared.point_table.PointCell.{PointCell}
-use Rattle.cf_policy.specs.declared.point_table.Taker.{Taker}
 use Rattle.cf_policy.specs.declared.point_table.Taker.TheVariants.{Nobody, Only}
 use Rattle.cf_policy.specs.PointTable.{HasTaker, IsTableOf, takes_point}
 use Rattle.cf_policy.specs.Run.{IsSteady}

@@ -1,15 +1,11 @@
-use Rattle.std.proofs.Common.{◌∙◌, ap, arith, sym, take}
+use Rattle.std.proofs.Common.{◌∙◌, ap, take}
 use Rattle.cf_policy.specs.Index.{verdict_by}
 use Rattle.cf_policy.proofs.ByCode.{verdict_is}
 use Rattle.cf_policy.proofs.Fronts.{front_of}
 use Rattle.cf_policy.proofs.index.CodeIndex.verdict.Goals as goal
 
-pub returns-in-Some-clause-decides : goal.returns-in-Some-clause-decides
-returns-in-Some-clause-decides c = λ client index.
-    sym (c.in-Some.ensures.run client index c.args.act.now.point (omega arith) c.in-Some.ensures.reaches)
-
-pub returns-clause-decides : goal.returns-clause-decides
-returns-clause-decides c = λ client index.
+pub returns-else-is_long-clause-decides : goal.returns-else-is_long-clause-decides
+returns-else-is_long-clause-decides c = λ client index.
     let rest = c.pairs_from-pairs.result.now in
     let front = front_of c.args.act.now.code rest in
     let part = c.pairs_from-pairs.ensures index.pairs.ascending front.0 front.1 in

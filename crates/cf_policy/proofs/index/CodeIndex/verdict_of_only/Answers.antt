@@ -1,4 +1,4 @@
-use Rattle.std.proofs.Common.{◌≡◌, ◌∙◌, ◌&&◌, sym, subst, ap, List, true, false}
+use Rattle.std.proofs.Common.{◌≡◌, ◌∙◌, ◌&&◌, sym, ap, List, true, false}
 use Rattle.cf_view.specs.declared.base.Reason.TheVariants as reason
 use Rattle.cf_policy.specs.declared.policy.Rule.{Rule}
 use Rattle.cf_policy.specs.Index.{has_group_and_point, has_group_to_value, rule_at}
