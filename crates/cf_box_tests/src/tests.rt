@@ -1,6 +1,8 @@
-//! Relays, sifts and worlds over objects in memory as rows of text, and the files and streams of the machine.
+//! Relays, sifts and worlds over objects in memory as rows of text, the files and streams of the machine, and what is said on standard
+//! error of what was printed.
 mod machine;
 mod relays;
+mod remarks;
 mod sifts;
 mod texts;
 mod worlds;
