@@ -32,9 +32,11 @@ use Rattle.std.specs.Prelude.{Err, List, None, Ok, Option, Some, [], codes, map,
 abbrev pub one : Endpoint
 one = record { address = 0x0a000005; port = 49152 }
 
+-- the client beside it
 abbrev pub other : Endpoint
 other = record { address = 0x0a000006; port = 49153 }
 
+-- the end of the pump
 abbrev pub pump : Endpoint
 pump = modbus_asset.endpoint
 
@@ -55,6 +57,7 @@ segment source dest seq ack flags window mss = record {
 abbrev pub asks : Endpoint → (number : ℕ) → PacketValue
 asks client number = segment client pump number 0 2 64240 None
 
+-- the SYN of the box in the place of a client
 abbrev pub greets : Endpoint → (number : ℕ) → PacketValue
 greets client number = segment client pump number 0 2 16384 (Some 1460)
 
@@ -62,11 +65,13 @@ greets client number = segment client pump number 0 2 16384 (Some 1460)
 abbrev pub reset : PacketValue
 reset = segment one pump 1001 0 4 0 None
 
+-- the RST of the box to the client
 abbrev pub reset_back : PacketValue
 reset_back = segment pump one 0 1001 20 0 None
 
 -- ---- events
 
+-- the flow that a SYN of a client begins
 abbrev pub flow : Endpoint → (number : ℕ) → Flow
 flow client number = record { asset = modbus_asset; syn = asks client number }
 
@@ -80,9 +85,11 @@ begins client number tick = record {
   cut = None;
 }
 
+-- a first half, in which the SYN may go out again
 abbrev pub waits : (tick : ℕ) → (fired : List PacketValue) → SessionEvent
 waits tick fired = record { controller = clocked tick fired; client = clocked tick []; fed = []; work = no_work; cut = None }
 
+-- the event of the reset
 abbrev pub resets : (tick : ℕ) → (fired : List PacketValue) → SessionEvent
 resets tick fired = record {
   controller = record (clocked tick fired) { ending = Cut reset };
@@ -101,9 +108,11 @@ begun_by client number moment ticks =
       received = Begun (flow client number) (begins client number (moment - 1));
     }
 
+-- the event in which the first session begins
 abbrev pub first : RunEvent
 first = begun_by one 1000 1000000 []
 
+-- the event in which that of the other client begins
 abbrev pub second : RunEvent
 second = begun_by other 2000 2000000 (waits 1999999 [] ∷ [])
 
@@ -115,12 +124,15 @@ third_with others = record {
   received = Went 0 (resets 2999999 (greets one 1000 ∷ []));
 }
 
+-- the event of the reset, beside the other session
 abbrev pub third : RunEvent
 third = third_with (waits 2999999 [] ∷ [])
 
+-- the event in which the one client begins anew
 abbrev pub fourth : RunEvent
 fourth = begun_by one 5000 4000000 (waits 3999999 (greets other 2000 ∷ []) ∷ [])
 
+-- all events, the newest first
 abbrev pub events : List RunEvent
 events = fourth ∷ third ∷ second ∷ first ∷ []
 
@@ -132,11 +144,13 @@ dropped = record {
   received = Dropped;
 }
 
+-- the events of that run
 abbrev pub alone : List RunEvent
 alone = begun_by one 5000 4000000 [] ∷ third_with [] ∷ dropped ∷ first ∷ []
 
 -- ---- what goes out
 
+-- a packet that goes out at a moment
 abbrev pub at : ℕ → PacketValue → Sent
 at moment packet = record { moment = moment; packet = packet }
 
@@ -144,22 +158,28 @@ at moment packet = record { moment = moment; packet = packet }
 abbrev pub of_first_half : List Sent
 of_first_half = at 1000000 (greets one 1000) ∷ []
 
+-- packets of the first session
 abbrev pub of_first : List Sent
 of_first =
     at 1000000 (greets one 1000) ∷ at 2999999 (greets one 1000) ∷ at 3000000 reset ∷ at 3000000 reset_back ∷ []
 
+-- packets of the second session of the one client
 abbrev pub of_next : List Sent
 of_next = at 4000000 (greets one 5000) ∷ []
 
+-- packets of the other client
 abbrev pub of_other : List Sent
 of_other = at 2000000 (greets other 2000) ∷ at 3999999 (greets other 2000) ∷ []
 
+-- lines of the first session
 abbrev pub first_lines : List (List ℕ)
 first_lines = codes "1.000000 10.0.0.5:49152 pump open\n" ∷ codes "3.000000 10.0.0.5:49152 pump cut client reset\n" ∷ []
 
+-- the line of the second one
 abbrev pub next_lines : List (List ℕ)
 next_lines = codes "4.000000 10.0.0.5:49152 pump open\n" ∷ []
 
+-- the line of the other client
 abbrev pub other_lines : List (List ℕ)
 other_lines = codes "2.000000 10.0.0.6:49153 pump open\n" ∷ []
 
@@ -221,12 +241,14 @@ pub record ShowsBoth (flow : Flow) : Type 0 where
 abbrev pub first_session : Session
 first_session = record { flow = flow one 1000; events = resets 2999999 (greets one 1000 ∷ []) ∷ waits 1999999 [] ∷ begins one 1000 999999 ∷ [] }
 
+-- the session of the other client
 abbrev pub other_session : Session
 other_session = record {
   flow = flow other 2000;
   events = waits 3999999 (greets other 2000 ∷ []) ∷ waits 2999999 [] ∷ begins other 2000 1999999 ∷ [];
 }
 
+-- the second session of the one client
 abbrev pub next_session : Session
 next_session = record { flow = flow one 5000; events = begins one 5000 3999999 ∷ [] }
 

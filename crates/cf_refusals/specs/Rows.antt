@@ -37,6 +37,7 @@ levels = record {
   log = true;
 }
 
+-- the pump with that rule alone
 abbrev pub pump : Asset
 pump = record modbus_asset { rules = levels ∷ [] }
 
@@ -44,6 +45,7 @@ pump = record modbus_asset { rules = levels ∷ [] }
 abbrev pub one_client : Endpoint
 one_client = record { address = 0x0a000005; port = 49152 }
 
+-- the client of the other session
 abbrev pub other_client : Endpoint
 other_client = record { address = 0x0a000006; port = 49153 }
 
@@ -83,6 +85,7 @@ exception code = 0 ∷ 1 ∷ 0 ∷ 0 ∷ 0 ∷ 3 ∷ 1 ∷ 0x86 ∷ code ∷ []
 abbrev pub operated : Item
 operated = Took side.Client (Frame (data_frame dnp3_asset side.Controller (0xc0 ∷ direct_operate)))
 
+-- the STARTDT of the client, which is carried
 abbrev pub started : Judged
 started = record { moment = 0; item = Took side.Client (Apdu (Control 7)); fate = fate.Carried }
 

@@ -24,9 +24,11 @@ use Rattle.std.specs.Prelude.{Bool, List, None, Option, Some, [], false, filter,
 abbrev pub one : Endpoint
 one = record { address = 0x0a000005; port = 49152 }
 
+-- the other client
 abbrev pub other : Endpoint
 other = record { address = 0x0a000006; port = 49153 }
 
+-- the end of the pump
 abbrev pub pump : Endpoint
 pump = modbus_asset.endpoint
 
@@ -47,9 +49,11 @@ segment source dest seq ack flags mss text = record {
 abbrev pub greets : Endpoint → (number : ℕ) → PacketValue
 greets client number = segment client pump number 0 2 (Some 1460) []
 
+-- the SYN ACK of the box to a client
 abbrev pub answers : Endpoint → (number : ℕ) → PacketValue
 answers client number = segment pump client 7000 (number + 1) 18 (Some 1460) []
 
+-- the segment with a request
 abbrev pub requests : Endpoint → (number : ℕ) → (text : List ℕ) → PacketValue
 requests client number text = segment client pump (number + 1) 7001 24 None text
 
@@ -65,6 +69,7 @@ all =
     ∷ record { moment = 5000000; packet = requests one 1000 (read_of 0) } ∷ record { moment = 6000000; packet = requests other 2000 (read_of 1) }
     ∷ []
 
+-- the records of the capture, the newest first
 abbrev pub newest : List Record
 newest = reverse (map record_by all)
 
@@ -83,12 +88,15 @@ abbrev pub flow : Endpoint → (number : ℕ) → (all : List Carried) → (answ
 flow client number all answered =
     record { client = client; asset = 0; origin = number; answered = answered; midstream = None; carried = all }
 
+-- the flow of the one client
 abbrev pub one_flow : Watched
 one_flow = flow one 1000 (carried 5 (read_of 0) ∷ carried 1 [] ∷ []) true
 
+-- the flow of the other client
 abbrev pub other_flow : Watched
 other_flow = flow other 2000 (carried 6 (read_of 1) ∷ carried 2 [] ∷ []) true
 
+-- the policy of the pump alone
 abbrev pub pumps : List Asset
 pumps = modbus_asset ∷ []
 
@@ -96,6 +104,7 @@ pumps = modbus_asset ∷ []
 abbrev pub heard : List Numbered
 heard = numbered_from 1 all
 
+-- the packets of the one client with their numbers
 abbrev pub one_heard : List Numbered
 one_heard = record { number = 1; packet = greets one 1000 } ∷ record { number = 5; packet = requests one 1000 (read_of 0) } ∷ []
 

@@ -60,6 +60,7 @@ pumps = reads ∷ []
 abbrev pub read_of : (point : ℕ) → AduValue
 read_of point = record { transaction = 1; unit = 1; pdu = 3 ∷ 0 ∷ point ∷ 0 ∷ 1 ∷ [] }
 
+-- the octets of a read
 abbrev pub read_octets : (point : ℕ) → List ℕ
 read_octets point = 0 ∷ 1 ∷ 0 ∷ 0 ∷ 0 ∷ 6 ∷ 1 ∷ 3 ∷ 0 ∷ point ∷ 0 ∷ 1 ∷ []
 
@@ -67,9 +68,11 @@ read_octets point = 0 ∷ 1 ∷ 0 ∷ 0 ∷ 0 ∷ 6 ∷ 1 ∷ 3 ∷ 0 ∷ point 
 abbrev pub one_client : Endpoint
 one_client = record { address = 0x0a000005; port = 49152 }
 
+-- the client of the other flow
 abbrev pub other_client : Endpoint
 other_client = record { address = 0x0a000006; port = 49153 }
 
+-- the flow with a read of register 0
 abbrev pub one_flow : FlowValue
 one_flow = record {
   client = one_client;
@@ -80,6 +83,7 @@ one_flow = record {
   conflict = None;
 }
 
+-- the flow with a read of any register
 abbrev pub other_flow : (point : ℕ) → FlowValue
 other_flow point = record {
   client = other_client;
@@ -99,6 +103,7 @@ objection =
 abbrev pub clear : Judgement
 clear = record { flows = 2; commands = 2; objection = None }
 
+-- one command allowed, and the objection
 abbrev pub objected : Judgement
 objected = record { flows = 2; commands = 1; objection = Some objection }
 
