@@ -39,7 +39,7 @@ use crate::world::world;
 use cf_ending::{Done, Stop, put_text, report};
 use cf_lane::{has_one_judgement, lane_passes_allowed, rates_hold};
 use cf_outside::{Files, Pair, Sink};
-use cf_run::runs_have_headline;
+use cf_run::{runs_are_logged, runs_have_headline};
 use cf_sift::has_one_cut;
 use cf_words::status::USAGE;
 use cf_words::{Command, read_words};
@@ -227,6 +227,7 @@ pub fn box_main<F: Files, O: Sink, P: Pair>(
     has_one_cut();
     has_one_judgement();
     runs_have_headline();
+    runs_are_logged();
     match read_words(words) {
         None => put_text("usage\n", USAGE, USAGE, out),
         Some(command) => {

@@ -11,7 +11,7 @@ use Rattle.cf_session.specs.Session.{client_of}
 use Rattle.cf_view.specs.declared.Endpoint.{Endpoint}
 use Rattle.cf_records.specs.Records.{HaveOneList}
 use Rattle.cf_run.specs.Selected.{Rises}
-use Rattle.cf_run.specs.Sessions.{Each, SessionsAreRight, sessions_of}
+use Rattle.cf_run.specs.Sessions.{SessionsAreRight, sessions_of}
 use Rattle.cf_run.specs.Table.{Session, is_between}
 use Rattle.cf_run.specs.Trace.{AreRunEvents, RunEvent, sent, sent_in_first, sent_in_second, sent_received, tick_of}
 use Rattle.cf_isolation.specs.Lives.{EachHasALife, EachHasRecords, EachSent, HasLife, born_at, is_in_life, own_sent}
@@ -31,9 +31,9 @@ each_has_a_life events place s h =
     record { before = a.front; later = a.back; are = a.is ∙ ap (λ b. a.front ++ cond b (s ∷ a.back) a.back) own }
 
 -- what holds of each session holds of one that has a life
-pub of_life : (P : Session → Type 0) (s : Session) (events : List RunEvent) (life : HasLife s events) → Each P (sessions_of events) → P s
+pub of_life : (P : Session → Type 0) (s : Session) (events : List RunEvent) (life : HasLife s events) → AllByRecursion P (sessions_of events) → P s
 of_life P s events life all =
-    (each_back P life.before (s ∷ life.later) (subst (Each P) life.are (each_filter P (is_between (client_of s.flow) s.flow.asset.endpoint) (sessions_of events) all))).0
+    (each_back P life.before (s ∷ life.later) (subst (AllByRecursion P) life.are (each_filter P (is_between (client_of s.flow) s.flow.asset.endpoint) (sessions_of events) all))).0
 
 module _ (law : SessionsAreRight) (assets : List Asset) (limit : ℕ) (client asset : Endpoint) (none : has_asset_at assets client ≡ false) (some : has_asset_at assets asset ≡ true) where
   abbrev is_mine : Sent → Bool

@@ -11,7 +11,7 @@ use Rattle.cf_view.specs.declared.Endpoint.{Endpoint}
 use Rattle.cf_view.specs.declared.Side.{Side}
 use Rattle.cf_run.specs.Isolation.{begins_theirs, goes_to_theirs, ticks_of}
 use Rattle.cf_run.specs.Selected.{Rises, last_moment}
-use Rattle.cf_run.specs.Sessions.{Each, HasEvents, HasRightEvents as IsRightSession, SessionsAreRight, gone_after, leaves, left_by_packet, left_in, sessions_of}
+use Rattle.cf_run.specs.Sessions.{HasEvents, HasRightEvents as IsRightSession, SessionsAreRight, gone_after, leaves, left_by_packet, left_in, sessions_of}
 use Rattle.cf_run.specs.Summary.{found}
 use Rattle.cf_run.specs.Table.{Session, is_between}
 use Rattle.cf_run.specs.Trace.{AreRunEvents, Begun, RunEvent, Received, Went, behind, kept, table_after, tick_of, with_events}
@@ -57,12 +57,12 @@ module _ {X : Type 0} (at : X → ℕ) (first : Flow → SessionEvent → List X
     few : AtMostOne (mine (table_after es))
 
   right_one : (es : List RunEvent) → Right es → (s : Session) → mine (table_after es) ≡ s ∷ [] → HasEvents limit s.flow s.events
-  right_one es h s is = (subst (Each (IsRightSession limit)) is (each_some (table_after es) (rights_after law assets limit es (are_of es h)))).0
+  right_one es h s is = (subst (AllByRecursion (IsRightSession limit)) is (each_some (table_after es) (rights_after law assets limit es (are_of es h)))).0
     where
-      each_some : (ss : List Session) → Each (IsRightSession limit) ss → Each (IsRightSession limit) (filter (is_between client asset) ss)
+      each_some : (ss : List Session) → AllByRecursion (IsRightSession limit) ss → AllByRecursion (IsRightSession limit) (filter (is_between client asset) ss)
       each_some [] g = tt
       each_some (x ∷ ss) g =
-          elim (is_between client asset x) as (λ b. Each (IsRightSession limit) (cond b (x ∷ filter (is_between client asset) ss) (filter (is_between client asset) ss)))
+          elim (is_between client asset x) as (λ b. AllByRecursion (IsRightSession limit) (cond b (x ∷ filter (is_between client asset) ss) (filter (is_between client asset) ss)))
           [ true ↦ (g.0, each_some ss g.1) | false ↦ each_some ss g.1 ]
 
   five : (g x y z t : List Session) → (g ++ (x ++ (y ++ z))) ++ t ≡ (g ++ (x ++ y)) ++ (z ++ t)

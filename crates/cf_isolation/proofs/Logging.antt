@@ -17,7 +17,7 @@ use Rattle.cf_view.specs.declared.Endpoint.{Endpoint}
 use Rattle.cf_run.specs.Isolation.{RunsIsolateSessions, begins_theirs, goes_to_theirs, is_flow_of, is_theirs, logged_by, logged_over, moments_of, ticks_of}
 use Rattle.cf_run.specs.Run.{inputs_of}
 use Rattle.cf_run.specs.Selected.{Rises, last_moment}
-use Rattle.cf_run.specs.Sessions.{Each, SessionsAreRight}
+use Rattle.cf_run.specs.Sessions.{SessionsAreRight}
 use Rattle.cf_run.specs.Summary.{found}
 use Rattle.cf_run.specs.Table.{Session, is_between}
 use Rattle.cf_view.specs.Endpoints.{same_endpoint}
@@ -75,7 +75,7 @@ module _ (works : WorkIsOfTheTaken) (assets : List Asset) (within : AreAssetsWit
     pub moments : AllByRecursion (λ line. moment_in line ≡ tick) (logged_ticks ss ts)
     pub names : naming (logged_ticks ss ts) ≡ logged_ticks (filter (is_between client asset.endpoint) ss) (ticks_of client asset.endpoint ss ts)
 
-  ticks_naming : (tick : ℕ) (ss : List Session) (ts : List SessionEvent) → IsMoment tick → Each (Has (IsKnown assets)) ss → AreTicks tick ss ts → TicksNaming tick ss ts
+  ticks_naming : (tick : ℕ) (ss : List Session) (ts : List SessionEvent) → IsMoment tick → AllByRecursion (Has (IsKnown assets)) ss → AreTicks tick ss ts → TicksNaming tick ss ts
   ticks_naming tick [] ts m k are = record { moments = tt; names = refl }
   ticks_naming tick (s ∷ ss) [] m k are = absurd are
   ticks_naming tick (s ∷ ss) (t ∷ ts) m k are =
@@ -102,7 +102,7 @@ module _ (works : WorkIsOfTheTaken) (assets : List Asset) (within : AreAssetsWit
     pub moments : AllByRecursion (λ line. moment_in line ≡ tick + 1) (logged_received table r)
     pub names : naming (logged_received table r) ≡ lines_theirs table r
 
-  received_naming : (tick : ℕ) → IsMoment (tick + 1) → (table : List Session) (p : Result PacketValue PacketRefusal) (r : Received) → Each (Has (IsKnown assets)) table → Each (IsHalved limit tick) table →
+  received_naming : (tick : ℕ) → IsMoment (tick + 1) → (table : List Session) (p : Result PacketValue PacketRefusal) (r : Received) → AllByRecursion (Has (IsKnown assets)) table → AllByRecursion (IsHalved limit tick) table →
       ((f : Flow) (e : SessionEvent) → r ≡ Begun f e → IsKnown assets f) → ReceivesRecord assets limit tick table p r → SecondNaming tick table r
   received_naming tick m table p r k h new g =
       receives_halved assets limit tick table h (λ r. ((f : Flow) (e : SessionEvent) → r ≡ Begun f e → IsKnown assets f) → SecondNaming tick table r)

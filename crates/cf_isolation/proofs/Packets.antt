@@ -19,7 +19,7 @@ use Rattle.cf_session.specs.Session.{Flow, SessionEvent, client_ends, client_of,
 use Rattle.cf_view.specs.declared.Endpoint.{Endpoint}
 use Rattle.cf_view.specs.declared.Side.{Side}
 use Rattle.cf_run.specs.Isolation.{begins_theirs, goes_to_theirs, is_flow_of, is_theirs, ticks_of}
-use Rattle.cf_run.specs.Sessions.{Each, HasEvents, HasRightEvents as IsRightSession}
+use Rattle.cf_run.specs.Sessions.{HasEvents, HasRightEvents as IsRightSession}
 use Rattle.cf_run.specs.Table.{Session, is_between}
 use Rattle.cf_view.specs.Endpoints.{same_endpoint}
 use Rattle.cf_run.specs.Trace.{AreTicks, Begun, Dropped, GoesOnAt, GoesOnWith, NoRoom, NoSession, Received, ReceivesRecord, Went, kept, sent_received, stays, ticked, with_events}
@@ -42,17 +42,17 @@ pub right_events : (limit : ℕ) (f : Flow) (es : List SessionEvent) → HasEven
 right_events limit f [] h = absurd h
 right_events limit f (e ∷ es) h = h.0
 
-halved : (limit tick : ℕ) (ss : List Session) (ts : List SessionEvent) → Each (IsRightSession limit) ss → AreTicks tick ss ts → Each (IsHalved limit tick) (with_events ss ts)
+halved : (limit tick : ℕ) (ss : List Session) (ts : List SessionEvent) → AllByRecursion (IsRightSession limit) ss → AreTicks tick ss ts → AllByRecursion (IsHalved limit tick) (with_events ss ts)
 halved limit tick [] ts h are = tt
 halved limit tick (s ∷ ss) [] h are = absurd are
 halved limit tick (s ∷ ss) (t ∷ ts) h are = ((are.0.client_tick, right_events limit s.flow s.events h.0), halved limit tick ss ts h.1 are.1)
 
-pub all_halved : (limit tick : ℕ) (ss : List Session) (ts : List SessionEvent) → Each (IsRightSession limit) ss → AreTicks tick (kept tick ss) ts → Each (IsHalved limit tick) (ticked ts tick ss)
+pub all_halved : (limit tick : ℕ) (ss : List Session) (ts : List SessionEvent) → AllByRecursion (IsRightSession limit) ss → AreTicks tick (kept tick ss) ts → AllByRecursion (IsHalved limit tick) (ticked ts tick ss)
 all_halved limit tick ss ts h are =
     each_filter (IsHalved limit tick) stays (with_events (kept tick ss) ts) (halved limit tick (kept tick ss) ts (each_filter (IsRightSession limit) _ ss h) are)
 
 -- the packet of a record begins a session, or one of these goes on, or nothing happens
-module _ (assets : List Asset) (limit tick : ℕ) (table : List Session) (halved : Each (IsHalved limit tick) table) (P : Received → Type 0) (nothing : P Dropped × P NoRoom × P NoSession)
+module _ (assets : List Asset) (limit tick : ℕ) (table : List Session) (halved : AllByRecursion (IsHalved limit tick) table) (P : Received → Type 0) (nothing : P Dropped × P NoRoom × P NoSession)
     (begun : (f : Flow) (e : SessionEvent) → IsBeginning f tick e → P (Begun f e))
     (went : (i : ℕ) (e : SessionEvent) (s : Side) (p : PacketValue) (x : Session) (half : SessionEvent) (es : List SessionEvent) → slice_get table i ≡ Some x → x.events ≡ half ∷ es →
     half.client.tick ≡ tick → AreSessionEvents x.flow limit es → IsPacket x.flow limit es half s p e → P (Went i e)) where
@@ -131,7 +131,7 @@ module _ (assets : List Asset) (client asset : Endpoint) (none : has_asset_at as
   abbrev between : List Sent → List Sent
   between all = filter (λ s. goes_between client asset s.packet) all
 
-  pub ticks_between : (limit tick : ℕ) (ss : List Session) (ts : List SessionEvent) → Each (IsRightSession limit) ss → Each (HasOwn assets) ss → AreTicks tick ss ts →
+  pub ticks_between : (limit tick : ℕ) (ss : List Session) (ts : List SessionEvent) → AllByRecursion (IsRightSession limit) ss → AllByRecursion (HasOwn assets) ss → AreTicks tick ss ts →
       between (flat_map sent_first ts) ≡ flat_map sent_first (ticks_of client asset ss ts)
   ticks_between limit tick [] ts h own are = ap (λ xs. between (flat_map sent_first xs)) are
   ticks_between limit tick (s ∷ ss) [] h own are = absurd are
@@ -149,7 +149,7 @@ module _ (assets : List Asset) (client asset : Endpoint) (none : has_asset_at as
   abbrev pub received_theirs : List Session → Received → List Sent
   received_theirs table r = (if goes_to_theirs client asset table r then sent_received r else []) ++ (if begins_theirs client asset r then sent_received r else [])
 
-  pub received_between : (limit tick : ℕ) (table : List Session) (p : Result PacketValue PacketRefusal) (r : Received) → Each (HasOwn assets) table → Each (IsHalved limit tick) table →
+  pub received_between : (limit tick : ℕ) (table : List Session) (p : Result PacketValue PacketRefusal) (r : Received) → AllByRecursion (HasOwn assets) table → AllByRecursion (IsHalved limit tick) table →
       ((f : Flow) (e : SessionEvent) → r ≡ Begun f e → IsOwn assets f) → ReceivesRecord assets limit tick table p r → between (sent_received r) ≡ received_theirs table r
   received_between limit tick table p r own h new g =
       receives_halved assets limit tick table h (λ r. ((f : Flow) (e : SessionEvent) → r ≡ Begun f e → IsOwn assets f) → between (sent_received r) ≡ received_theirs table r)

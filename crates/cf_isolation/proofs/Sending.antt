@@ -15,7 +15,7 @@ use Rattle.cf_session.specs.Session.{Flow, SessionEvent, client_of}
 use Rattle.cf_view.specs.declared.Endpoint.{Endpoint}
 use Rattle.cf_run.specs.Isolation.{HasSession, NoneBegins, begins_theirs, goes_to_theirs, is_flow_of, sent_by, sent_over, ticks_of}
 use Rattle.cf_run.specs.Selected.{Rises, last_moment}
-use Rattle.cf_run.specs.Sessions.{Each, HasRightEvents as IsRightSession, SessionsAreRight, gone_after}
+use Rattle.cf_run.specs.Sessions.{HasRightEvents as IsRightSession, SessionsAreRight, gone_after}
 use Rattle.cf_run.specs.Summary.{found}
 use Rattle.cf_run.specs.Table.{Session}
 use Rattle.cf_run.specs.Trace.{AreRunEvents, AreTicks, Begun, RunEvent, Received, ReceivesRecord, kept, sent, sent_in_first, sent_in_second, sent_received, table_after, tick_of}
@@ -43,7 +43,7 @@ ticks_at tick (s ∷ ss) (t ∷ ts) are = all_both _ (sent_first t) _ (all_at ti
 second_at : (tick : ℕ) (e : SessionEvent) → e.client.tick ≡ tick → AllAt (tick + 1) (sent_second e)
 second_at tick e h = all_at (tick + 1) (moment e.client) _ (ap (λ n. n + 1) h)
 
-received_at : (assets : List Asset) (limit tick : ℕ) (table : List Session) (p : Result PacketValue PacketRefusal) (r : Received) → Each (IsHalved limit tick) table →
+received_at : (assets : List Asset) (limit tick : ℕ) (table : List Session) (p : Result PacketValue PacketRefusal) (r : Received) → AllByRecursion (IsHalved limit tick) table →
     ReceivesRecord assets limit tick table p r → AllAt (tick + 1) (sent_received r)
 received_at assets limit tick table p r h g =
     receives_halved assets limit tick table h (λ r. AllAt (tick + 1) (sent_received r)) (tt, tt, tt) (λ f e b. second_at tick e (ap (λ x. x.tick) b.client))
@@ -52,10 +52,10 @@ received_at assets limit tick table p r h g =
 -- ---- an event
 
 module _ (law : SessionsAreRight) (assets : List Asset) (limit : ℕ) where
-  pub rights_after : (es : List RunEvent) → AreRunEvents assets limit es → Each (IsRightSession limit) (table_after es)
+  pub rights_after : (es : List RunEvent) → AreRunEvents assets limit es → AllByRecursion (IsRightSession limit) (table_after es)
   rights_after es are = each_back (IsRightSession limit) (gone_after es) (table_after es) (law assets limit es are)
 
-  pub halves : (e : RunEvent) (es : List RunEvent) → AreRunEvents assets limit (e ∷ es) → Each (IsHalved limit (tick_of e.input)) (found (table_after es) e)
+  pub halves : (e : RunEvent) (es : List RunEvent) → AreRunEvents assets limit (e ∷ es) → AllByRecursion (IsHalved limit (tick_of e.input)) (found (table_after es) e)
   halves e es h = all_halved limit (tick_of e.input) (table_after es) e.ticks (rights_after es h.1) h.0.ticks
 
   abbrev now : List RunEvent → RunEvent → List Sent
@@ -80,7 +80,7 @@ module _ (law : SessionsAreRight) (assets : List Asset) (limit : ℕ) where
   begun_own : (e : RunEvent) (es : List RunEvent) → AreRunEvents assets limit (e ∷ es) → (f : Flow) (b : SessionEvent) → e.received ≡ Begun f b → IsOwn assets f
   begun_own e es h f b is = (begun_in assets limit e es h f b is).2.own
 
-  own_after : (es : List RunEvent) → AreRunEvents assets limit es → Each (HasOwn assets) (table_after es)
+  own_after : (es : List RunEvent) → AreRunEvents assets limit es → AllByRecursion (HasOwn assets) (table_after es)
   own_after es h = table_has (IsOwn assets) es (all_own assets limit es h)
 
   module _ (client asset : Endpoint) (none : has_asset_at assets client ≡ false) (some : has_asset_at assets asset ≡ true) where

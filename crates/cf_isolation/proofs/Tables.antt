@@ -1,7 +1,7 @@
 -- The flows of a table's sessions: each goes from no asset's endpoint to an asset's.
 use Rattle.std.proofs.Common.{◌≡◌, ℕ, zero, suc, ◌&&◌, ◌||◌, Bool, true, false, not, List, [], ◌∷◌, ◌++◌, cond, if◌then◌else◌, Option, Some, None, Result, Ok, Err, refl, sym, ap, ◌∙◌, subst, arith}
 use Rattle.std.specs.Prelude.{filter, slice_get}
-use Rattle.std.specs.List.{remove}
+use Rattle.std.specs.List.{AllByRecursion as Each, remove}
 use Rattle.std.proofs.lemmas.Bool.{true≢false}
 use Rattle.std.proofs.lemmas.Bool.Decides.{nat_tests}
 use Rattle.cf_leg.specs.Segment.{is_opening}
@@ -13,7 +13,7 @@ use Rattle.cf_session.specs.Event.{IsBeginning}
 use Rattle.cf_session.specs.Session.{Flow, SessionEvent, client_of, is_expired}
 use Rattle.cf_view.specs.declared.Endpoint.{Endpoint}
 use Rattle.cf_view.specs.declared.Side.{Side}
-use Rattle.cf_run.specs.Sessions.{Each, gone_after, leaves, left_by_packet, left_in, session_at, sessions_of}
+use Rattle.cf_run.specs.Sessions.{gone_after, leaves, left_by_packet, left_in, session_at, sessions_of}
 use Rattle.cf_run.specs.Table.{Begins, Full, Goes, Match, Session, begins, begins_or_full, goes, goes_from_client, match_of, may_begin, place_of, without}
 use Rattle.cf_view.specs.Endpoints.{same_endpoint}
 use Rattle.cf_run.specs.Trace.{AreRunEvents, Begun, Dropped, RunEvent, GoesOnAt, NoRoom, NoSession, Received, Receives, ReceivesRecord, Went, after_received, kept, stays, table_after, tick_of, ticked, with_event_at, with_events}

@@ -5,6 +5,7 @@ use Rattle.std.specs.List.{AllByRecursion, remove}
 use Rattle.std.proofs.lemmas.Bool.{and_parts, true≢false}
 use Rattle.std.proofs.lemmas.List.{append-nil}
 use Rattle.std.proofs.lemmas.List.Elements.{filter-append}
+use Rattle.std.specs.Option.{is_some}
 use Rattle.cf_audit.specs.declared.CutReason.{CutReason}
 use Rattle.cf_packet.specs.Packet.{PacketValue}
 use Rattle.cf_packet.specs.declared.packet.PacketRefusal.{PacketRefusal}
@@ -17,7 +18,7 @@ use Rattle.cf_run.specs.Isolation.{begins_theirs, goes_to_theirs, is_flow_of, is
 use Rattle.cf_run.specs.Sessions.{HasEvents, leaves, left_by_packet, session_at}
 use Rattle.cf_run.specs.Table.{Session, is_between, place_of, without}
 use Rattle.cf_view.specs.Endpoints.{same_endpoint}
-use Rattle.cf_run.specs.Trace.{AreTicks, Begun, Dropped, GoesOnAt, GoesOnWith, NoRoom, NoSession, Received, ReceivesRecord, Went, after_received, behind, is_cut, kept, stays, ticked, with_event_at, with_events}
+use Rattle.cf_run.specs.Trace.{AreTicks, Begun, Dropped, GoesOnAt, GoesOnWith, NoRoom, NoSession, Received, ReceivesRecord, Went, after_received, behind, kept, stays, ticked, with_event_at, with_events}
 use Rattle.cf_isolation.specs.Lives.{born_at}
 use Rattle.cf_isolation.proofs.Lists.{all_map}
 use Rattle.cf_isolation.proofs.Order.{IsWithin, Moves, born, comes, grows, stays_so}
@@ -29,7 +30,7 @@ pub data AtMostOne (ss : List Session) : Type 0 where
   none_there : ss ≡ [] → AtMostOne ss
   one_there : (s : Session) → ss ≡ s ∷ [] → AtMostOne ss
 
-pub uncut : (c : Option CutReason) → not (is_cut c) ≡ true → c ≡ None
+pub uncut : (c : Option CutReason) → not (is_some c) ≡ true → c ≡ None
 uncut None h = refl
 uncut (Some r) h = absurd (true≢false (sym h))
 
@@ -225,11 +226,11 @@ module _ {X : Type 0} (at : X → ℕ) (first : Flow → SessionEvent → List X
 
       here_stay : Here found → filter stays (mine found) ≡ mine found
       here_stay (nobody h) = ap (filter stays) h ∙ sym h
-      here_stay (going s t h right is none) = ap (filter stays) h ∙ filter_one stays true (ticked_one s t) (ap (λ x. not (is_cut x)) none) ∙ sym h
+      here_stay (going s t h right is none) = ap (filter stays) h ∙ filter_one stays true (ticked_one s t) (ap (λ x. not (is_some x)) none) ∙ sym h
 
       here_none : Here found → filter leaves (mine found) ≡ []
       here_none (nobody h) = ap (filter leaves) h
-      here_none (going s t h right is none) = ap (filter leaves) h ∙ filter_one leaves false (ticked_one s t) (ap (λ x. not (not (is_cut x))) none)
+      here_none (going s t h right is none) = ap (filter leaves) h ∙ filter_one leaves false (ticked_one s t) (ap (λ x. not (not (is_some x))) none)
 
       -- nothing of theirs happens
       quiet : (r : Received) → mine (left_by_packet r found) ≡ [] → mine (after_received r found) ≡ mine found → c ≡ [] → Second found r c

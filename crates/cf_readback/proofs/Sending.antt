@@ -11,7 +11,7 @@ use Rattle.cf_view.specs.declared.Side.{Side}
 use Rattle.cf_session.specs.Event.{AreRight, IsBeginning}
 use Rattle.cf_session.specs.Sent.{Sent, at, early, is_first_half, late, sent_first, sent_second}
 use Rattle.cf_session.specs.Session.{Flow, SessionEvent}
-use Rattle.cf_run.specs.Sessions.{Each, HasRightEvents as IsRightSession, SessionsAreRight, gone_after}
+use Rattle.cf_run.specs.Sessions.{HasRightEvents as IsRightSession, SessionsAreRight, gone_after}
 use Rattle.cf_run.specs.Table.{Begins, Full, Goes, Match, Outside, Session, match_of}
 use Rattle.cf_run.specs.Trace.{AreRunEvents, AreTicks, Begun, Dropped, RunEvent, GoesOnAt, GoesOnWith, NoRoom, NoSession, Received, Receives, ReceivesRecord, Went, kept, sent, sent_received, stays, table_after, tick_of, ticked, with_events}
 use Rattle.cf_readback.specs.ReadBack.{MayBeWritten, SentMayBeWritten}
@@ -48,7 +48,7 @@ module _ (f : Flow) (es : List SessionEvent) (e : SessionEvent) (legs : LegsRigh
 
 -- ---- the first half
 
-ticks_written : (tick : ℕ) (ss : List Session) (ts : List SessionEvent) → tick < moment_limit → Each HasLegs ss → AreTicks tick ss ts → AreWritten (flat_map sent_first ts)
+ticks_written : (tick : ℕ) (ss : List Session) (ts : List SessionEvent) → tick < moment_limit → AllByRecursion HasLegs ss → AreTicks tick ss ts → AreWritten (flat_map sent_first ts)
 ticks_written tick [] ts m h are = subst (λ xs. AreWritten (flat_map sent_first xs)) (sym are) tt
 ticks_written tick (s ∷ ss) [] m h are = absurd are
 ticks_written tick (s ∷ ss) (t ∷ ts) m h are =
@@ -63,7 +63,7 @@ TickedBy tick f (t ∷ es) = (t.client.tick ≡ tick) × LegsRight f es
 abbrev IsTicked : ℕ → Session → Type 0
 IsTicked tick s = TickedBy tick s.flow s.events
 
-all_ticked : (tick : ℕ) (ss : List Session) (ts : List SessionEvent) → Each HasLegs ss → AreTicks tick ss ts → Each (IsTicked tick) (with_events ss ts)
+all_ticked : (tick : ℕ) (ss : List Session) (ts : List SessionEvent) → AllByRecursion HasLegs ss → AreTicks tick ss ts → AllByRecursion (IsTicked tick) (with_events ss ts)
 all_ticked tick [] ts h are = tt
 all_ticked tick (s ∷ ss) [] h are = absurd are
 all_ticked tick (s ∷ ss) (t ∷ ts) h are = ((are.0.client_tick, h.0), all_ticked tick ss ts h.1 are.1)
@@ -80,7 +80,7 @@ module _ (limit tick : ℕ) (small : tick + 1 < moment_limit) where
   begun_written : (f : Flow) (e : SessionEvent) → IsBeginning f tick e → AreWritten (sent_second e)
   begun_written f e h = second_written f [] e (record { controller = tt; client = tt }) h.right (subst (λ n. n + 1 < moment_limit) (sym (ap (λ x. x.tick) h.client)) small)
 
-  received_by : (table : List Session) (p : PacketValue) (m : Match) (r : Received) → Each (IsTicked tick) table → Receives limit tick table p m r → AreWritten (sent_received r)
+  received_by : (table : List Session) (p : PacketValue) (m : Match) (r : Received) → AllByRecursion (IsTicked tick) table → Receives limit tick table p m r → AreWritten (sent_received r)
   received_by table p m Dropped h g = tt
   received_by table p m NoRoom h g = tt
   received_by table p m NoSession h g = tt
@@ -93,14 +93,14 @@ module _ (limit tick : ℕ) (small : tick + 1 < moment_limit) where
   received_by table p (Goes place from) (Went spot e) h g = goes_at from p e (slice_get table place) (each_get (IsTicked tick) table place h) g.1
   received_by table p Outside (Went place e) h g = absurd g
 
-  received : (assets : List Asset) (table : List Session) (p : Result PacketValue PacketRefusal) (r : Received) → Each (IsTicked tick) table → ReceivesRecord assets limit tick table p r → AreWritten (sent_received r)
+  received : (assets : List Asset) (table : List Session) (p : Result PacketValue PacketRefusal) (r : Received) → AllByRecursion (IsTicked tick) table → ReceivesRecord assets limit tick table p r → AreWritten (sent_received r)
   received assets table (Err refusal) r h g = subst (λ x. AreWritten (sent_received x)) (sym g) tt
   received assets table (Ok p) r h g = received_by table p (match_of assets table p) r h g
 
 -- ---- all events
 
 module _ (law : SessionsAreRight) (assets : List Asset) (limit : ℕ) where
-  legs_after : (events : List RunEvent) → AreRunEvents assets limit events → Each HasLegs (table_after events)
+  legs_after : (events : List RunEvent) → AreRunEvents assets limit events → AllByRecursion HasLegs (table_after events)
   legs_after events are = each_map (IsRightSession limit) HasLegs (has_legs limit) (table_after events) (each_back (IsRightSession limit) (gone_after events) (table_after events) (law assets limit events are))
 
   written : (events : List RunEvent) → AreRunEvents assets limit events → AllByRecursion (λ e. e.input.moment < moment_limit) events → AreWritten (sent events)
@@ -108,7 +108,7 @@ module _ (law : SessionsAreRight) (assets : List Asset) (limit : ℕ) where
   written (e ∷ earlier) are m =
       let tick = tick_of e.input in
       let table = kept tick (table_after earlier) in
-      let legs : Each HasLegs table = each_filter HasLegs _ (table_after earlier) (legs_after earlier are.1) in
+      let legs : AllByRecursion HasLegs table = each_filter HasLegs _ (table_after earlier) (legs_after earlier are.1) in
       let now = m.0 in
       all_both _ (sent earlier) _ (written earlier are.1 m.1)
       (all_both _ (flat_map sent_first e.ticks) _ (ticks_written tick table e.ticks (omega (arith, now)) legs are.0.ticks)

@@ -1,13 +1,14 @@
 -- What is counted of one event more.
 use Rattle.std.proofs.Common.{◌≡◌, ℕ, suc, ◌+◌, List, ◌∷◌, length, refl, ap, ◌∙◌, arith}
 use Rattle.std.specs.Prelude.{count_by}
+use Rattle.std.specs.Option.{is_some}
 use Rattle.cf_lane.specs.Judged.{one_if}
 use Rattle.cf_run.specs.Counted.{counted, plus}
 use Rattle.cf_run.specs.Receiving.{IsOutcome}
 use Rattle.cf_run.specs.Step.{IsCounted}
 use Rattle.cf_run.specs.Summary.{capped, cuts_in, decided_in, found, has_begun, found_no_room, summary_of, total, was_cut, was_dropped, was_outside}
 use Rattle.cf_run.specs.Table.{Session}
-use Rattle.cf_run.specs.Trace.{Begun, Dropped, RunEvent, NoRoom, NoSession, Received, Went, is_cut, table_after}
+use Rattle.cf_run.specs.Trace.{Begun, Dropped, RunEvent, NoRoom, NoSession, Received, Went, table_after}
 use Rattle.cf_run.specs.declared.second_half.Outcome.{Outcome}
 use Rattle.cf_run.specs.declared.second_half.Outcome.TheVariants as outcome
 use Rattle.cf_run.specs.declared.summary.Happened.{Happened}
@@ -39,7 +40,7 @@ eight s t a b c d e f g h =
 -- ---- one event more, by what became of its packet
 module _ (events : List RunEvent) (event : RunEvent) where
   abbrev ticks_cut : ℕ
-  ticks_cut = count_by (λ t. is_cut t.cut) event.ticks
+  ticks_cut = count_by (λ t. is_some t.cut) event.ticks
 
   abbrev before : List Session
   before = table_after events

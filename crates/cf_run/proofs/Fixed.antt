@@ -1,7 +1,7 @@
 -- The records fix a run, event by event.
 use Rattle.std.proofs.Common.{◌≡◌, ℕ, Bool, true, false, List, [], ◌∷◌, ◌++◌, length, map, if◌then◌else◌, Option, Some, None, Result, Ok, Err, refl, sym, ap, ◌∙◌, subst, arith}
 use Rattle.std.specs.Prelude.{slice_get}
-use Rattle.std.specs.List.{concat}
+use Rattle.std.specs.List.{AllByRecursion as Each, concat}
 use Rattle.std.proofs.lemmas.List.{length-append}
 use Rattle.cf_leg.specs.Emits.{syn_ack_for}
 use Rattle.cf_leg.specs.Event.{Greeting, Nothing}
@@ -15,7 +15,6 @@ use Rattle.cf_session.specs.Laws.{EventsAreFixed, Given, given, packet_in}
 use Rattle.cf_session.specs.Session.{Flow, SessionEvent, client_ends}
 use Rattle.cf_run.specs.Fixed.{RecordsFixEvents, RecordsFixRuns}
 use Rattle.cf_run.specs.Run.{capture_of, inputs_of}
-use Rattle.cf_run.specs.Sessions.{Each}
 use Rattle.cf_run.specs.Summary.{summary_of}
 use Rattle.cf_run.specs.Table.{Begins, Full, Goes, Match, Outside, Session, match_of}
 use Rattle.cf_run.specs.Trace.{AreTicks, Begun, RunEvent, GoesOnAt, GoesOnWith, Input, IsRunEvent, NoRoom, NoSession, Received, Receives, ReceivesRecord, Went, kept, logged, sent, table_after, tick_of, ticked}

@@ -1,20 +1,23 @@
--- The headline of a run.
+-- The headline of a run, and what it logs.
 use Rattle.std.proofs.Common.{◌≡◌, ℕ, ◌^◌, ◌≤◌, true, false, Option, None, Some, List, [], ◌∷◌, ◌++◌, map, refl, sym, ap, ◌∙◌}
 use Rattle.std.proofs.lemmas.List.{append-nil}
+use Rattle.std.specs.Option.{is_some}
 use Rattle.cf_decode.specs.Laws.{FragmentsDecode}
-use Rattle.cf_lane.specs.Laws.{RatesHold}
+use Rattle.cf_lane.specs.Laws.{HasOneJudgement, RatesHold}
 use Rattle.cf_lane.specs.Output.{outputs}
 use Rattle.cf_audit.specs.declared.CutReason.{CutReason}
 use Rattle.cf_policy.specs.declared.Asset.{Asset}
 use Rattle.cf_session.specs.Event.{AreEvents as AreSessionEvents}
-use Rattle.cf_session.specs.Laws.{HasOneStream as SessionHasOneStream, IsFront, SendsWhatIsLetIn, WorkIsOfTheTaken}
+use Rattle.cf_session.specs.Laws.{FirstCopiesAreTaken, HasOneStream as SessionHasOneStream, IsFront, SendsWhatIsLetIn, WorkIsOfTheTaken}
 use Rattle.cf_session.specs.Session.{Flow, SessionEvent, client_of, history, work_of}
-use Rattle.cf_session.specs.Work.{Work, Works}
+use Rattle.cf_session.specs.Work.{Work, Works, work_by}
 use Rattle.cf_stream.specs.Stream.{Byte, End, Letter, Stream, letters}
 use Rattle.cf_view.specs.declared.Side.TheVariants as side
 use Rattle.cf_run.specs.Headline.{HasHeadline, IsFaithful, RunsHaveHeadline, SendsUpToTheEdge, bytes_among}
+use Rattle.cf_run.specs.Logged.{EachIsLogged, IsLogged, RunsAreLogged}
 use Rattle.cf_run.specs.Sessions.{HasEvents, HasRightEvents, sessions_of}
-use Rattle.cf_run.specs.Trace.{AreRunEvents, RunEvent, ends_cut, is_cut}
+use Rattle.cf_run.specs.Table.{Session}
+use Rattle.cf_run.specs.Trace.{AreRunEvents, RunEvent, ends_cut}
 use Rattle.cf_run.proofs.Isolation.{right_events, uncut_before}
 use Rattle.cf_run.proofs.Sessions.{each-map, sessions_right}
 
@@ -38,11 +41,11 @@ front_bytes whole taken h = sym (bytes-letters whole.bytes whole.ended) ∙ ap b
 
 -- ---- one session
 
-no_cut : (c : Option CutReason) → is_cut c ≡ false → c ≡ None
+no_cut : (c : Option CutReason) → is_some c ≡ false → c ≡ None
 no_cut None e = refl
 no_cut (Some r) e = cc
 
-module _ (one : SessionHasOneStream) (works : WorkIsOfTheTaken) (fragments : FragmentsDecode) (keep : RatesHold) (reaches : SendsWhatIsLetIn) (limit : ℕ) (small : limit ≤ 2 ^ 30) where
+module _ (one : SessionHasOneStream) (copies : FirstCopiesAreTaken) (works : WorkIsOfTheTaken) (fragments : FragmentsDecode) (keep : RatesHold) (reaches : SendsWhatIsLetIn) (limit : ℕ) (small : limit ≤ 2 ^ 30) where
   far : (f : Flow) (es : List SessionEvent) → HasEvents limit f es → ends_cut es ≡ false → SendsUpToTheEdge (record { flow = f; events = es })
   far f [] h uncut = absurd h
   far f (e ∷ es) h uncut = let (to_controller, to_client) = reaches f limit es e small h.0 (no_cut e.cut uncut) in record { to_controller = to_controller; to_client = to_client }
@@ -53,7 +56,12 @@ module _ (one : SessionHasOneStream) (works : WorkIsOfTheTaken) (fragments : Fra
       let w : Works f.asset (client_of f) (history es) (work_of es) = works f limit es are in
       record {
         judged = w.judged;
-        is_judged = record { are_judged = w.are_judged; is_work = w.is_work };
+        is_judged = record {
+          taken = copies f limit es are;
+          are_judged = w.are_judged;
+          to_controller = ap (λ (x : Work). x.to_controller) w.is_work;
+          to_client = ap (λ (x : Work). x.to_client) w.is_work;
+        };
         far = far f es h;
         rates = keep f.asset (client_of f).address (history es) w.judged w.are_judged;
         decodes = λ taken re.
@@ -68,5 +76,21 @@ module _ (one : SessionHasOneStream) (works : WorkIsOfTheTaken) (fragments : Fra
   headline assets (e ∷ es) h =
       (each-map (HasRightEvents limit) IsFaithful (λ s right. faithful s.flow s.events right) (sessions_of (e ∷ es)) (sessions_right assets limit (e ∷ es) h), headline assets es h.1)
 
-pub has_headline : SessionHasOneStream → WorkIsOfTheTaken → FragmentsDecode → RatesHold → SendsWhatIsLetIn → RunsHaveHeadline
-has_headline one works fragments keep reaches assets limit es small h = headline one works fragments keep reaches limit small assets es h
+pub has_headline : SessionHasOneStream → FirstCopiesAreTaken → WorkIsOfTheTaken → FragmentsDecode → RatesHold → SendsWhatIsLetIn → RunsHaveHeadline
+has_headline one copies works fragments keep reaches assets limit es small h = headline one copies works fragments keep reaches limit small assets es h
+
+-- ---- what is logged
+
+module _ (one : HasOneJudgement) (works : WorkIsOfTheTaken) (limit : ℕ) where
+  logged_one : (s : Session) → HasRightEvents limit s → IsLogged s
+  logged_one s h = λ judged are.
+      let w : Works s.flow.asset (client_of s.flow) (history s.events) (work_of s.events) = works s.flow limit s.events (right_events limit s.flow s.events h) in
+      w.is_work ∙ ap (work_by s.flow.asset (client_of s.flow)) (one s.flow.asset (client_of s.flow).address (history s.events) w.judged judged w.are_judged are)
+
+  all_logged : (assets : List Asset) (es : List RunEvent) → AreRunEvents assets limit es → EachIsLogged es
+  all_logged assets [] h = tt
+  all_logged assets (e ∷ es) h =
+      (each-map (HasRightEvents limit) IsLogged logged_one (sessions_of (e ∷ es)) (sessions_right assets limit (e ∷ es) h), all_logged assets es h.1)
+
+pub are_logged : HasOneJudgement → WorkIsOfTheTaken → RunsAreLogged
+are_logged one works assets limit es h = all_logged one works limit assets es h

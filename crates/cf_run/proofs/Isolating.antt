@@ -1,7 +1,7 @@
 -- What is matched to a session fixes all that it sends and logs, in two runs.
 use Rattle.std.proofs.Common.{◌≡◌, ℕ, suc, ◌+◌, ◌-◌, ◌≤◌, ◌&&◌, Bool, true, false, not, List, [], ◌∷◌, ◌++◌, length, cond, if◌then◌else◌, Option, Some, None, Result, Ok, Err, refl, sym, ap, ◌∙◌, subst, arith}
 use Rattle.std.specs.Prelude.{filter}
-use Rattle.std.specs.List.{flat_map}
+use Rattle.std.specs.List.{AllByRecursion as Each, flat_map}
 use Rattle.std.proofs.lemmas.Bool.{and_parts, true≢false}
 use Rattle.std.proofs.lemmas.List.{append-nil, append_assoc, length-append, map-append}
 use Rattle.std.proofs.lemmas.List.Elements.{filter-append}
@@ -16,7 +16,6 @@ use Rattle.cf_session.specs.Session.{Flow, SessionEvent, client_of, is_expired}
 use Rattle.cf_session.specs.Sent.{Sent, logged_second, sent_first, sent_second}
 use Rattle.cf_run.specs.Isolation.{AreMatched, NoneBegins, RunsIsolateSessions, begins_theirs, goes_to_theirs, is_flow_of, logged_by, logged_over, matched_in, matched_to, moments_of, sent_by, sent_over, ticks_of}
 use Rattle.cf_run.specs.Run.{inputs_of}
-use Rattle.cf_run.specs.Sessions.{Each}
 use Rattle.cf_run.specs.Summary.{found}
 use Rattle.cf_run.specs.Table.{Begins, Match, Session, is_between, match_of, without}
 use Rattle.cf_view.specs.Endpoints.{same_endpoint}

@@ -2,6 +2,7 @@
 use Rattle.std.proofs.Common.{◌≡◌, ℕ, zero, suc, ◌-◌, ◌<◌, ◌≤◌, not, Bool, true, false, List, [], ◌∷◌, length, cond, Some, refl, sym, ap, ◌∙◌, subst, arith}
 use Rattle.std.specs.Prelude.{filter, slice_get, slice_set}
 use Rattle.std.specs.List.{remove}
+use Rattle.std.specs.Option.{is_some}
 use Rattle.cf_lane.specs.Judged.{one_if}
 use Rattle.cf_leg.specs.Event.{moment}
 use Rattle.cf_packet.specs.Packet.{PacketValue}
@@ -22,7 +23,7 @@ use Rattle.cf_audit.specs.declared.CutReason.{CutReason}
 use Rattle.cf_run.specs.Receiving.{AreTicked, Going, HasTicked}
 use Rattle.cf_run.specs.Summary.{decided_in, work_before}
 use Rattle.cf_run.specs.Table.{Session}
-use Rattle.cf_run.specs.Trace.{GoesOnAt, Went, is_cut, logged_at, replaced, stays, with_event_at}
+use Rattle.cf_run.specs.Trace.{GoesOnAt, Went, logged_at, replaced, stays, with_event_at}
 use Rattle.cf_run.specs.declared.entry.Entry.{Entry}
 use Rattle.cf_run.specs.declared.second_half.Outcome.TheVariants as outcome
 
@@ -33,7 +34,7 @@ AllStay (session ∷ table) = (stays session ≡ true) × AllStay table
 
 stay_one : (tick : ℕ) (flow : Flow) (events : List SessionEvent) → HasTicked tick flow events → stays (record { flow = flow; events = events }) ≡ true
 stay_one tick flow [] h = absurd h
-stay_one tick flow (half ∷ earlier) h = ap (λ c. not (is_cut c)) h.1
+stay_one tick flow (half ∷ earlier) h = ap (λ c. not (is_some c)) h.1
 
 pub ticked_stay : (tick : ℕ) (table : List Session) → AreTicked tick table → AllStay table
 ticked_stay tick [] h = tt
@@ -131,7 +132,7 @@ module _ (assets : List Asset) (limit now place : ℕ) (from : Side) (packet : P
     going_on stands =
         let next : IsOneBy assets now after flow earlier event =
         record { stands = stands; asset = one.asset; last_moment = omega (arith, hears.is_packet.client_on.0, half_ticked.0.client_tick, some) } in
-        let stay : stays (record { flow = flow; events = event ∷ earlier }) ≡ true = ap (λ c. not (is_cut c)) stands.going in
+        let stay : stays (record { flow = flow; events = event ∷ earlier }) ≡ true = ap (λ c. not (is_some c)) stands.going in
         record {
           goes_on = goes;
           told = says;
@@ -140,7 +141,7 @@ module _ (assets : List Asset) (limit now place : ℕ) (from : Side) (packet : P
           counts = (
             decides (λ w. w.admitted) admitted y.lane.admitted (counts_admitted flow earlier half one.stands) (now_admitted flow earlier event stands),
             decides (λ w. w.refused) refused y.lane.refused (counts_refused flow earlier half one.stands) (now_refused flow earlier event stands),
-            ap (λ c. one_if (is_cut c)) (sym stands.going),
+            ap (λ c. one_if (is_some c)) (sym stands.going),
           );
         }
 
@@ -150,11 +151,11 @@ module _ (assets : List Asset) (limit now place : ℕ) (from : Side) (packet : P
       goes_on = goes;
       told = says;
       all = all_removed assets now entries table place event all (ticked_stay (now - 1) table ticked)
-          (λ z at_z. subst (λ (w : Session). stays (one_on event w) ≡ false) (same_one z at_z) (ap (λ c. not (is_cut c)) cut)) within;
+          (λ z at_z. subst (λ (w : Session). stays (one_on event w) ≡ false) (same_one z at_z) (ap (λ c. not (is_some c)) cut)) within;
       counts = (
         decides (λ w. w.admitted) admitted y.lane.admitted (counts_admitted flow earlier half one.stands) counts.admitted,
         decides (λ w. w.refused) refused y.lane.refused (counts_refused flow earlier half one.stands) counts.refused,
-        ap (λ c. one_if (is_cut c)) (sym cut),
+        ap (λ c. one_if (is_some c)) (sym cut),
       );
     }
 

@@ -1,7 +1,7 @@
 -- The output of an event, selected by its moments.
 use Rattle.std.proofs.Common.{◌≡◌, ◌≢◌, ℕ, zero, suc, ◌+◌, ◌≤◌, ◌==◌, true, false, List, [], ◌∷◌, ◌++◌, cond, Result, Ok, Err, refl, sym, ap, ◌∙◌, subst, arith}
 use Rattle.std.specs.Prelude.{slice_get}
-use Rattle.std.specs.List.{flat_map}
+use Rattle.std.specs.List.{AllByRecursion as Each, flat_map}
 use Rattle.std.proofs.lemmas.List.{append-nil}
 use Rattle.std.proofs.lemmas.List.Elements.{filter-append}
 use Rattle.std.proofs.lemmas.List.Concat.{flat_map-cons}
@@ -13,7 +13,6 @@ use Rattle.cf_view.specs.declared.Side.{Side}
 use Rattle.cf_session.specs.Sent.{Sent, at, sent_first, sent_second}
 use Rattle.cf_session.specs.Session.{Flow, SessionEvent}
 use Rattle.cf_run.specs.Selected.{IsSelected, Rises, SelectsByMoment, last_moment, with_moment}
-use Rattle.cf_run.specs.Sessions.{Each}
 use Rattle.cf_run.proofs.Sessions.{each-filter}
 use Rattle.cf_run.specs.Table.{Begins, Goes, Match, Session, match_of}
 use Rattle.cf_run.specs.Trace.{AreRunEvents, AreTicks, Begun, Dropped, RunEvent, GoesOnAt, GoesOnWith, IsRunEvent, NoRoom, NoSession, Received, Receives, ReceivesRecord, Went, kept, sent, sent_in_first, sent_in_second, sent_received, stays, table_after, tick_of, ticked, with_events}

@@ -1,9 +1,10 @@
 -- The sessions of a run, event by event.
 use Rattle.std.proofs.Common.{◌≡◌, ℕ, zero, suc, inl, inr, Bool, true, false, not, List, [], ◌∷◌, ◌++◌, cond, Option, Some, None, Result, Ok, Err, refl, sym, ap, subst}
 use Rattle.std.specs.Prelude.{filter, slice_get}
-use Rattle.std.specs.List.{remove}
+use Rattle.std.specs.List.{AllByRecursion as Each, remove}
 use Rattle.std.proofs.lemmas.Bool.{cases_Bool, true≢false}
 use Rattle.std.proofs.lemmas.Option.{same_Some}
+use Rattle.std.specs.Option.{is_some}
 use Rattle.cf_audit.specs.declared.CutReason.{CutReason}
 use Rattle.cf_packet.specs.Packet.{PacketValue}
 use Rattle.cf_packet.specs.declared.packet.PacketRefusal.{PacketRefusal}
@@ -12,9 +13,9 @@ use Rattle.cf_view.specs.declared.Side.{Side}
 use Rattle.cf_session.specs.Event.{IsBeginning, IsTick, AreEvents as AreSessionEvents}
 use Rattle.cf_session.specs.Laws.{AreUncut}
 use Rattle.cf_session.specs.Session.{Flow, SessionEvent, client_of, is_expired}
-use Rattle.cf_run.specs.Sessions.{Each, HasEvents, HasRightEvents, gone_after, leaves, left_by_packet, left_in, session_at, sessions_of}
+use Rattle.cf_run.specs.Sessions.{HasEvents, HasRightEvents, gone_after, leaves, left_by_packet, left_in, session_at, sessions_of}
 use Rattle.cf_run.specs.Table.{Session, Match, Begins, Full, Goes, Outside, match_of, place_of, without}
-use Rattle.cf_run.specs.Trace.{AreRunEvents, AreTicks, Begun, RunEvent, GoesOnAt, GoesOnWith, NoRoom, NoSession, Received, Receives, ReceivesRecord, Went, after_received, ends_cut, is_cut, kept, replaced, stays, table_after, tick_of, ticked, with_event_at, with_events}
+use Rattle.cf_run.specs.Trace.{AreRunEvents, AreTicks, Begun, RunEvent, GoesOnAt, GoesOnWith, NoRoom, NoSession, Received, Receives, ReceivesRecord, Went, after_received, ends_cut, kept, replaced, stays, table_after, tick_of, ticked, with_event_at, with_events}
 
 -- ---- of each session of a list
 
@@ -85,7 +86,7 @@ each-right limit ss h = each-map (IsGoing limit) (HasRightEvents limit) (λ s g.
 each-going : (limit : ℕ) (ss : List Session) → Each (IsTicked limit) ss → Each (IsGoing limit) ss
 each-going limit ss h = each-map (IsTicked limit) (IsGoing limit) (λ s t. going_by limit s.flow s.events t) ss h
 
-uncut : (c : Option CutReason) → not (is_cut c) ≡ true → c ≡ None
+uncut : (c : Option CutReason) → not (is_some c) ≡ true → c ≡ None
 uncut None h = refl
 uncut (Some r) h = absurd (true≢false (sym h))
 
@@ -118,7 +119,7 @@ each-ticked limit tick (s ∷ ss) (t ∷ ts) h are =
     let rest = each-ticked limit tick ss ts h.1 are.1 in
     let new : Session = record s { events = t ∷ s.events } in
     let F = filter stays (with_events ss ts) in
-    elim (cases_Bool (not (is_cut t.cut))) [
+    elim (cases_Bool (not (is_some t.cut))) [
       | inl going ↦ subst (λ b. Each (IsTicked limit) (cond b (new ∷ F) F)) (sym going) (tick_one limit s.flow s.events tick t h.0 are.0 (uncut t.cut going), rest)
       | inr cut ↦ subst (λ b. Each (IsTicked limit) (cond b (new ∷ F) F)) (sym cut) rest
     ]

@@ -5,6 +5,8 @@ use Rattle.std.proofs.lemmas.List.{append-nil}
 use Rattle.std.proofs.lemmas.List.Elements.{filter-append}
 use Rattle.std.proofs.lemmas.Bool.{and_parts, cases_Bool}
 use Rattle.std.proofs.lemmas.Bool.Decides.{nat_tests}
+use Rattle.std.specs.Option.{is_some}
+use Rattle.std.specs.List.{AllByRecursion as Each}
 use Rattle.cf_policy.specs.AtEndpoint.{asset_at}
 use Rattle.cf_packet.specs.Packet.{PacketValue}
 use Rattle.cf_packet.specs.declared.packet.PacketRefusal.{PacketRefusal}
@@ -15,10 +17,9 @@ use Rattle.cf_view.specs.declared.Side.TheVariants as side
 use Rattle.cf_session.specs.Sent.{logged_second, sent_second}
 use Rattle.cf_session.specs.Session.{Flow, SessionEvent, client_of}
 use Rattle.cf_run.specs.Isolation.{begins_theirs, goes_to_theirs, is_flow_of, is_theirs, matched_by, matched_in}
-use Rattle.cf_run.specs.Sessions.{Each}
 use Rattle.cf_run.specs.Table.{Begins, Full, Goes, Match, Outside, Session, begins, begins_or_full, goes, goes_from_client, is_between, match_of, may_begin, place_of, without}
 use Rattle.cf_view.specs.Endpoints.{same_endpoint}
-use Rattle.cf_run.specs.Trace.{Begun, GoesOnAt, GoesOnWith, NoRoom, NoSession, Received, Receives, ReceivesRecord, Went, after_received, behind, ends_cut, is_cut, logged_at, logged_received, replaced, sent_received, stays, with_event_at}
+use Rattle.cf_run.specs.Trace.{Begun, GoesOnAt, GoesOnWith, NoRoom, NoSession, Received, Receives, ReceivesRecord, Went, after_received, behind, ends_cut, logged_at, logged_received, replaced, sent_received, stays, with_event_at}
 use Rattle.cf_run.proofs.Matched.{same_is}
 use Rattle.cf_run.proofs.Pairs.{asset_is, changed_other, client_is, filter_drops, filter_keeps, filter_swap, first, without_other}
 use Rattle.cf_run.proofs.Sessions.{HasTick, IsTicked}
@@ -27,7 +28,7 @@ use Rattle.cf_run.proofs.Sessions.{HasTick, IsTicked}
 
 stays_one : (limit : ℕ) (f : Flow) (es : List SessionEvent) → HasTick limit f es → not (ends_cut es) ≡ true
 stays_one limit f [] h = absurd h
-stays_one limit f (t ∷ es) h = ap (λ c. not (is_cut c)) h.1
+stays_one limit f (t ∷ es) h = ap (λ c. not (is_some c)) h.1
 
 pub all_stay : (limit : ℕ) (ss : List Session) → Each (IsTicked limit) ss → filter stays ss ≡ ss
 all_stay limit [] h = refl

@@ -2,6 +2,7 @@
 use Rattle.std.proofs.Common.{◌≡◌, ℕ, ◌+◌, ◌-◌, ◌≤◌, not, List, [], ◌∷◌, Option, Some, None, Result, cond, refl, sym, ap, ◌∙◌, subst, arith}
 use Rattle.std.specs.Prelude.{filter}
 use Rattle.std.specs.List.{flat_map}
+use Rattle.std.specs.Option.{is_some}
 use Rattle.cf_audit.specs.declared.CutReason.{CutReason}
 use Rattle.cf_packet.specs.Packet.{PacketValue}
 use Rattle.cf_packet.specs.declared.packet.PacketRefusal.{PacketRefusal}
@@ -15,7 +16,7 @@ use Rattle.cf_run.specs.Receiving.{AreTicked}
 use Rattle.cf_run.specs.Counted.{counted}
 use Rattle.cf_run.specs.Step.{EngineValue, IsEngineOf, ReceivesRecordOne, Steps, StepsOn}
 use Rattle.cf_run.specs.Table.{Session}
-use Rattle.cf_run.specs.Trace.{AreRunEvents, AreTicks, RunEvent, is_cut, kept, logged_received, logged_ticks, sent_received, stays, table_after, ticked, with_events}
+use Rattle.cf_run.specs.Trace.{AreRunEvents, AreTicks, RunEvent, kept, logged_received, logged_ticks, sent_received, stays, table_after, ticked, with_events}
 use Rattle.cf_run.specs.declared.entry.Entry.{Entry}
 use Rattle.cf_run.specs.declared.summary.Happened.{Happened}
 use Rattle.cf_run.proofs.Counting.{counts_on}
@@ -35,7 +36,7 @@ all_later assets last later le (entry ∷ entries) [] all = absurd all
 all_later assets last later le (entry ∷ entries) (s ∷ table) all = (one_later assets last later le entry s.flow s.events all.0, all_later assets last later le entries table all.1)
 
 one_ticked : (tick : ℕ) (s : Session) (t : SessionEvent) (more : List Session) → IsTick s.flow s.events tick t → AreTicked tick more → (c : Option CutReason) → t.cut ≡ c →
-    AreTicked tick (cond (not (is_cut c)) (record s { events = t ∷ s.events } ∷ more) more)
+    AreTicked tick (cond (not (is_some c)) (record s { events = t ∷ s.events } ∷ more) more)
 one_ticked tick s t more is are None e = ((is, e), are)
 one_ticked tick s t more is are (Some because) e = are
 

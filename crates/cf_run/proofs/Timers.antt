@@ -8,6 +8,7 @@ use Rattle.std.proofs.lemmas.Grind.{flat_map-append}
 use Rattle.std.proofs.Math.ListN.{drop_of_length-le}
 use Rattle.std.proofs.lemmas.List.Elements.{filter-append}
 use Rattle.std.proofs.lemmas.List.Concat.{flat_map-cons}
+use Rattle.std.specs.Option.{is_some}
 use Rattle.cf_lane.specs.Judged.{one_if}
 use Rattle.cf_policy.specs.declared.Asset.{Asset}
 use Rattle.cf_session.specs.declared.life.Life.{Life}
@@ -20,7 +21,7 @@ use Rattle.cf_session.specs.Told.{Told, emitted, with_both, with_more}
 use Rattle.cf_run.specs.Engine.{AreAll, IsOne, TickAll, TickAs, TickAt, TickSome}
 use Rattle.cf_run.specs.Entries.{cuts_by, stays_by}
 use Rattle.cf_run.specs.Table.{Session}
-use Rattle.cf_run.specs.Trace.{AreTicks, is_cut, kept, logged_ticks, stays, ticked, with_events}
+use Rattle.cf_run.specs.Trace.{AreTicks, kept, logged_ticks, stays, ticked, with_events}
 use Rattle.cf_run.specs.declared.entry.Entry.{Entry}
 
 -- ---- what is told
@@ -50,7 +51,7 @@ pub by_life : (flow : Flow) (events : List SessionEvent) (tick : ℕ) (s : Sessi
 by_life flow events tick s old new life.Live h = (h.0, h.1, h.2.stands.going, h.2.stands)
 by_life flow events tick s old new life.Closed h = (h.0, h.1, h.2.stands.going, h.2.stands)
 by_life flow events tick s old new life.Expired h = h
-by_life flow events tick s old new (life.Cut r) h = (h.0, h.1, ap is_cut h.2)
+by_life flow events tick s old new (life.Cut r) h = (h.0, h.1, ap is_some h.2)
 
 quiet_by : (flow : Flow) (events : List SessionEvent) (tick : ℕ) (s : SessionValue) (desk : Told) (closed : Option ℕ) → TicksBy flow events tick s desk desk (life_by closed) →
     TickAs flow events tick s desk desk true false
@@ -112,19 +113,19 @@ one_is true = refl
 one_is false = refl
 
 abbrev counts : ℕ → SessionEvent → ℕ
-counts n t = n + cond (is_cut t.cut) 1 0
+counts n t = n + cond (is_some t.cut) 1 0
 
-cut_from : (ts : List SessionEvent) (t : SessionEvent) (n : ℕ) → fold counts n ts + cond (is_cut t.cut) 1 0 ≡ fold counts n (ts ++ t ∷ [])
+cut_from : (ts : List SessionEvent) (t : SessionEvent) (n : ℕ) → fold counts n ts + cond (is_some t.cut) 1 0 ≡ fold counts n (ts ++ t ∷ [])
 cut_from [] t n = refl
 cut_from (x ∷ ts) t n = cut_from ts t (counts n x)
 
 -- how many were cut
-cut_more : (ts : List SessionEvent) (t : SessionEvent) (b : Bool) → is_cut t.cut ≡ b →
-    count_by (λ x. is_cut x.cut) ts + one_if b ≡ count_by (λ x. is_cut x.cut) (ts ++ t ∷ [])
-cut_more ts t b e = ap (λ n. count_by (λ x. is_cut x.cut) ts + n) (ap one_if (sym e) ∙ one_is (is_cut t.cut)) ∙ cut_from ts t 0
+cut_more : (ts : List SessionEvent) (t : SessionEvent) (b : Bool) → is_some t.cut ≡ b →
+    count_by (λ x. is_some x.cut) ts + one_if b ≡ count_by (λ x. is_some x.cut) (ts ++ t ∷ [])
+cut_more ts t b e = ap (λ n. count_by (λ x. is_some x.cut) ts + n) (ap one_if (sym e) ∙ one_is (is_some t.cut)) ∙ cut_from ts t 0
 
 -- what stays of the sessions with one more event
-pub ticked-more : (now : ℕ) (ts : List SessionEvent) (done : List Session) (s : Session) (t : SessionEvent) (b : Bool) → AreTicks now (kept now done) ts → is_expired s.flow s.events now ≡ false → is_cut t.cut ≡ b →
+pub ticked-more : (now : ℕ) (ts : List SessionEvent) (done : List Session) (s : Session) (t : SessionEvent) (b : Bool) → AreTicks now (kept now done) ts → is_expired s.flow s.events now ≡ false → is_some t.cut ≡ b →
     ticked (ts ++ t ∷ []) now (done ++ s ∷ []) ≡ ticked ts now done ++ cond (not b) (one_with s t ∷ []) []
 ticked-more now ts done s t b are here cut =
     ap (λ xs. filter stays (with_events xs (ts ++ t ∷ []))) (kept-here now done s here)
@@ -134,7 +135,7 @@ ticked-more now ts done s t b are here cut =
 
 module _ (assets : List Asset) (now : ℕ) (done : List Session) (front : List Entry) (old mid new : Told) (n : ℕ) (a : TickAll assets now done front old mid n) (s : Session) where
   -- the sessions that were cut, with one more
-  counts_more : (t : SessionEvent) (b : Bool) → is_cut t.cut ≡ b → n + one_if b ≡ count_by (λ x. is_cut x.cut) (a.ticks ++ t ∷ [])
+  counts_more : (t : SessionEvent) (b : Bool) → is_some t.cut ≡ b → n + one_if b ≡ count_by (λ x. is_some x.cut) (a.ticks ++ t ∷ [])
   counts_more t b e = ap (λ m. m + one_if b) a.cuts_is ∙ cut_more a.ticks t b e
 
   -- a session has expired
@@ -167,7 +168,7 @@ module _ (assets : List Asset) (now : ℕ) (done : List Session) (front : List E
         subst P (sym (kept-here now done s h.kept)) (ticks-append now (kept now done) (s ∷ []) a.ticks (t ∷ []) a.are (h.is_tick, refl))
 
     -- a session is cut
-    pub all_cut : is_cut t.cut ≡ true → TickAll assets now (done ++ s ∷ []) front old new (n + 1)
+    pub all_cut : is_some t.cut ≡ true → TickAll assets now (done ++ s ∷ []) front old new (n + 1)
     all_cut cut = record {
       ticks = a.ticks ++ t ∷ [];
       are = ticks_more;
@@ -177,7 +178,7 @@ module _ (assets : List Asset) (now : ℕ) (done : List Session) (front : List E
     }
 
     -- a session goes on
-    pub all_more : (y : Entry) → is_cut t.cut ≡ false → IsOne assets (now + 1) y (one_with s t) → TickAll assets now (done ++ s ∷ []) (front ++ y ∷ []) old new n
+    pub all_more : (y : Entry) → is_some t.cut ≡ false → IsOne assets (now + 1) y (one_with s t) → TickAll assets now (done ++ s ∷ []) (front ++ y ∷ []) old new n
     all_more y going one = record {
       ticks = a.ticks ++ t ∷ [];
       are = ticks_more;
@@ -187,8 +188,8 @@ module _ (assets : List Asset) (now : ℕ) (done : List Session) (front : List E
       cuts_is = plus_none n ∙ counts_more t false going;
     }
 
-stays_cut : (t : SessionEvent) → t.cut ≡ None → is_cut t.cut ≡ false
-stays_cut t e = ap is_cut e
+stays_cut : (t : SessionEvent) → t.cut ≡ None → is_some t.cut ≡ false
+stays_cut t e = ap is_some e
 
 -- ---- one session further
 

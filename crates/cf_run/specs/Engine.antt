@@ -1,6 +1,7 @@
 -- Steps of the proof: what the sessions in memory stand for, `AreAll`, and what the first half of an event does to them, `TickAll`.
 use Rattle.std.specs.Prelude.{◌≡◌, ℕ, Bool, true, false, ◌+◌, ◌≤◌, List, [], ◌∷◌, ◌++◌, take, drop, count_by, slice_get, None, Some}
 use Rattle.std.specs.List.{All, flat_map}
+use Rattle.std.specs.Option.{is_some}
 use Rattle.cf_leg.specs.Event.{moment}
 use Rattle.cf_policy.specs.declared.Asset.{Asset}
 use Rattle.cf_session.specs.Parts.{SessionValue}
@@ -9,7 +10,7 @@ use Rattle.cf_session.specs.Session.{Flow, SessionEvent, is_expired}
 use Rattle.cf_session.specs.Stands.{IsSessionOf, IsSound, Ticks, due_of}
 use Rattle.cf_session.specs.Told.{Told, with_both}
 use Rattle.cf_run.specs.Table.{Session}
-use Rattle.cf_run.specs.Trace.{AreTicks, is_cut, kept, logged_ticks, ticked}
+use Rattle.cf_run.specs.Trace.{AreTicks, kept, logged_ticks, ticked}
 use Rattle.cf_run.specs.declared.entry.Entry.{Entry}
 
 -- ---- what holds whatever happened
@@ -59,7 +60,7 @@ AreAll assets last (entry ∷ entries) (session ∷ table) = IsOne assets last e
 abbrev pub TickAs : Flow → List SessionEvent → (tick : ℕ) → SessionValue → (old new : Told) → (stays cuts : Bool) → Type 0
 TickAs flow events tick s old new true cuts =
     (event : SessionEvent) × Ticks flow events tick old new event × (event.cut ≡ None) × IsSessionOf flow events event s
-TickAs flow events tick s old new false true = (event : SessionEvent) × Ticks flow events tick old new event × (is_cut event.cut ≡ true)
+TickAs flow events tick s old new false true = (event : SessionEvent) × Ticks flow events tick old new event × (is_some event.cut ≡ true)
 TickAs flow events tick s old new false false = (is_expired flow events tick ≡ true) × (new ≡ old)
 
 -- the clock call of one session of the table
@@ -76,7 +77,7 @@ pub record TickAll (assets : List Asset) (tick : ℕ) (table : List Session) (en
   pub are : AreTicks tick (kept tick table) ticks
   pub all : AreAll assets (tick + 1) entries (ticked ticks tick table)
   pub told : new ≡ with_both old (flat_map sent_first ticks) (logged_ticks (kept tick table) ticks)
-  pub cuts_is : cuts ≡ count_by (λ t. is_cut t.cut) ticks
+  pub cuts_is : cuts ≡ count_by (λ t. is_some t.cut) ticks
 
 -- a tick of the first sessions alone: those in memory before this place are what became of them
 pub record TickSome (assets : List Asset) (tick : ℕ) (table : List Session) (entries : List Entry) (place : ℕ) (old new : Told) (cuts : ℕ) :

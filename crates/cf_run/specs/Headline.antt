@@ -3,22 +3,25 @@
 -- In one session all segments that went towards the controller carry one letter per place of its stream, so whatever copies it takes,
 -- it puts together a beginning of one stream; and that decodes to the first of what was let through to it, in order, and then to a
 -- proper prefix of the next. What was let through is the list `passed` of the items that the policy's meaning judged; these are the
--- items of all letters that were taken of the client by first copies (`cf_session`, `AreTaken`), and of what the controller sent. And
--- it is said how far: where its last event did not cut a session, each open end has sent as many letters as its stream has below the
--- greatest edge that its peer showed. Amid an event an end has sent fewer of the same segments, in their order, and what is put
--- together of fewer segments is put together of all (`cf_session`, `FewerPartsAreEnough`).
+-- items of all letters that were taken of the client and of the controller, of each by first copies. And it is said how far: where its
+-- last event did not cut a session, each open end has sent as many letters as its stream has below the greatest edge that its peer
+-- showed. Amid an event an end has sent fewer of the same segments, in their order, and what is put together of fewer segments is put
+-- together of all (`cf_session`, `FewerPartsAreEnough`). The lines of these items, and their counts, are in `Logged`.
 use Rattle.std.specs.Prelude.{◌≡◌, ℕ, ◌^◌, ◌≤◌, false, List, [], ◌∷◌}
+use Rattle.std.specs.List.{AllByRecursion}
 use Rattle.cf_decode.specs.Laws.{MakesFirstOf}
 use Rattle.cf_decode.specs.Passed.{passed}
 use Rattle.cf_lane.specs.Follows.{AreJudged}
 use Rattle.cf_lane.specs.Judged.{Judged}
+use Rattle.cf_lane.specs.Output.{stream_to}
 use Rattle.cf_lane.specs.Rates.{KeepsRates}
 use Rattle.cf_policy.specs.declared.Asset.{Asset}
+use Rattle.cf_session.specs.Event.{AreTaken}
 use Rattle.cf_session.specs.Laws.{IsFront, IsReassembly, IsSentUpTo, parts_of}
 use Rattle.cf_session.specs.Session.{client_ends, client_of, clients, controller_ends, controllers, history, work_of}
-use Rattle.cf_session.specs.Work.{work_by}
 use Rattle.cf_stream.specs.Stream.{Byte, End, Letter}
-use Rattle.cf_run.specs.Sessions.{Each, sessions_of}
+use Rattle.cf_view.specs.declared.Side.TheVariants as side
+use Rattle.cf_run.specs.Sessions.{sessions_of}
 use Rattle.cf_run.specs.Table.{Session}
 use Rattle.cf_run.specs.Trace.{AreRunEvents, RunEvent, ends_cut}
 
@@ -28,10 +31,13 @@ bytes_among [] = []
 bytes_among (Byte b ∷ letters) = b ∷ bytes_among letters
 bytes_among (End ∷ letters) = bytes_among letters
 
--- what was taken of both sides of a session has these judged items, and its streams, its log and its counts are theirs
+-- the history of a session is what was taken of both sides, of each by first copies; it has these judged items, and the streams to the
+-- two sides are theirs
 pub record IsJudged (session : Session) (judged : List Judged) : Type 0 where
+  pub taken : AreTaken session.flow session.events
   pub are_judged : AreJudged session.flow.asset (client_of session.flow).address (history session.events) judged
-  pub is_work : work_of session.events ≡ work_by session.flow.asset (client_of session.flow) judged
+  pub to_controller : (work_of session.events).to_controller ≡ stream_to session.flow.asset side.Controller judged
+  pub to_client : (work_of session.events).to_client ≡ stream_to session.flow.asset side.Client judged
 
 -- letters that a controller put together are a beginning of the stream to it, and decode to the first of what was let through
 pub record Decodes (session : Session) (judged : List Judged) (taken : List Letter) : Type 0 where
@@ -57,7 +63,7 @@ pub record IsFaithful (session : Session) : Type 0 where
 -- the headline of a run: after each of its events, of the sessions in the table and those that left it
 abbrev pub HasHeadline : List RunEvent → Type 0
 HasHeadline [] = Unit {0}
-HasHeadline (event ∷ earlier) = Each IsFaithful (sessions_of (event ∷ earlier)) × HasHeadline earlier
+HasHeadline (event ∷ earlier) = AllByRecursion IsFaithful (sessions_of (event ∷ earlier)) × HasHeadline earlier
 
 abbrev pub RunsHaveHeadline : Type 0
 RunsHaveHeadline = (assets : List Asset) (limit : ℕ) (events : List RunEvent) → limit ≤ 2 ^ 30 → AreRunEvents assets limit events

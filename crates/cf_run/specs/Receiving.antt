@@ -15,7 +15,7 @@ use Rattle.cf_view.specs.declared.Side.{Side}
 use Rattle.cf_run.specs.Engine.{AreAll}
 use Rattle.cf_run.specs.Summary.{decided_in}
 use Rattle.cf_run.specs.Table.{Session, match_of, may_begin, place_of}
-use Rattle.cf_run.specs.Trace.{Begun, Dropped, GoesOnAt, NoRoom, NoSession, Received, Receives, Went, after_received, is_cut, logged_at}
+use Rattle.cf_run.specs.Trace.{Begun, Dropped, GoesOnAt, NoRoom, NoSession, Received, Receives, Went, after_received, logged_at}
 use Rattle.cf_run.specs.Trace.{logged_received, sent_received, stays, with_event_at}
 use Rattle.cf_run.specs.declared.entry.Entry.{Entry}
 use Rattle.cf_run.specs.declared.second_half.Outcome.{Outcome}
@@ -46,7 +46,7 @@ IsOutcome table outcome.Outside NoSession = Unit {0}
 IsOutcome table outcome.Begun (Begun flow event) = Unit {0}
 IsOutcome table (outcome.Went admitted refused cuts) (Went place event) =
     (admitted ≡ decided_in (λ w. w.admitted) table (Went place event)) × (refused ≡ decided_in (λ w. w.refused) table (Went place event))
-    × (cuts ≡ one_if (is_cut event.cut))
+    × (cuts ≡ one_if (is_some event.cut))
 IsOutcome table _ _ = ⊥
 
 -- the number of sessions in memory then

@@ -1,5 +1,6 @@
 -- All sessions of a run, and what holds of each: SessionsAreRight, SessionsHaveOneStream and SessionsAreIsolated.
 use Rattle.std.specs.Prelude.{◌≡◌, ℕ, ◌^◌, ◌≤◌, Bool, not, List, [], ◌∷◌, ◌++◌, filter, map, slice_get, Option, None, Some}
+use Rattle.std.specs.List.{AllByRecursion}
 use Rattle.cf_policy.specs.declared.Asset.{Asset}
 use Rattle.cf_session.specs.Event.{AreEvents as AreSessionEvents}
 use Rattle.cf_session.specs.Laws.{AreUncut, IsFront, IsReassembly, given, parts_of}
@@ -52,14 +53,9 @@ HasEvents limit flow (event ∷ earlier) = AreSessionEvents flow limit (event �
 abbrev pub HasRightEvents : (limit : ℕ) → Session → Type 0
 HasRightEvents limit session = HasEvents limit session.flow session.events
 
--- a fact of each session of a list
-abbrev pub Each : (Session → Type 0) → List Session → Type 0
-Each P [] = Unit {0}
-Each P (session ∷ table) = P session × Each P table
-
 abbrev pub SessionsAreRight : Type 0
 SessionsAreRight = (assets : List Asset) (limit : ℕ) (events : List RunEvent) → AreRunEvents assets limit events
-    → Each (HasRightEvents limit) (sessions_of events)
+    → AllByRecursion (HasRightEvents limit) (sessions_of events)
 
 -- ---- whatever copies of letters a controller takes in a session, it gets a beginning of the session's stream to it; and so does
 -- the client
@@ -74,7 +70,7 @@ SendsOneStream session =
 
 abbrev pub SessionsHaveOneStream : Type 0
 SessionsHaveOneStream = (assets : List Asset) (limit : ℕ) (events : List RunEvent) → limit ≤ 2 ^ 30 → AreRunEvents assets limit events
-    → Each SendsOneStream (sessions_of events)
+    → AllByRecursion SendsOneStream (sessions_of events)
 
 -- ---- isolation: a session of one run and one of another that have one flow and are given the same packets at the same moments
 -- are the same in all that they send and log, whatever else the two captures hold

@@ -1,5 +1,6 @@
 -- Steps of the proof: one event over the table in memory, `Steps`; and what an engine stands for, `IsEngineOf`.
 use Rattle.std.specs.Prelude.{◌≡◌, ◌≤◌, ◌-◌, ◌^◌, ℕ, List, ◌∷◌, ◌++◌, Result, count_by, length}
+use Rattle.std.specs.Option.{is_some}
 use Rattle.cf_packet.specs.Packet.{PacketValue}
 use Rattle.cf_packet.specs.declared.packet.PacketRefusal.{PacketRefusal}
 use Rattle.cf_policy.specs.declared.Asset.{Asset}
@@ -9,7 +10,7 @@ use Rattle.cf_run.specs.Receiving.{AreTicked, IsOutcome}
 use Rattle.cf_run.specs.Selected.{Rises, last_moment}
 use Rattle.cf_run.specs.Summary.{found, summary_of}
 use Rattle.cf_run.specs.Table.{Session}
-use Rattle.cf_run.specs.Trace.{AreRunEvents, RunEvent, IsRunEvent, Received, ReceivesRecord, after_received, is_cut, logged_in_first}
+use Rattle.cf_run.specs.Trace.{AreRunEvents, RunEvent, IsRunEvent, Received, ReceivesRecord, after_received, logged_in_first}
 use Rattle.cf_run.specs.Trace.{logged_in_second, logged_received, sent_in_first, sent_in_second, sent_received, table_after}
 use Rattle.cf_run.specs.declared.entry.Entry.{Entry}
 use Rattle.cf_run.specs.declared.second_half.Outcome.{Outcome}
@@ -33,7 +34,7 @@ ReceivesRecordOne assets limit now packet before after old new result =
 
 -- what is counted of an event, after this table
 pub record IsCounted (before : List Session) (happened : Happened) (event : RunEvent) : Type 0 where
-  pub ticks : happened.cuts ≡ count_by (λ t. is_cut t.cut) event.ticks
+  pub ticks : happened.cuts ≡ count_by (λ t. is_some t.cut) event.ticks
   pub received : IsOutcome (found before event) happened.outcome event.received
 
 -- an event with a record, after this table

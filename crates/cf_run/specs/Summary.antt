@@ -1,10 +1,11 @@
 -- What is counted over events: summary_of.
 use Rattle.std.specs.Prelude.{ℕ, ◌+◌, ◌-◌, ◌^◌, min, Bool, true, false, List, [], ◌∷◌, length, count_by, Option, Some, None, slice_get}
+use Rattle.std.specs.Option.{is_some}
 use Rattle.cf_lane.specs.Judged.{one_if}
 use Rattle.cf_session.specs.Session.{work_of}
 use Rattle.cf_session.specs.Work.{Work, no_work}
 use Rattle.cf_run.specs.Table.{Session}
-use Rattle.cf_run.specs.Trace.{Begun, Dropped, RunEvent, NoRoom, NoSession, Received, Went, behind, is_cut, table_after, tick_of, ticked}
+use Rattle.cf_run.specs.Trace.{Begun, Dropped, RunEvent, NoRoom, NoSession, Received, Went, behind, table_after, tick_of, ticked}
 use Rattle.cf_run.specs.declared.summary.Summary.{Summary}
 
 -- the commands that an event decided: what the lane of its session counts now, without what it counted before
@@ -45,12 +46,12 @@ has_begun _ = false
 
 -- the packet's session was cut
 abbrev pub was_cut : Received → Bool
-was_cut (Went place event) = is_cut event.cut
+was_cut (Went place event) = is_some event.cut
 was_cut _ = false
 
 -- the number of sessions that an event cut, in both of its halves
 abbrev pub cuts_in : List Session → RunEvent → ℕ
-cuts_in before event = count_by (λ t. is_cut t.cut) event.ticks + one_if (was_cut event.received)
+cuts_in before event = count_by (λ t. is_some t.cut) event.ticks + one_if (was_cut event.received)
 
 -- ---- over all events, the newest first
 

@@ -2,13 +2,15 @@
 ghost use Rattle.cf_run.specs.Fixed.{RecordsFixEvents, RecordsFixRuns};
 ghost use Rattle.cf_run.specs.Headline.{RunsHaveHeadline};
 ghost use Rattle.cf_run.specs.Isolation.{RunsIsolateSessions};
+ghost use Rattle.cf_run.specs.Logged.{RunsAreLogged};
 ghost use Rattle.cf_run.specs.Selected.{SelectsByMoment};
 ghost use Rattle.cf_run.specs.Sessions.{SessionsAreIsolated, SessionsAreRight, SessionsHaveOneStream};
 
 use cf_decode::fragments_decode;
-use cf_lane::rates_hold;
+use cf_lane::{has_one_judgement, rates_hold};
 use cf_session::{
-    events_are_fixed, has_one_stream, sessions_send_what_is_let_in, work_is_of_what_was_taken,
+    events_are_fixed, first_copies_are_taken, has_one_stream, sessions_send_what_is_let_in,
+    work_is_of_what_was_taken,
 };
 
 /// The packets that an event sent in each of its halves are those of all that the run sent which have the moment of that half.
@@ -61,7 +63,8 @@ pub fn runs_isolate_sessions()
 
 /// The headline: after each event of a run, whatever copies of letters a controller takes in a session of all segments that were
 /// sent to it, it puts together a beginning of one stream, and that decodes to the first of the items that the policy let through
-/// of the client's stream of first copies, in order, and then to a proper prefix of the next; each open end of a session that was
+/// of the client's stream of first copies, in order, and then to a proper prefix of the next; what was taken of both sides is so by first
+/// copies; each open end of a session that was
 /// not cut has sent as many letters as its stream has below the greatest edge shown; and no rule let more commands of a session
 /// through than its rate.
 #[tactic(auto, using(crate::proofs::Headline::has_headline))]
@@ -69,8 +72,19 @@ pub fn runs_have_headline()
     ensures { RunsHaveHeadline }
 {
     has_one_stream();
+    first_copies_are_taken();
     work_is_of_what_was_taken();
     fragments_decode();
     rates_hold();
     sessions_send_what_is_let_in();
+}
+
+/// After each event of a run the streams, the lines and the counts of each session, and why it is cut, are those of the judged items of
+/// all that was taken of both sides.
+#[tactic(auto, using(crate::proofs::Headline::are_logged))]
+pub fn runs_are_logged()
+    ensures { RunsAreLogged }
+{
+    has_one_judgement();
+    work_is_of_what_was_taken();
 }

@@ -16,8 +16,8 @@ pub use entry::{Entry, Table};
 pub use file_desk::{FileDesk, append_packet};
 pub use first_half::tick_all;
 pub use laws::{
-    records_fix_runs, runs_have_headline, runs_isolate_sessions, selects_by_moment,
-    sessions_are_isolated, sessions_are_right, sessions_have_one_stream,
+    records_fix_runs, runs_are_logged, runs_have_headline, runs_isolate_sessions,
+    selects_by_moment, sessions_are_isolated, sessions_are_right, sessions_have_one_stream,
 };
 pub use matching::{Match, TABLE_SIZE, match_packet};
 pub use run::{RunFault, RunNames, RunRefusal, run_capture};

@@ -6,7 +6,7 @@ use Rattle.cf_isolation.proofs.Tables.{BegunHave, Has, begun_in, same_is, sessio
 use Rattle.cf_packet.specs.Packet.{PacketValue}
 use Rattle.cf_policy.specs.declared.Asset.{Asset}
 use Rattle.cf_policy.specs.AtEndpoint.{asset_at, asset_place}
-use Rattle.cf_run.specs.Sessions.{Each, HasEvents, HasRightEvents as IsRightSession, sessions_of}
+use Rattle.cf_run.specs.Sessions.{HasEvents, HasRightEvents as IsRightSession, sessions_of}
 use Rattle.cf_run.specs.Table.{Session}
 use Rattle.cf_view.specs.Endpoints.{same_endpoint}
 use Rattle.cf_run.specs.Trace.{AreRunEvents, RunEvent}
@@ -33,7 +33,7 @@ all_found : (assets : List Asset) (limit : ℕ) (es : List RunEvent) → AreRunE
 all_found assets limit [] h = tt
 all_found assets limit (e ∷ es) h = ((λ f b is. (begun_in assets limit e es h f b is).2.found), all_found assets limit es h.1)
 
-pub sessions_found : (assets : List Asset) (limit : ℕ) (es : List RunEvent) → AreRunEvents assets limit es → Each (Has (IsFound assets)) (sessions_of es)
+pub sessions_found : (assets : List Asset) (limit : ℕ) (es : List RunEvent) → AreRunEvents assets limit es → AllByRecursion (Has (IsFound assets)) (sessions_of es)
 sessions_found assets limit es h = sessions_have (IsFound assets) es (all_found assets limit es h)
 
 -- ---- a list whose elements are heard as two lists
@@ -127,7 +127,7 @@ module _ (speaks : SessionsSpeak) (assets : List Asset) (limit : ℕ) (client : 
       let parts = split heard (spoken s) (told (is_theirs assets client asset) ss) is in
       one_more heard s.flow s.events _ right found ours parts (more parts.rest parts.rest_is)
 
-  pub build : (ss : List Session) → Each (IsRightSession limit) ss → Each (Has (IsFound assets)) ss → (heard : List Numbered) → heard_as heard ≡ told (is_theirs assets client asset) ss → Built heard
+  pub build : (ss : List Session) → AllByRecursion (IsRightSession limit) ss → AllByRecursion (Has (IsFound assets)) ss → (heard : List Numbered) → heard_as heard ≡ told (is_theirs assets client asset) ss → Built heard
   build [] right found [] is = record { sessions = []; spoken = tt; theirs = tt; is = λ fs. refl }
   build [] right found (n ∷ ns) is = cc
   build (s ∷ ss) right found heard is = build_by s ss heard (is_theirs assets client asset s.flow) refl right.0 found.0 (λ ns e. build ss right.1 found.1 ns e) is

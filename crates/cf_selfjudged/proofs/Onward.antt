@@ -1,7 +1,7 @@
 -- What a run sends from a client to an asset is what its sessions of theirs sent, one after the other, and they are never two at a time.
 use Rattle.std.proofs.Common.{◌≡◌, ℕ, suc, ◌+◌, ◌≤◌, ◌&&◌, ◌==◌, Bool, true, false, not, List, [], ◌∷◌, ◌++◌, cond, Option, Some, None, option_map, Result, refl, sym, ap, ◌∙◌, subst, append_assoc, arith}
 use Rattle.std.specs.Prelude.{filter, position, slice_get}
-use Rattle.std.specs.List.{flat_map, remove}
+use Rattle.std.specs.List.{AllByRecursion as Each, flat_map, remove}
 use Rattle.std.proofs.lemmas.Bool.{and_parts, and_right, false_from_ne_true, false≢true, true≢false}
 use Rattle.std.proofs.lemmas.List.{append-nil}
 use Rattle.cf_isolation.proofs.Tables.{HasOwn, IsOwn, all_own, begun_in, each_filter, found_has_all, kept_has, receives, same_is, same_self, table_has}
@@ -11,7 +11,7 @@ use Rattle.cf_packet.specs.declared.packet.PacketRefusal.{PacketRefusal}
 use Rattle.cf_policy.specs.declared.Asset.{Asset}
 use Rattle.cf_readback.proofs.Legs.{each_back}
 use Rattle.cf_policy.specs.AtEndpoint.{asset_place}
-use Rattle.cf_run.specs.Sessions.{Each, HasRightEvents as IsRightSession, SessionsAreRight, gone_after, leaves, left_by_packet, session_at, sessions_of}
+use Rattle.cf_run.specs.Sessions.{HasRightEvents as IsRightSession, SessionsAreRight, gone_after, leaves, left_by_packet, session_at, sessions_of}
 use Rattle.cf_run.specs.Table.{Session, is_between, place_of, without}
 use Rattle.cf_view.specs.Endpoints.{same_endpoint}
 use Rattle.cf_run.specs.Trace.{AreRunEvents, Begun, RunEvent, GoesOnAt, Received, ReceivesRecord, Went, after_received, kept, sent, sent_received, stays, table_after, tick_of, ticked, with_event_at, with_events}

@@ -1,7 +1,7 @@
 -- What a run sends from a client to an asset is what its sessions of theirs sent, one after the other.
 use Rattle.std.proofs.Common.{◌≡◌, ℕ, zero, suc, ◌+◌, ◌≤◌, ◌&&◌, Bool, true, false, not, List, [], ◌∷◌, ◌++◌, cond, Option, Some, None, refl, sym, ap, ◌∙◌, append_assoc, arith}
 use Rattle.std.specs.Prelude.{filter, slice_get}
-use Rattle.std.specs.List.{flat_map}
+use Rattle.std.specs.List.{AllByRecursion as Each, flat_map}
 use Rattle.std.proofs.lemmas.Bool.{false≢true}
 use Rattle.std.proofs.lemmas.List.{append-nil}
 use Rattle.cf_audit.specs.declared.CutReason.{CutReason}
@@ -14,7 +14,7 @@ use Rattle.cf_leg.specs.declared.Ends.{Ends}
 use Rattle.cf_packet.specs.Packet.{PacketValue}
 use Rattle.cf_policy.specs.declared.Asset.{Asset}
 use Rattle.cf_readback.proofs.Legs.{legs_right}
-use Rattle.cf_run.specs.Sessions.{Each, HasRightEvents as IsRightSession}
+use Rattle.cf_run.specs.Sessions.{HasRightEvents as IsRightSession}
 use Rattle.cf_run.specs.Table.{Session}
 use Rattle.cf_run.specs.Trace.{AreTicks, GoesOnAt, GoesOnWith, ends_cut, replaced, stays, with_event_at, with_events}
 use Rattle.cf_session.specs.Event.{AreEvents as AreSessionEvents, EndsTick, IsPacket, IsTick}

@@ -10,11 +10,11 @@ use Rattle.cf_session.specs.Parts.{IsLaneAfter}
 use Rattle.cf_session.specs.Work.{Work}
 
 module _ (asset : Asset) (client : Endpoint) (lane : LaneValue) (r : Rests) (h : List Element) (w : Work) (c k : Queue) (l : IsLaneAfter asset client lane r h w) (qc : IsQueueOf c w.to_client) (qk : IsQueueOf k w.to_controller) where
-  knows : Knows asset (state lane c k None) l.judged
-  knows = l.knows c k None (qc.ended ∙ ap (λ (x : Work). x.to_client.ended) l.is_work) (qk.ended ∙ ap (λ (x : Work). x.to_controller.ended) l.is_work)
+  knows : Knows asset (state lane c k None) l.works.judged
+  knows = l.knows c k None (qc.ended ∙ ap (λ (x : Work). x.to_client.ended) l.works.is_work) (qk.ended ∙ ap (λ (x : Work). x.to_controller.ended) l.works.is_work)
 
   pub admitted_is : lane.admitted ≡ w.admitted
-  admitted_is = knows.admitted ∙ sym (ap (λ (x : Work). x.admitted) l.is_work)
+  admitted_is = knows.admitted ∙ sym (ap (λ (x : Work). x.admitted) l.works.is_work)
 
   pub refused_is : lane.refused ≡ w.refused
-  refused_is = knows.refused ∙ sym (ap (λ (x : Work). x.refused) l.is_work)
+  refused_is = knows.refused ∙ sym (ap (λ (x : Work). x.refused) l.works.is_work)

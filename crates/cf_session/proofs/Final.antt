@@ -40,7 +40,7 @@ abbrev pub BaseCounts : Type 0
 BaseCounts = (leg : LegValue) (m : Marks) (xs : List LegEvent) (st : Stream) → IsLegOf leg m xs → IsTaken (first_copy (offers leg.ends.role xs)) st → base_of leg.window ≡ letter_count st
 
 pub works_of : (asset : Asset) (client : Endpoint) (lane : LaneValue) (r : _) (h : _) (w : Work) → IsLaneAfter asset client lane r h w → Works asset client h w
-works_of asset client lane r h w l = record { judged = l.judged; are_judged = l.are_judged; is_work = l.is_work }
+works_of asset client lane r h w l = l.works
 
 abbrev quiet : Bool → Came → PacketValue → List PacketValue
 quiet b came rst = greeted_by came ++ cond b [] (rst ∷ [])

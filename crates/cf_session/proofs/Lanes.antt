@@ -77,14 +77,14 @@ pub follows_of : {asset : Asset} {client : Endpoint} {lane : LaneValue} {r : Res
 follows_of {asset} {client} {lane} {r} {h} {w} {c} {k} st =
     let o = of_client asset client lane r h w st.lane_stands in
     record {
-      judged = o.judged;
-      are_judged = o.are_judged;
-      is_cut = sym (ap (λ (x : Work). x.cut) o.is_work) ∙ st.uncut;
+      judged = o.works.judged;
+      are_judged = o.works.are_judged;
+      is_cut = sym (ap (λ (x : Work). x.cut) o.works.is_work) ∙ st.uncut;
       are_rests = subst (AreRests asset.protocol h r) st.uncut o.are_rests;
-      knows = o.knows c k (Some w.log) (st.client_stands.ended ∙ ap (λ (x : Work). x.to_client.ended) o.is_work) (st.controller_stands.ended ∙ ap (λ (x : Work). x.to_controller.ended) o.is_work);
-      client_stream = subst (λ (x : Work). IsQueueOf c x.to_client) o.is_work st.client_stands;
-      controller_stream = subst (λ (x : Work). IsQueueOf k x.to_controller) o.is_work st.controller_stands;
-      of_lines = ap (λ (x : Work). Some x.log) o.is_work;
+      knows = o.knows c k (Some w.log) (st.client_stands.ended ∙ ap (λ (x : Work). x.to_client.ended) o.works.is_work) (st.controller_stands.ended ∙ ap (λ (x : Work). x.to_controller.ended) o.works.is_work);
+      client_stream = subst (λ (x : Work). IsQueueOf c x.to_client) o.works.is_work st.client_stands;
+      controller_stream = subst (λ (x : Work). IsQueueOf k x.to_controller) o.works.is_work st.controller_stands;
+      of_lines = ap (λ (x : Work). Some x.log) o.works.is_work;
     }
 
 -- ---- and back
@@ -95,11 +95,9 @@ pub more_of : (asset : Asset) (client : Endpoint) (now : ℕ) (s : Side) (r : Re
 more_of asset client now s r h w letters lane c k cut d0 d1 more is f same added = record {
   work = work_by asset lane.client f.judged;
   lane_stands = subst (λ e. IsLaneAfter asset e lane r (h ++ fed_at now s letters) (work_by asset lane.client f.judged)) is (record {
-    judged = f.judged;
+    works = record { judged = f.judged; are_judged = f.are_judged; is_work = refl };
     is_client = refl;
-    are_judged = f.are_judged;
     are_rests = subst (AreRests asset.protocol (h ++ fed_at now s letters) r) (sym f.is_cut) f.are_rests;
-    is_work = refl;
     knows = λ c' k' log a b. knows_on asset lane c k c' k' _ log f.judged f.knows a b;
   });
   client_stands = f.client_stream;

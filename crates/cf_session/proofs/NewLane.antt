@@ -30,10 +30,8 @@ lane_begins asset client lane c k is f =
     let are : AreJudged asset client.address [] [] = subst (λ (e : Endpoint). AreJudged asset e.address [] []) is (subst (AreJudged asset lane.client.address []) none f.are_judged) in
     let knows : Knows asset (state lane c k None) [] = subst (Knows asset (state lane c k None)) none f.knows in
     record {
-      judged = [];
+      works = record { judged = []; are_judged = are; is_work = refl };
       is_client = is;
-      are_judged = are;
       are_rests = f.are_rests;
-      is_work = refl;
       knows = λ c' k' log a b. knows_on asset lane c k c' k' None log [] knows a b;
     }

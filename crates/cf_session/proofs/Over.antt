@@ -15,7 +15,7 @@ use Rattle.cf_stream.specs.Stream.{Stream, letter_count, no_letters}
 use Rattle.cf_view.specs.declared.Side.{Side}
 use Rattle.cf_view.specs.declared.Side.TheVariants as side
 use Rattle.cf_session.specs.Event.{AreEvents, AreTaken, EndsPacket, EndsTick, IsBrokenOff, IsEvent}
-use Rattle.cf_session.specs.Laws.{AreUncut, IsSentUpTo}
+use Rattle.cf_session.specs.Laws.{AreUncut, FirstCopiesAreTaken, IsSentUpTo}
 use Rattle.cf_session.specs.Session.{Flow, SessionEvent, client_ends, clients, controller_ends, controllers, history}
 use Rattle.cf_session.specs.Stands.{AreOver}
 use Rattle.cf_session.proofs.Beginning.{none_taken}
@@ -115,6 +115,10 @@ are_taken f limit (d ∷ es) e are =
           })
       | inr p ↦ p.5.taken
     ]
+
+pub all_taken : FirstCopiesAreTaken
+all_taken f limit [] are = record { client = none_taken; controller = none_taken }
+all_taken f limit (e ∷ es) are = are_taken f limit es e are
 
 -- ---- how far
 

@@ -1,5 +1,5 @@
--- What holds over every list of right events of a session. The main definitions are `EventsAreFixed`, `WorkIsOfTheTaken` and
--- `HasOneStream`.
+-- What holds over every list of right events of a session. The main definitions are `EventsAreFixed`, `FirstCopiesAreTaken`,
+-- `WorkIsOfTheTaken` and `HasOneStream`.
 use Rattle.std.specs.Prelude.{◌≡◌, ℕ, ◌+◌, ◌^◌, ◌≤◌, min, true, false, List, [], ◌∷◌, ◌++◌, length, map, slice_get, Option, None, Some, ℤ}
 use Rattle.cf_leg.specs.Event.{Came, Greeting, LegEvent, Nothing, Packet, sent_in}
 use Rattle.cf_leg.specs.Heard.{opened, shown}
@@ -10,7 +10,7 @@ use Rattle.cf_leg.specs.declared.Role.{Role}
 use Rattle.cf_packet.specs.Packet.{PacketValue}
 use Rattle.cf_stream.specs.Position.{position}
 use Rattle.cf_stream.specs.Stream.{End, Extends, Letter, Stream, letter_count, letter_from, letters}
-use Rattle.cf_session.specs.Event.{AreEvents, IsTick}
+use Rattle.cf_session.specs.Event.{AreEvents, AreTaken, IsTick}
 use Rattle.cf_session.specs.Session.{Flow, SessionEvent, client_ends, client_of, clients, controller_ends, controllers, history, is_expired}
 use Rattle.cf_session.specs.Session.{work_of}
 use Rattle.cf_session.specs.Work.{Works}
@@ -44,7 +44,10 @@ EventsAreFixed =
     (flow : Flow) (limit : ℕ) (xs ys : List SessionEvent) → AreEvents flow limit xs → AreEvents flow limit ys → map given xs ≡ map given ys
     → xs ≡ ys
 
--- ---- what a lane made of a session is of all that was taken of both sides, by first copies
+-- ---- what was taken of both sides is so by first copies, and what a lane made of a session is of all of that
+
+abbrev pub FirstCopiesAreTaken : Type 0
+FirstCopiesAreTaken = (flow : Flow) (limit : ℕ) (events : List SessionEvent) → AreEvents flow limit events → AreTaken flow events
 
 abbrev pub WorkIsOfTheTaken : Type 0
 WorkIsOfTheTaken =

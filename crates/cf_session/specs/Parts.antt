@@ -1,9 +1,9 @@
 -- Steps of the proof: when the parts of a session in memory stand for its events: `AreParts`.
 use Rattle.std.specs.Prelude.{◌≡◌, ℕ, List, ◌∷◌, ◌-◌, max, Option}
-use Rattle.cf_lane.specs.Follows.{AreJudged, AreRests, Rests}
+use Rattle.cf_lane.specs.Follows.{AreRests, Rests}
 use Rattle.cf_lane.specs.Handled.{Knows, LaneValue, state}
 use Rattle.cf_lane.specs.History.{Element}
-use Rattle.cf_lane.specs.Judged.{Judged, has_ended}
+use Rattle.cf_lane.specs.Judged.{has_ended}
 use Rattle.cf_leg.specs.Event.{LegEvent}
 use Rattle.cf_leg.specs.LegValue.{IsLegOf, LegValue, marks}
 use Rattle.cf_leg.specs.declared.Ends.{Ends}
@@ -18,7 +18,7 @@ use Rattle.cf_view.specs.declared.Side.{Side}
 use Rattle.cf_view.specs.declared.Side.TheVariants as side
 use Rattle.cf_session.specs.Event.{AreTaken}
 use Rattle.cf_session.specs.Session.{Flow, SessionEvent, client_ends, client_of, clients, controller_ends, controllers, history}
-use Rattle.cf_session.specs.Work.{Work, work_by}
+use Rattle.cf_session.specs.Work.{Work, Works}
 
 -- what a contract sees of a `Session`
 pub record SessionValue : Type 0 where
@@ -44,13 +44,12 @@ pub record IsLegBetween (ends : Ends) (leg : LegValue) (queue : Queue) (events :
 -- the lane stands for a history, of which these bytes of each side are left, and this is the work of it
 pub record IsLaneAfter (asset : Asset) (client : Endpoint) (lane : LaneValue) (rests : Rests) (history : List Element) (work : Work) : Type
     0 where
-  pub judged : List Judged
+  pub works : Works asset client history work
   pub is_client : lane.client ≡ client
-  pub are_judged : AreJudged asset client.address history judged
   pub are_rests : AreRests asset.protocol history rests work.cut
-  pub is_work : work ≡ work_by asset client judged
-  pub knows : (to_client to_controller : Queue) (log : Option (List (List ℕ))) → to_client.ended ≡ has_ended side.Controller judged →
-      to_controller.ended ≡ has_ended side.Client judged → Knows asset (state lane to_client to_controller log) judged
+  pub knows : (to_client to_controller : Queue) (log : Option (List (List ℕ))) →
+      to_client.ended ≡ has_ended side.Controller works.judged → to_controller.ended ≡ has_ended side.Client works.judged →
+      Knows asset (state lane to_client to_controller log) works.judged
 
 -- the bytes of each side that are no whole unit stay pending in its window
 abbrev pub rests : SessionValue → Rests

@@ -1,6 +1,6 @@
 //! Laws over every list of right events of a session: each is the contract of a function that does nothing.
-ghost use Rattle.cf_session.specs.Laws.{EachSessionHasATick, EventsAreFixed, FewerPartsAreEnough, HasOneStream, SegmentsCarryOneStream};
-ghost use Rattle.cf_session.specs.Laws.{SendsWhatIsLetIn, WorkIsOfTheTaken};
+ghost use Rattle.cf_session.specs.Laws.{EachSessionHasATick, EventsAreFixed, FewerPartsAreEnough, FirstCopiesAreTaken, HasOneStream};
+ghost use Rattle.cf_session.specs.Laws.{SegmentsCarryOneStream, SendsWhatIsLetIn, WorkIsOfTheTaken};
 ghost use Rattle.cf_session.specs.Stands.{AreQuietBeforeDue};
 
 use cf_lane::{has_one_judgement, streams_go_on};
@@ -29,6 +29,13 @@ pub fn sessions_are_quiet_before_due()
 {
     clocks_are_quiet_before_due();
 }
+
+/// What was taken of each side of a session, after whatever events, is what is taken of the letters that its segments offered, each by
+/// its first copy.
+#[tactic(auto, using(crate::proofs::Over::all_taken))]
+pub fn first_copies_are_taken()
+    ensures { FirstCopiesAreTaken }
+{}
 
 /// The streams, the log and the counts of a session are what a lane makes of all letters that were taken of both sides so far.
 #[tactic(auto, using(crate::proofs::OneStream::works_of))]
