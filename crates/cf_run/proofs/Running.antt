@@ -1,5 +1,5 @@
 -- The records of a capture that were run over so far.
-use Rattle.std.proofs.Common.{◌≡◌, ◌+◌, ◌<◌, ◌≤◌, max, ℕ, zero, suc, true, List, [], ◌∷◌, ◌++◌, map, drop, take, Some, None, Ok, Err, refl, sym, ap, ◌∙◌, subst, append_assoc, arith, Result, IsErrAnd}
+use Rattle.std.proofs.Common.{◌≡◌, ◌≢◌, ◌+◌, ◌*◌, ◌-◌, ◌^◌, ◌<◌, ◌≤◌, max, ℕ, zero, suc, true, List, [], ◌∷◌, ◌++◌, map, drop, take, Some, None, Ok, Err, refl, sym, ap, ◌∙◌, subst, append_assoc, arith, Result, IsErrAnd}
 use Rattle.std.specs.List.{concat, flat_map}
 use Rattle.std.proofs.lemmas.List.{append-nil, drop-drop}
 use Rattle.std.proofs.lemmas.List.Folds.{flat_map-map}
@@ -29,6 +29,8 @@ use Rattle.cf_run.specs.Step.{EngineValue, IsEngineOf, StepsOn}
 use Rattle.cf_run.specs.Trace.{AreRunEvents, RunEvent, Input, logged, logged_in_first, logged_in_second, sent, sent_in_first, sent_in_second, table_after}
 use Rattle.cf_run.specs.declared.engine.StepFault.{StepFault}
 use Rattle.cf_run.specs.declared.engine.StepFault.TheVariants as stepped
+use Rattle.cf_records.specs.Pieces.{IsPastRecord}
+use Rattle.cf_records.specs.declared.record_reader.NextRecord.{NextRecord}
 use Rattle.cf_records.specs.declared.record_reader.NextRecord.TheVariants as answer
 use Rattle.cf_run.specs.declared.run.RunFault.{RunFault}
 use Rattle.cf_run.specs.declared.summary.Summary.{Summary}
@@ -132,6 +134,24 @@ whole_first out log content o l = rw (record_end_first (content out) o, line_end
 
 -- ---- the loop
 
+-- how much there is to read where this was read last: behind a record something, and else nothing
+abbrev pub more_after : NextRecord → ℕ
+more_after (answer.Whole stamp) = 1
+more_after _ = 0
+
+pub less_after : (read : NextRecord) (from to : ℕ) → IsPastRecord read from to → to ≤ 2 ^ 40 → 2 * (2 ^ 40 - to) + more_after read < 2 * (2 ^ 40 - from) + 1
+less_after (answer.Whole stamp) from to on near = omega (arith, on, near)
+less_after answer.End from to on near = omega (arith, on, near)
+less_after answer.Cut from to on near = omega (arith, on, near)
+less_after answer.TooLong from to on near = omega (arith, on, near)
+less_after (answer.Refused refusal) from to on near = omega (arith, on, near)
+less_after answer.Large from to on near = omega (arith, on, near)
+less_after answer.Failed from to on near = omega (arith, on, near)
+
+some_more : (rs : List Record) (r : Record) → rs ++ r ∷ [] ≢ []
+some_more [] r e = cc e
+some_more (x ∷ rs) r e = cc e
+
 -- what holds of the files before and now, after the records that were read, where the next moment is this one at least: each was
 -- an event, and what they sent and logged was put after the header of the one file and into the empty other
 pub record SoFar (assets : List Asset) (limit : ℕ) (names : RunNamesValue) (before now : List ℕ → Content) (start : Form) (least : ℕ)
@@ -166,10 +186,27 @@ nothing_so_far {assets} {names} {files} {reader} {engine} h out log place stands
   told = sym (both_nothing (files_told names.out names.log files));
 }
 
+-- where files were read alone they are as they were
+still_so_far : {assets : List Asset} {limit : ℕ} {names : RunNamesValue} {before now files : List ℕ → Content} {start : Form} {least : ℕ} {reader : ReaderValue} {engine : EngineValue} →
+    SoFar assets limit names before now start least reader engine → files ≡ now → SoFar assets limit names before files start least reader engine
+still_so_far {names = names} a same = record {
+  has_form = a.has_form;
+  out = a.out;
+  log = a.log;
+  capture = ap (λ (f : List ℕ → Content). f names.capture) same ∙ a.capture;
+  records = a.records;
+  events = a.events;
+  leads = a.leads;
+  given = a.given;
+  stands = a.stands;
+  limited = a.limited;
+  told = ap (λ (f : List ℕ → Content). files_told names.out names.log f) same ∙ a.told;
+}
+
 module _ {assets : List Asset} {limit : ℕ} {names : RunNamesValue} {before now : List ℕ → Content} {start : Form} {least : ℕ} {reader : ReaderValue} {engine : EngineValue}
     (a : SoFar assets limit names before now start least reader engine) where
   -- one record more: it is read, it is in time, and its event is handled
-  pub one_so_far : (stamp : ℕ) {next : ReaderValue} {moment : ℕ} {files after : List ℕ → Content} {new : EngineValue} → FindsRecord (now names.capture) reader next (answer.Whole stamp) →
+  one_so_far : (stamp : ℕ) {next : ReaderValue} {moment : ℕ} {files after : List ℕ → Content} {new : EngineValue} → FindsRecord (now names.capture) reader next (answer.Whole stamp) →
       files ≡ now → moment ≡ max stamp least → moment < moment_limit →
       ((events : List RunEvent) → IsEngineOf assets engine events → (event : RunEvent) × StepsOn assets moment (read_record next.link next.body) events new
       (files_told names.out names.log files) (files_told names.out names.log after) event) →
@@ -202,6 +239,18 @@ module _ {assets : List Asset} {limit : ℕ} {names : RunNamesValue} {before now
         told = step.told ∙ ap (λ (f : List ℕ → Content). with_both (files_told names.out names.log f) packets lines) still ∙ ap (λ t. with_both t packets lines) a.told
             ∙ both_both (files_told names.out names.log before) (sent a.events) packets (logged a.events) lines;
       }
+
+  -- so it is behind the read that comes next, and there is a record
+  pub next_so_far : (stamp : ℕ) {next : ReaderValue} {moment : ℕ} {files after later : List ℕ → Content} {new : EngineValue} → FindsRecord (now names.capture) reader next (answer.Whole stamp) →
+      files ≡ now → moment ≡ max stamp least → moment < moment_limit →
+      ((events : List RunEvent) → IsEngineOf assets engine events → (event : RunEvent) × StepsOn assets moment (read_record next.link next.body) events new
+      (files_told names.out names.log files) (files_told names.out names.log after) event) →
+      new.limit ≡ engine.limit → after names.capture ≡ files names.capture → later ≡ after →
+      (so : SoFar assets limit names before later start (moment + 2) next new) × (so.records ≢ [])
+  unfolding one_so_far still_so_far
+  next_so_far stamp {next} {moment} {files} {after} {later} {new} found still is early steps limited kept same =
+      let r : Record = record { stamp = stamp; link = next.link; body = next.body } in
+      (still_so_far (one_so_far stamp found still is early steps limited kept) same, some_more a.records r)
 
   -- ---- the next record is read, and its event stopped
 
@@ -311,11 +360,12 @@ module _ {assets : List Asset} {limit : ℕ} {names : RunNamesValue} {before now
         }
 
     -- nothing is known of what follows
-    pub runs_partly : {files : List ℕ → Content} → files ≡ now → RunsPartly assets limit names before files
-    runs_partly still = record {
+    pub runs_partly : {files : List ℕ → Content} → files ≡ now → a.records ≢ [] → RunsPartly assets limit names before files
+    runs_partly still some = record {
       form = start;
       has_form = a.has_form;
       records = a.records;
+      some = some;
       are_first = leads_somewhere (before names.capture) start reader.form least reader.place a.records a.leads;
       summary = engine.summary;
       leaves = leaves still;

@@ -93,11 +93,12 @@ module _ (assets : List Asset) (limit : ℕ) (names : RunNamesValue) (before aft
     pub are_records : HasRunRecords (before names.capture) form records (record { place = place; found = found })
     pub leaves : LeavesRun records summary
 
-  -- a read failed after records that were run over
+  -- a read failed after records that were run over, one at least
   pub record RunsPartly : Type 0 where
     pub form : Form
     pub has_form : HasForm (before names.capture) (Ok form)
     pub records : List Record
+    pub some : records ≢ []
     pub are_first : BeginsWithRecords (before names.capture) form records
     pub summary : Summary
     pub leaves : LeavesRun records summary
@@ -155,8 +156,8 @@ module _ (assets : List Asset) (limit : ℕ) (names : RunNamesValue) (before aft
   RunsRecords (Err fault.Write) = BreaksOff
   RunsRecords (Err fault.NoMemory) = StopsBetween
 
-  -- what an answer means, and what then stands in the two files: before they are created the header can be refused, a read can
-  -- fail, and memory can run out; and their creation can fail
+  -- what an answer means, and what then stands in the two files: before they are created the header can be refused, memory can run
+  -- out, and a read can fail, that of the header or of the first record; and their creation can fail
   abbrev pub RunsAs : Result Summary RunFault → Type 0
   RunsAs (Err (fault.Refused (refusal.Header of))) = HasForm (before names.capture) (Err of) × (after ≡ before)
   RunsAs (Err fault.Read) = (after ≡ before) ⊎ RunsPartly

@@ -1,5 +1,5 @@
 //! A run over a capture file.
-ghost use Rattle.std.specs.Prelude.{◌≡◌, ◌≢◌, ◌+◌, ◌<◌, ◌≤◌, ◌∷◌, [], List, IsErrOf, Ok, OnOk, true};
+ghost use Rattle.std.specs.Prelude.{◌≡◌, ◌≢◌, ◌+◌, ◌^◌, ◌<◌, ◌≤◌, ◌∷◌, [], List, IsErrOf, OnOk, true};
 ghost use Rattle.cf_lane.specs.declared.limit.TheConstants.{LETTER_LIMIT};
 ghost use Rattle.cf_outside.specs.Faults.{HasCause};
 ghost use Rattle.cf_outside.specs.Frames.{KeepsOtherFiles};
@@ -9,9 +9,8 @@ ghost use Rattle.cf_pcap.specs.Header.{output_octets};
 ghost use Rattle.cf_policy.specs.Within.{AreAssetsWithin};
 ghost use Rattle.cf_run.specs.FileDesk.{are_whole, files_desk, files_told};
 ghost use Rattle.cf_run.specs.Half.{StepBreaks, StepStops};
-ghost use Rattle.cf_records.specs.Form.{first_place};
-ghost use Rattle.cf_records.specs.Reader.{HasForm};
 ghost use Rattle.cf_run.specs.RunCapture.{AreApart, IsCreatedInPart, RunsAs, RunsRecords, open_fault, run_names_value};
+ghost use Rattle.cf_run.specs.FirstRead.{BeginsWithRead};
 ghost use Rattle.cf_run.specs.RunCapture.{step_fault};
 ghost use Rattle.cf_run.specs.Step.{IsEngineOf, IsSoundEngine, StepsOn};
 ghost use Rattle.cf_run.specs.Trace.{RunEvent, table_after};
@@ -91,11 +90,11 @@ impl From<StepFault> for RunFault {
 }
 
 /// Runs over the records of a capture, one event each, and writes all packets and all lines that the box sends and logs into
-/// two files. The header is read, and all memory but that of the sessions is taken, before the two are created, the capture
-/// file of packets first. The policy is one that `read_policy` gives.
+/// two files. The header and the first record are read, and all memory but that of the sessions is taken, before the two are
+/// created, the capture file of packets first. The policy is one that `read_policy` gives.
 ///
 /// After `Refused` by the header no file is changed. After `Read` no file is changed, or the two files have what the records
-/// that were read give. After `NoMemory` no file is changed, or they have what these records give and the first half of the next
+/// that were read give, one at least. After `NoMemory` no file is changed, or they have what these records give and the first half of the next
 /// event, whose packet would have begun a session. After `Write` a creation or the append of the header was not done, or they
 /// have what the records before give, what comes of the next event before one of its halves, and of that half a beginning:
 /// nothing is written after the fault. After every other answer they have what the whole records before the place give.
@@ -116,8 +115,15 @@ pub fn run_capture<F: Files>(
     let Ok(mut engine) = Engine::new(alloc, LETTER_LIMIT as i64) else {
         return Err(RunFault::NoMemory);
     };
+    // A read that fails before a record was read leaves both outputs as they were.
+    let first = reader.next(names.capture, files);
+    if let NextRecord::Failed = first {
+        return Err(RunFault::Read);
+    }
     match create_outputs(names, files) {
-        WriteAnswer::Done => run_records(alloc, policy, names, &mut reader, &mut engine, files),
+        WriteAnswer::Done => {
+            run_records(alloc, policy, names, first, &mut reader, &mut engine, files)
+        }
         WriteAnswer::Failed => Err(RunFault::Write),
     }
 }
@@ -145,11 +151,12 @@ fn create_outputs<F: Files>(names: &RunNames<'_>, files: &mut F) -> WriteAnswer
     files.append(names.out, &header)
 }
 
-/// Runs over the records from the reader's place on, to the end of the capture or the first that is none.
+/// Runs over the records from the first on, which the reader has read, to the end of the capture or the first that is none.
 fn run_records<F: Files>(
     alloc: Global,
     policy: &Policy,
     names: &RunNames<'_>,
+    first: NextRecord,
     reader: &mut RecordReader,
     engine: &mut Engine,
     files: &mut F,
@@ -158,8 +165,9 @@ fn run_records<F: Files>(
     requires apart { AreApart (run_names_value names.now) }
     requires sound { IsSoundEngine policy.now.assets engine.old }
     requires stands { IsEngineOf policy.now.assets engine.old [] }
-    requires form { HasForm (F.content files.old names.now.capture.now) (Ok reader.old.form) }
-    requires place { reader.old.place ≡ first_place reader.old.form }
+    requires first { BeginsWithRead (F.content files.old names.now.capture.now) reader.old first }
+    requires near { reader.old.place ≤ 2 ^ 40 }
+    requires read { first ≢ NextRecord.Failed }
     requires out { IsWhole (F.content files.old names.now.out.now) output_octets }
     requires log { IsWhole (F.content files.old names.now.log.now) [] }
     ensures runs { RunsRecords policy.now.assets engine.old.limit (run_names_value names.now)
@@ -169,8 +177,9 @@ fn run_records<F: Files>(
     ensures write { HasCause (F.write_faults files.old) (F.write_faults files.new) (IsErrOf result RunFault.Write) }
 {
     let mut least = 2;
+    let mut read = first;
     'records: loop {
-        match reader.next(names.capture, files) {
+        match read {
             NextRecord::Whole(stamp) => {
                 let moment = stamp.max(least);
                 if moment >= MOMENT_LIMIT {
@@ -193,6 +202,7 @@ fn run_records<F: Files>(
             NextRecord::Large => return Err(RunFault::Refused(RunRefusal::Large)),
             NextRecord::Failed => return Err(RunFault::Read),
         }
+        read = reader.next(names.capture, files);
     }
 }
 
