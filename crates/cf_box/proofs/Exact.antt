@@ -31,12 +31,14 @@ use Rattle.cf_review.specs.declared.Counts.{Counts}
 use Rattle.cf_box.specs.Sift.{TakesStream, TellsCutStream}
 use Rattle.cf_box.specs.Status.{IsExact, TellsCut, TellsDenial, TellsIdle, TellsNoAsset, TellsNoPolicy, TellsObjection, TellsRemark, TellsRemarks}
 use Rattle.cf_box.specs.Status.{TellsTooManyRules, TellsTooMuch}
+use Rattle.cf_unobjected.specs.OneJudgement.{RecordsHaveOneJudgement}
 use Rattle.cf_ending.specs.declared.Done.{Done}
 use Rattle.cf_ending.specs.declared.Done.TheVariants as done
 use Rattle.cf_ending.specs.declared.Stop.{Stop}
 use Rattle.cf_ending.specs.declared.Stop.TheVariants as stop
 use Rattle.cf_box.proofs.CaptureExact.{DueBehind, capture_from, capture_cut_from}
 use Rattle.cf_box.proofs.Complete.{known_unrefused, not_cut_watch, not_lacking, not_refused, not_refused_watch, same_bytes, same_policy}
+use Rattle.cf_box.proofs.OneJudgement.{judgement_told}
 use Rattle.cf_box.proofs.Passing.{found_passes, one_policy, policy_passes}
 use Rattle.cf_box.proofs.Relaying.{GoesOn, IsUncutEnd, few_by, idle_is_late, link_is_late, uncut_by}
 use Rattle.cf_box.proofs.Statuses.{Explains, IsOf, Unprinted, explained, read_failed, stop_is, write_failed}
@@ -279,11 +281,11 @@ module _ (failed : Type 0) (status : ℕ) (before after : Outside) where
     objection_from (Err stop.ReadFault) meets h = inr (inl (stop_is failed status stop.ReadFault h, meets.0))
     objection_from (Err stop.NoMemory) meets h = inr (inr (stop_is failed status stop.NoMemory h))
     objection_from (Err (stop.PolicyRefused r)) meets h =
-        absurd (known_unrefused (Judge policy capture) before policy t.known.bytes t.known.policy r refl t.known.told t.known.means (λ second e. cc e) meets.0)
+        absurd (known_unrefused (Judge policy capture) before policy t.files.known.bytes t.files.known.policy r refl t.files.known.told t.files.known.means (λ second e. cc e) meets.0)
     objection_from (Err stop.UnknownAsset) meets h = let cause : LacksAsset (Judge policy capture) before = meets.0 in absurd (cc (cause.3))
     objection_from (Err stop.WriteFault) meets h = absurd (meets.1.unwritten refl)
-    objection_from (Err (stop.CaptureRefused r)) meets h = absurd (not_refused_watch set.Plain t.bytes (t.ends, t.short) _ t.told r meets.0.0)
-    objection_from (Err (stop.CaptureCut place)) meets h = absurd (not_cut_watch set.Plain t.bytes (t.ends, t.short) _ t.told place meets.0.0)
+    objection_from (Err (stop.CaptureRefused r)) meets h = absurd (not_refused_watch set.Plain t.files.bytes (t.files.ends, t.files.short) _ t.files.told r meets.0.0)
+    objection_from (Err (stop.CaptureCut place)) meets h = absurd (not_cut_watch set.Plain t.files.bytes (t.files.ends, t.files.short) _ t.files.told place meets.0.0)
     objection_from (Err (stop.Denied why)) meets h = inl (inl (stop_is failed status (stop.Denied why) h))
     objection_from (Err _) meets h = absurd meets.0.0
 
@@ -297,11 +299,11 @@ module _ (failed : Type 0) (status : ℕ) (before after : Outside) where
     remark_from (Err stop.ReadFault) meets h = inr (inr (inl (stop_is failed status stop.ReadFault h, meets.0)))
     remark_from (Err stop.NoMemory) meets h = inr (inr (inr (stop_is failed status stop.NoMemory h)))
     remark_from (Err (stop.PolicyRefused r)) meets h =
-        absurd (known_unrefused (Review policy capture log) before policy t.known.bytes t.known.policy r refl t.known.told t.known.means (λ second e. cc e) meets.0)
+        absurd (known_unrefused (Review policy capture log) before policy t.files.known.bytes t.files.known.policy r refl t.files.known.told t.files.known.means (λ second e. cc e) meets.0)
     remark_from (Err stop.UnknownAsset) meets h = let cause : LacksAsset (Review policy capture log) before = meets.0 in absurd (cc (cause.3))
     remark_from (Err stop.WriteFault) meets h = inr (inl (stop_is failed status stop.WriteFault h, inl meets.0.0))
-    remark_from (Err (stop.CaptureRefused r)) meets h = absurd (not_refused_watch set.Recorded t.bytes (t.ends, t.short) _ t.told r meets.0.0)
-    remark_from (Err (stop.CaptureCut place)) meets h = absurd (not_cut_watch set.Recorded t.bytes (t.ends, t.short) _ t.told place meets.0.0)
+    remark_from (Err (stop.CaptureRefused r)) meets h = absurd (not_refused_watch set.Recorded t.files.bytes (t.files.ends, t.files.short) _ t.files.told r meets.0.0)
+    remark_from (Err (stop.CaptureCut place)) meets h = absurd (not_cut_watch set.Recorded t.files.bytes (t.files.ends, t.files.short) _ t.files.told place meets.0.0)
     remark_from (Err (stop.Denied why)) meets h = inl (stop_is failed status (stop.Denied why) h)
     remark_from (Err _) meets h = absurd meets.0.0
 
@@ -315,11 +317,11 @@ module _ (failed : Type 0) (status : ℕ) (before after : Outside) where
     rules_from (Err stop.ReadFault) meets h = inr (inl (stop_is failed status stop.ReadFault h, meets.0))
     rules_from (Err stop.NoMemory) meets h = inr (inr (stop_is failed status stop.NoMemory h))
     rules_from (Err (stop.PolicyRefused r)) meets h =
-        absurd (known_unrefused (Learn policy capture out) before policy t.known.bytes t.known.policy r refl t.known.told t.known.means (λ second e. cc e) meets.0)
+        absurd (known_unrefused (Learn policy capture out) before policy t.files.known.bytes t.files.known.policy r refl t.files.known.told t.files.known.means (λ second e. cc e) meets.0)
     rules_from (Err stop.UnknownAsset) meets h = let cause : LacksAsset (Learn policy capture out) before = meets.0 in absurd (cc (cause.3))
     rules_from (Err stop.WriteFault) meets h = absurd (t.none_learned meets.1.learned meets.1.learns)
-    rules_from (Err (stop.CaptureRefused r)) meets h = absurd (not_refused_watch set.Plain t.bytes (t.ends, t.short) _ t.told r meets.0.0)
-    rules_from (Err (stop.CaptureCut place)) meets h = absurd (not_cut_watch set.Plain t.bytes (t.ends, t.short) _ t.told place meets.0.0)
+    rules_from (Err (stop.CaptureRefused r)) meets h = absurd (not_refused_watch set.Plain t.files.bytes (t.files.ends, t.files.short) _ t.files.told r meets.0.0)
+    rules_from (Err (stop.CaptureCut place)) meets h = absurd (not_cut_watch set.Plain t.files.bytes (t.files.ends, t.files.short) _ t.files.told place meets.0.0)
     rules_from (Err (stop.TooManyRules name)) meets h = inl (stop_is failed status (stop.TooManyRules name) h)
     rules_from (Err _) meets h = absurd meets.0.0
 
@@ -348,8 +350,8 @@ later_written failed status n before middle after rise wrote (inr (inl h)) = inr
 later_written failed status n before middle after rise wrote (inr (inr (inl h))) = inr (inr (inl (h.0, rise h.1)))
 later_written failed status n before middle after rise wrote (inr (inr (inr h))) = inr (inr (inr h))
 
-pub exact_told : HasOneCut → HasOneJudgement → {c : Command} {before after : Outside} {status : ℕ} (e : Explains c before after status) → IsExact c before after status
-exact_told one law {c = c} {before = before} {after = after} {status = status} e = record {
+pub exact_told : HasOneCut → HasOneJudgement → RecordsHaveOneJudgement → {c : Command} {before after : Outside} {status : ℕ} (e : Explains c before after status) → IsExact c before after status
+exact_told one law once {c = c} {before = before} {after = after} {status = status} e = record {
   refused = λ t. later (status ≡ 5) status before e.middle after (read_failed e)
       (refused_from (Unprinted e) status before e.middle c t e.r e.meets (explained e));
   unknown = λ t. later (status ≡ 10) status before e.middle after (read_failed e)
@@ -368,4 +370,5 @@ exact_told one law {c = c} {before = before} {after = after} {status = status} e
       (asked_from (Unprinted e) status before e.middle c t e.r e.meets (explained e));
   rules = λ t. later (status ≡ 16) status before e.middle after (read_failed e)
       (too_many_from (Unprinted e) status before e.middle c t e.r e.meets (explained e));
+  judgement = λ policy capture p judged is t h. judgement_told once e policy capture is t p judged h;
 }

@@ -8,6 +8,7 @@ pub mod Kept
 pub mod Learning
 pub mod Listing
 pub mod Migrating
+mod OneJudgement
 mod Passing
 pub mod Recorded
 pub mod Relaying

@@ -1,5 +1,5 @@
 -- `judge POLICY CAPTURE`: whether what clients sent in a capture keeps a policy. The main definitions are `KeepsPolicy`, `Objects` and
--- `JudgesClean`; what is watched is said in `cf_watch`, and what is objected to in `cf_judge`.
+-- `JudgesClean`, and `HasJudgement`; what is watched is said in `cf_watch`, and what is objected to in `cf_judge`.
 use Rattle.std.specs.Prelude.{◌≡◌, ℕ, List, slice_get, None, Some, Result, Ok, Err}
 use Rattle.cf_judge.specs.Objections.{IsJudgementOf}
 use Rattle.cf_judge.specs.declared.Complaint.{Complaint}
@@ -11,6 +11,8 @@ use Rattle.cf_policy.specs.declared.Asset.{Asset}
 use Rattle.cf_policy.specs.declared.Policy.{Policy}
 use Rattle.cf_watch.specs.FlowValue.{FlowValue}
 use Rattle.cf_box.specs.Check.{ChangesNothing}
+use Rattle.cf_ending.specs.Denial.{denial_text}
+use Rattle.cf_ending.specs.Ending.{Puts}
 use Rattle.cf_ending.specs.Outside.{Outside}
 use Rattle.cf_box.specs.Watching.{HasWatched}
 use Rattle.cf_ending.specs.declared.Denial.{Denial}
@@ -65,6 +67,14 @@ SaysOfFlows p flows (Err (stop.Denied (denial.Objects tells))) = ObjectsTo p flo
 SaysOfFlows p flows (Err stop.NoMemory) = Unit {0}
 SaysOfFlows p flows (Err _) = ⊥
 
+-- the objection was printed, with the name of its asset in the place of its number, and the status is 15
+pub record IsShown (p : Policy) (objection : Objection) (before after : Outside) (status : ℕ) : Type 0 where
+  pub asset : Asset
+  pub here : slice_get p.assets objection.asset ≡ Some asset
+  pub tells : Objected
+  pub told : IsTold asset objection tells
+  pub put : Puts (denial_text (denial.Objects tells)) 15 15 before.sink after.sink status
+
 -- ---- of a policy and a capture
 
 module _ (policy capture : List ℕ) (before : Outside) where
@@ -83,6 +93,13 @@ module _ (policy capture : List ℕ) (before : Outside) where
   pub record JudgesClean (after : Outside) (d : Done) : Type 0 where
     pub keeps : KeepsPolicy d
     pub same : ChangesNothing before after
+
+  -- the policy means this, and this is the judgement of the flows of the capture: it is one where both files are told, since two judgements
+  -- of the records of a capture are one (`cf_unobjected`, `RecordsHaveOneJudgement`)
+  pub record HasJudgement (p : Policy) (judged : Judgement) : Type 0 where
+    pub flows : List FlowValue
+    pub watched : HasWatched policy capture before p flows
+    pub judges : IsJudgementOf p.assets flows judged
 
   -- whatever is told of them, there is no objection
   abbrev pub NeverObjects : Type 0

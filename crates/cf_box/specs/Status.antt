@@ -1,6 +1,8 @@
 -- What a status tells, each by itself, and `IsExactly` and `IsComplete`: when it must be one.
 use Rattle.std.specs.Prelude.{◌≡◌, ◌≢◌, ◌⊎◌, ℕ, List, [], drop, length, ◌≤◌, Option, None, Some, Ok, Err}
 use Rattle.cf_audit.specs.declared.line.CutReason.{CutReason}
+use Rattle.cf_judge.specs.declared.Judged.{Judged as Judgement}
+use Rattle.cf_judge.specs.declared.Objection.{Objection}
 use Rattle.cf_lane.specs.Follows.{AreJudged}
 use Rattle.cf_lane.specs.Judged.{Judged}
 use Rattle.cf_lane.specs.Passes.{Passes}
@@ -23,7 +25,7 @@ use Rattle.cf_words.specs.Command.{capture_file, other_file, output_files, polic
 use Rattle.cf_box.specs.Compare.{IncludesAll, IsIncluded, OfPolicies, TellsNotIncluded}
 use Rattle.cf_box.specs.Ends.{CutsCapture, CutsStream, Denies, EndsIdle, ExceedsCells, LacksAsset, LinkFails, RefusesCapture, RefusesPolicy}
 use Rattle.cf_box.specs.Ends.{ExceedsRules}
-use Rattle.cf_box.specs.Judge.{KeepsPolicy, NeverObjects}
+use Rattle.cf_box.specs.Judge.{HasJudgement, IsShown, KeepsPolicy, NeverObjects}
 use Rattle.cf_box.specs.Watching.{ReviewCuts, ReviewRefuses, WatchCuts, WatchRefuses}
 use Rattle.cf_box.specs.Learn.{Learns, NeverTooMuch}
 use Rattle.cf_ending.specs.Outside.{Outside, ReadFailed, WriteFailed}
@@ -223,13 +225,17 @@ abbrev pub TellsIdle : Command → (before : Outside) → (pair : PairValue) →
 TellsIdle (Relay file asset port idles log) before pair = TellsIdleRelay file asset before pair idles
 TellsIdle _ before pair = ⊥
 
--- the policy and the capture are told and in form, and something is objected to
-pub record TellsObjection (policy capture : List ℕ) (before : Outside) : Type 0 where
+-- the policy and the capture, of one of these link types, are told and in form
+pub record TellsInForm (kinds : LinkSet) (policy capture : List ℕ) (before : Outside) : Type 0 where
   pub known : TellsPolicy (before.files.content policy)
   pub bytes : List ℕ
   pub told : before.files.content capture ≡ holds bytes
-  pub ends : HasRecordsToItsEnd bytes
+  pub ends : HasRecordsIn kinds bytes
   pub short : length bytes ≤ CAPTURE_LIMIT
+
+-- so they are, and something is objected to
+pub record TellsObjection (policy capture : List ℕ) (before : Outside) : Type 0 where
+  pub files : TellsInForm set.Plain policy capture before
   pub not_clean : (d : Done) → KeepsPolicy policy capture before d → ⊥
 
 -- what a command asks of its files is told, and is not so: a line a command that asks
@@ -238,13 +244,9 @@ TellsDenial (Compare policy other) before = TellsNotIncluded policy other before
 TellsDenial (Judge policy capture) before = TellsObjection policy capture before
 TellsDenial _ before = ⊥
 
--- the policy and the capture are told and in form, and a review has a remark: a line a command that writes one
+-- so they are, and a review has a remark
 pub record TellsRemark (policy capture : List ℕ) (before : Outside) : Type 0 where
-  pub known : TellsPolicy (before.files.content policy)
-  pub bytes : List ℕ
-  pub told : before.files.content capture ≡ holds bytes
-  pub ends : HasRecordsIn set.Recorded bytes
-  pub short : length bytes ≤ CAPTURE_LIMIT
+  pub files : TellsInForm set.Recorded policy capture before
   pub not_clean : NothingRemarked policy capture before → ⊥
 
 -- the command is a review that has a remark, and whose files are told and in form
@@ -252,13 +254,9 @@ abbrev pub TellsRemarks : Command → Outside → Type 0
 TellsRemarks (Review policy capture log) before = TellsRemark policy capture before
 TellsRemarks _ before = ⊥
 
--- the policy and the capture are told and in form, and no policy is learned of them: some asset would have too many rules
+-- so they are, and no policy is learned of them: some asset would have too many rules
 pub record TellsTooMuch (policy capture : List ℕ) (before : Outside) : Type 0 where
-  pub known : TellsPolicy (before.files.content policy)
-  pub bytes : List ℕ
-  pub told : before.files.content capture ≡ holds bytes
-  pub ends : HasRecordsToItsEnd bytes
-  pub short : length bytes ≤ CAPTURE_LIMIT
+  pub files : TellsInForm set.Plain policy capture before
   pub none_learned : (learned : Policy) → Learns policy capture before learned → ⊥
 
 -- the command is to learn of files that are told and in form and of which none is learned
@@ -311,6 +309,21 @@ TellsCutCapture _ before = ⊥
 abbrev pub YieldsWritten : (before after : Outside) → (status : ℕ) → Type 0
 YieldsWritten before after status = ((status ≡ 4) × WriteFailed before after) ⊎ Yields before after status
 
+-- What the status of a judge tells of the judgement of its files: it has no objection, and the status is 0, or 4 where that could not be
+-- printed; or it has this objection, which was printed, and the status is 15; or a read failed, or memory ran out.
+pub data SaysOfJudgement (p : Policy) (judged : Judgement) (before after : Outside) (status : ℕ) : Type 0 where
+  has_none : judged.objection ≡ None → (status ≡ 0) ⊎ ((status ≡ 4) × WriteFailed before after)
+      → SaysOfJudgement p judged before after status
+  has_one : (objection : Objection) → judged.objection ≡ Some objection → IsShown p objection before after status
+      → SaysOfJudgement p judged before after status
+  is_not_known : Yields before after status → SaysOfJudgement p judged before after status
+
+-- so it is of every judge whose files are told and in form
+abbrev pub SaysItsJudgement : Command → (before after : Outside) → (status : ℕ) → Type 0
+SaysItsJudgement c before after status =
+    (policy capture : List ℕ) (p : Policy) (judged : Judgement) → c ≡ Judge policy capture → TellsInForm set.Plain policy capture before →
+    HasJudgement policy capture before p judged → SaysOfJudgement p judged before after status
+
 -- each of these gives its status, and nothing but a failed read or want of memory comes before it, and before a capture that is
 -- refused or cut, a stream that is cut, an idle end or a remark a failed write
 pub record IsExact (c : Command) (before after : Outside) (status : ℕ) : Type 0 where
@@ -323,6 +336,7 @@ pub record IsExact (c : Command) (before after : Outside) (status : ℕ) : Type 
   pub denied : TellsDenial c before → ((status ≡ 15) ⊎ (status ≡ 17)) ⊎ Yields before after status
   pub rules : TellsTooManyRules c before → (status ≡ 16) ⊎ Yields before after status
   pub remarked : TellsRemarks c before → (status ≡ 15) ⊎ YieldsWritten before after status
+  pub judgement : SaysItsJudgement c before after status
 
 -- the status is exact for the command that the words are, if they are one
 abbrev pub IsExactly : Option Command → (before after : Outside) → (status : ℕ) → Type 0

@@ -81,7 +81,7 @@ returns-in-Some-clause-includes g c = λ policy other is. includes_told (explain
 pub returns-in-Some-clause-exact : goal.returns-in-Some-clause-exact
 returns-in-Some-clause-exact g c = λ form is.
     let same : command g c ≡ form = let known = c.in-Some.ensures.command in cc in
-    exact_told c.has_one_cut.ensures c.has_one_judgement.ensures (subst (λ k. Explains k (before g c) (after g c) c.report.result) same (explains g c))
+    exact_told c.has_one_cut.ensures c.has_one_judgement.ensures c.laws_hold.ensures.judged_once (subst (λ k. Explains k (before g c) (after g c) c.report.result) same (explains g c))
 
 pub returns-in-Some-clause-complete : goal.returns-in-Some-clause-complete
 returns-in-Some-clause-complete g c = λ form is input fails.
