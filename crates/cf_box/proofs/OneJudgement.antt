@@ -7,8 +7,8 @@ use Rattle.cf_outside.specs.Files.{Content, holds}
 use Rattle.cf_policy.specs.declared.Policy.{Policy}
 use Rattle.cf_records.proofs.RecordLists.{one_list}
 use Rattle.cf_records.specs.Capture.{AreRecords, FileEnd, Record}
-use Rattle.cf_records.specs.Form.{first_place, form_of}
-use Rattle.cf_records.specs.Reader.{HasForm}
+use Rattle.cf_records.specs.Form.{first_place, form_in}
+use Rattle.cf_records.specs.Reader.{HasFormIn}
 use Rattle.cf_unobjected.specs.OneJudgement.{IsJudgementOfRecords, RecordsHaveOneJudgement}
 use Rattle.cf_watch.specs.Flow.{AreFlowsOf}
 use Rattle.cf_watch.specs.Watch.{EndsAt, HasRecords}
@@ -29,9 +29,9 @@ use Rattle.cf_box.proofs.Complete.{known_unrefused, not_cut_watch, not_refused_w
 use Rattle.cf_box.proofs.Statuses.{Explains, IsOf, Unprinted, explained, read_failed, stop_is, write_failed}
 
 -- the records of a told capture are these
-told_records : (file : Content) (bytes : List ℕ) (has : HasRecordsToItsEnd bytes) → file ≡ holds bytes → (place : ℕ) (e : EndsAt file FileEnd place) → e.records ≡ has.2.0
+told_records : (file : Content) (bytes : List ℕ) (has : HasRecordsToItsEnd bytes) → file ≡ holds bytes → (place : ℕ) (e : EndsAt set.Plain file FileEnd place) → e.records ≡ has.2.0
 told_records file bytes has told place e =
-    let here : form_of bytes ≡ Ok e.form = subst (λ f. HasForm f (Ok e.form)) told e.has_form in
+    let here : form_in set.Plain bytes ≡ Ok e.form = subst (λ f. HasFormIn set.Plain f (Ok e.form)) told e.has_form in
     let also = has.1 in
     let same : e.form ≡ has.0 = cc in
     let records : HasRecords (holds bytes) e.form e.records (record { place = place; found = FileEnd }) =
