@@ -42,7 +42,7 @@ records-preserved g c =
     let content = g.F.Files.content in
     let names : RunNamesValue = run_names_value c.args.names.now in
     let so = next_so_far before.so_far c.in-Whole.stamp (found_as _ _ _ _ _ c.in-Whole.is before.found) refl c.max-moment.ensures (omega (arith, c.if-moment-ge-MOMENT_LIMIT.false)) done.steps done.limit
-        (done.others names.capture (apart.capture_out, (apart.capture_log, tt))) read.reads.same in
+    (done.others names.capture (apart.capture_out, (apart.capture_log, tt))) read.reads.same in
     record {
       start = before.start;
       prior = c.records.reader;
