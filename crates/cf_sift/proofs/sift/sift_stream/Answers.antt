@@ -1,4 +1,4 @@
-use Rattle.std.proofs.Common.{[], None, List, inr, ℕ}
+use Rattle.std.proofs.Common.{[], None, List, inl, inr, ℕ}
 use Rattle.std.proofs.lemmas.Result.{err_from_is_err_and}
 use Rattle.cf_outside.specs.Files.{Content}
 use Rattle.cf_sift.specs.Names.{SiftNamesValue, sift_names_value}
@@ -25,6 +25,12 @@ module _ (g : Over) (c : In_ok-create_outputs g) where
       let n = c.in_ok-sifting.ensures in
       let o = c.in_ok-create_outputs.ensures in
       starts_sifting c.args.asset.now c.args.client names before mid o.done o.writes.others c.requires.apart c.in_ok-sifting.sifting n.follows n.client n.letters n.ready.controller.goes
+
+pub returns-in_err-create_outputs-clause-ends : goal.returns-in_err-create_outputs-clause-ends
+returns-in_err-create_outputs-clause-ends g c =
+    let o = c.in_err-create_outputs.ensures in
+    let is = err_from_is_err_and c.from_residual-in_err-create_outputs.result c.from_residual-in_err-create_outputs.ensures.1 in
+    rw (is.1, is.2) (inl (record { fails = o.fault; others = o.writes.others }))
 
 pub returns-in_err-cut-clause-ends : goal.returns-in_err-cut-clause-ends
 returns-in_err-cut-clause-ends g c =
