@@ -30,7 +30,13 @@ pub fn differences_text(
     for asset in ours.policy.assets.as_slice() {
         if let Some(partner) = partner_of(asset, other.policy) {
             let there = asset_named(other.policy, asset.name.as_str());
-            for shown in firsts_of_commands(alloc, asset, partner, MOST - count)?.iter() {
+            for shown in firsts_of_commands(
+                alloc,
+                asset,
+                partner,
+                MOST.saturating_sub(count),
+            )?.iter()
+            {
                 push_shown(&mut lines, ours, other, (place, asset), there, shown);
                 lines.push("\n");
                 count += 1;

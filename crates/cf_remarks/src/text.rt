@@ -273,7 +273,7 @@ fn put_dropped(lines: &mut Lines, dropped: &Dropped) {
 }
 
 /// How many sums are partial, with the words for one and for more, and what that means.
-fn put_partial(lines: &mut Lines, count: u64, words: [&str; 2], meaning: &str) {
+fn put_partial<'a>(lines: &mut Lines, count: u64, words: [&'a str; 2], meaning: &'a str) {
     let [one, more] = words;
     lines.put(&[
         Number(count),
