@@ -8,8 +8,11 @@ use std::alloc::{AllocError, Global};
 /// One more than the highest code.
 const CODES: u16 = 256;
 
-/// How many acts are looked at, at the most.
+/// How many acts are looked at for the first one, at the most.
 const MOST: u64 = 200_000;
+
+/// How many are looked at for the first ones of all codes of two policies, at the most.
+pub(crate) const MOST_OF_CODES: u64 = 20_000;
 
 /// The addresses of clients.
 const ADDRESSES: Span = Span {
@@ -85,17 +88,19 @@ pub(crate) fn first_of_commands(
     Ok(Found::Nothing)
 }
 
-/// The first such act of each code, of so many codes at most; where there are too many acts to look at, those that were found before.
+/// The first such act of each code, of so many codes at most. `left` is how many acts may still be looked at: 0 where they are more, and
+/// then only those are in the answer that were found before.
 pub(crate) fn firsts_of_commands(
     alloc: Global,
     ours: &Asset,
     other: &Asset,
     most: usize,
+    left: &mut u64,
 ) -> Result<Vec<Shown>, AllocError> {
     let mut search = Search {
         ours,
         other,
-        left: MOST,
+        left: *left,
     };
     let mut firsts = Vec::new(alloc);
     for code in 0..CODES {
@@ -105,9 +110,13 @@ pub(crate) fn firsts_of_commands(
         match search.of_code(alloc, code)? {
             Found::Beyond(shown) => firsts.push(shown)?,
             Found::Nothing => {}
-            Found::TooMany => break,
+            Found::TooMany => {
+                search.left = 0;
+                break;
+            }
         }
     }
+    *left = search.left;
     Ok(firsts)
 }
 
@@ -134,6 +143,8 @@ impl Search<'_> {
         for number in 0..count {
             if let Some(shown) = corners.at(code, number) {
                 if self.differs(&shown) {
+                    let ahead = count.saturating_sub(number).saturating_sub(1);
+                    self.left = self.left.saturating_add(ahead);
                     return Ok(Found::Beyond(shown));
                 }
             }

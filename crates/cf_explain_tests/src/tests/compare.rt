@@ -221,6 +221,15 @@ p:14:1: asset 1 "pump", rule 2 "set" allows code 6 (write single register), grou
   q: asset 1 "pump": no allow rule with its client, code, group and point has the value, so default refuses it
 p:26:1: asset 2 "b", rule 1 "poll" allows code 3 (read holding registers), group 0, point 0, without a value from 0.0.0.0
   q: asset 2 "b": no allow rule has its client, code and group, so default refuses it
+.
+
+set: [[asset.rule]] / name = "set" / action = "allow" / clients = [@addresses] / codes = [1, 2, 16] | points: points = [@numbers] | values: ; -
+p allows more that q refuses; of each code of an asset the first act that a command has, at most 20:
+p:14:1: asset 1 "pump", rule 2 "set" allows code 1 (read coils), group 0, point 1, without a value from 0.0.0.1
+  q: asset 1 "pump": no allow rule has its client, code and group, so default refuses it
+p:14:1: asset 1 "pump", rule 2 "set" allows code 2 (read discrete inputs), group 0, point 1, without a value from 0.0.0.1
+  q: asset 1 "pump": no allow rule has its client, code and group, so default refuses it
+there may be more: no more acts are looked at than 20000
 ."#;
 
 /// What is said of two policies.
