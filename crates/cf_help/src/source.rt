@@ -4,4 +4,4 @@
 pub(crate) const DATE: &str = "2026-11-30";
 
 /// The first twelve digits of the sum of the source.
-pub(crate) const SOURCE: &str = "8277c65d3a9d";
+pub(crate) const SOURCE: &str = "9e6264eaab7c";

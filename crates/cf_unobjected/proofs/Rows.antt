@@ -115,8 +115,8 @@ spells point h = record {
   spelled = refl;
 }
 
-abbrev request : (point : ℕ) → RequestValue
-request point = record { code = 3; start = point; quantity = 1; second = 0; second_quantity = 0; values = [] }
+abbrev asked : (point : ℕ) → RequestValue
+asked point = record { code = 3; start = point; quantity = 1; second = 0; second_quantity = 0; values = [] }
 
 begins : (point : ℕ) → point < 256 → Begins (SpellsUnit reads.protocol) (read_octets point) (Adu (read_of point)) 12
 begins point h = record { inside = omega arith; spells = spells point h }
@@ -131,13 +131,13 @@ allowed = fate.Admitted (record { used = replicate most_rated false; shown = Non
 abbrev denied : Fate
 denied = fate.Refused (record { decider = decider.Default; reason = reason.Point; act = record { code = 3; group = 0; point = 1; value = None } })
 
-read_0 : Reads (Ok (request 0)) (read_of 0).pdu
+read_0 : Reads (Ok (asked 0)) (read_of 0).pdu
 read_0 = (
   record { form = ((omega arith, omega arith), (refl, refl), refl); start = omega arith; second = omega arith; octets = no_octets; spelled = refl },
   (omega arith, omega arith),
 )
 
-read_1 : Reads (Ok (request 1)) (read_of 1).pdu
+read_1 : Reads (Ok (asked 1)) (read_of 1).pdu
 read_1 = (
   record { form = ((omega arith, omega arith), (refl, refl), refl); start = omega arith; second = omega arith; octets = no_octets; spelled = refl },
   (omega arith, omega arith),
@@ -145,11 +145,11 @@ read_1 = (
 
 is_allowed : (client : ℕ) → HasCommandFate reads (verdict_of reads client) (read_of 0) allowed
 unfolding acts
-is_allowed client = of_its_acts refl (request 0) read_0 refl
+is_allowed client = of_its_acts refl (asked 0) read_0 refl
 
 is_denied : (client : ℕ) → HasCommandFate reads (verdict_of reads client) (read_of 1) denied
 unfolding acts
-is_denied client = of_its_acts refl (request 1) read_1 refl
+is_denied client = of_its_acts refl (asked 1) read_1 refl
 
 abbrev is_dnp3 : Protocol → Bool
 is_dnp3 protocol.Dnp3 = true

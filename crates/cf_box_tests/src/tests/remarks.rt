@@ -465,10 +465,10 @@ fn plays(rt: &impl Abort, machine: &Machine<'_>, row: &str) -> Result<(), Fail> 
     Ok(())
 }
 
-/// A folder that was not there.
+/// A folder that was not there, below the one in which the test runs.
 fn new_folder(rt: &HostRuntime) -> Result<String, Fail> {
     for number in 0..1_000 {
-        let name = format!(in rt.alloc(); "/tmp/cmdwall-remarks-{number}")?;
+        let name = format!(in rt.alloc(); "cmdwall-remarks-{number}")?;
         if fs::create_dir(rt, name.as_str()).is_ok() {
             return Ok(name);
         }
