@@ -5,6 +5,7 @@ ghost use Rattle.cf_isolation.specs.Isolated.{CapturesAreIsolated, CapturesHoldS
 ghost use Rattle.cf_isolation.specs.Isolated.{SentIsIsolated, SentIsOfSessions, SentToTheNext};
 ghost use Rattle.cf_isolation.specs.Lives.{AlikeInLines, AlikeInRecords, EachHasALife, EachHasRecords, EachLogged, EachSent};
 ghost use Rattle.cf_isolation.specs.Logged.{LogsAreIsolated, LogsHoldSessions, LogsHoldToTheNext};
+ghost use Rattle.cf_isolation.specs.Rows.{RowsHold};
 
 use cf_readback::runs_are_read_back;
 use cf_records::octets_have_one_list_of_records;
@@ -88,3 +89,8 @@ pub fn alike_sessions_own_the_same()
     sessions_own_their_records();
     sessions_own_their_lines();
 }
+
+/// Of a run that was worked out by hand each session has its own packets and lines in the two files, and no other's.
+pub fn rows_hold()
+    ensures { RowsHold }
+{}

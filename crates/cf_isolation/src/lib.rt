@@ -2,10 +2,8 @@
 #![tactic(auto)]
 
 mod laws;
-mod rows;
 
 pub use laws::{
     alike_sessions_own_the_same, captures_are_isolated, captures_hold_sessions, logs_are_isolated,
-    logs_hold_sessions, sessions_own_their_lines, sessions_own_their_records,
+    logs_hold_sessions, rows_hold, sessions_own_their_lines, sessions_own_their_records,
 };
-pub use rows::rows_hold;

@@ -2,7 +2,5 @@
 #![tactic(auto)]
 
 mod laws;
-mod rows;
 
-pub use laws::{captures_are_read, runs_are_read_back, sent_may_be_written};
-pub use rows::rows_hold;
+pub use laws::{captures_are_read, rows_hold, runs_are_read_back, sent_may_be_written};

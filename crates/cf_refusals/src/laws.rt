@@ -1,4 +1,5 @@
 //! The laws of refused commands and of admitted ones: the contracts of functions that do nothing.
+ghost use Rattle.cf_refusals.specs.Rows.{RowsHold};
 ghost use Rattle.cf_refusals.specs.Told.{RefusedAreTold, ShownAreTold};
 
 /// Each refused command of a history is one of the client's. It has one line at its place in the log, which names the rule that
@@ -13,4 +14,9 @@ pub fn refused_commands_are_told()
 /// rule and shows the first such act; every other admitted command has none.
 pub fn shown_commands_are_told()
     ensures { ShownAreTold }
+{}
+
+/// What is told of the commands of two sessions is what was worked out by hand.
+pub fn rows_hold()
+    ensures { RowsHold }
 {}

@@ -2,7 +2,5 @@
 #![tactic(auto)]
 
 mod laws;
-mod rows;
 
-pub use laws::{refused_commands_are_told, shown_commands_are_told};
-pub use rows::rows_hold;
+pub use laws::{refused_commands_are_told, rows_hold, shown_commands_are_told};

@@ -1,6 +1,7 @@
 //! Laws of what a run sends, as a judge reads it: each is the contract of a function that does nothing.
 ghost use Rattle.cf_selfjudged.specs.Heard.{WatchedAreHeard};
 ghost use Rattle.cf_selfjudged.specs.OneFlow.{OneFlowIsUnobjected};
+ghost use Rattle.cf_selfjudged.specs.Rows.{RowsHold};
 ghost use Rattle.cf_selfjudged.specs.SelfJudged.{RunsAreUnobjected, WatchedRunsAreUnobjected};
 ghost use Rattle.cf_selfjudged.specs.Separate.{FlowsAreOfTheirPackets};
 ghost use Rattle.cf_selfjudged.specs.Speaks.{SessionsSpeak};
@@ -53,3 +54,8 @@ pub fn runs_are_unobjected()
     runs_are_read_back();
     octets_have_one_list_of_records();
 }
+
+/// Of a capture that was worked out by hand each session is watched as one flow, of its own packets alone.
+pub fn rows_hold()
+    ensures { RowsHold }
+{}

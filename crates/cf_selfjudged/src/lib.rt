@@ -2,7 +2,5 @@
 #![tactic(auto)]
 
 mod laws;
-mod rows;
 
-pub use laws::runs_are_unobjected;
-pub use rows::rows_hold;
+pub use laws::{rows_hold, runs_are_unobjected};

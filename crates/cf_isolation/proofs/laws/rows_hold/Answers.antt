@@ -1,5 +1,5 @@
 use Rattle.cf_isolation.proofs.Worked.{rows_hold}
-use Rattle.cf_isolation.proofs.rows.rows_hold.Goals as goal
+use Rattle.cf_isolation.proofs.laws.rows_hold.Goals as goal
 
 pub returns : goal.returns
 returns c = rows_hold
