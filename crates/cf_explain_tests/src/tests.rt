@@ -69,9 +69,9 @@ fn found(alloc: Global, subject: Subject, given: &str) -> Result<String, Fail> {
         Subject::Line => lines::line(alloc, given),
         Subject::Comparison => compare::compared(alloc, given),
         Subject::Cells => compare::counted(alloc, given),
-        Subject::Reason => compare::said(alloc, given, compare::Said::Reason),
-        Subject::Kept => compare::said(alloc, given, compare::Said::Kept),
-        Subject::Differences => compare::said(alloc, given, compare::Said::Differences),
+        Subject::Reason => compare::said(alloc, given, compare::Telling::Reason),
+        Subject::Kept => compare::said(alloc, given, compare::Telling::Kept),
+        Subject::Differences => compare::said(alloc, given, compare::Telling::Differences),
         Subject::Rewritten => rewritten::rewritten(alloc, given),
         Subject::Learned => learned::learned(alloc, given),
     }

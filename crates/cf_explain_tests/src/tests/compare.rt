@@ -234,7 +234,7 @@ there may be more: no more acts are looked at than 20000
 
 /// What is said of two policies.
 #[derive(Clone, Copy)]
-pub(super) enum Said {
+pub(super) enum Telling {
     /// Why the first is not included in the second.
     Reason,
     /// The rules whose rates or logs differ, and a point after the last line.
@@ -244,7 +244,7 @@ pub(super) enum Said {
 }
 
 /// What is said of two policies, in the files p and q.
-pub(super) fn said(alloc: Global, given: &str, what: Said) -> Result<String, Fail> {
+pub(super) fn said(alloc: Global, given: &str, what: Telling) -> Result<String, Fail> {
     let (ours, other) = given.split_once(" ; ").unwrap_or((given, given));
     let (text, other_text) = (octets(alloc, ours)?, octets(alloc, other)?);
     let (ours, other) = (policy(alloc, ours)?, policy(alloc, other)?);
@@ -259,9 +259,9 @@ pub(super) fn said(alloc: Global, given: &str, what: Said) -> Result<String, Fai
         policy: &other,
     };
     let mut text = match what {
-        Said::Reason => return Ok(inclusion_message(alloc, &ours, &other)?),
-        Said::Kept => kept_text(alloc, &ours, &other)?,
-        Said::Differences => differences_text(alloc, &ours, &other)?,
+        Telling::Reason => return Ok(inclusion_message(alloc, &ours, &other)?),
+        Telling::Kept => kept_text(alloc, &ours, &other)?,
+        Telling::Differences => differences_text(alloc, &ours, &other)?,
     };
     text.push_str(".")?;
     Ok(text)
