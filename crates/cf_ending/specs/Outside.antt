@@ -1,7 +1,7 @@
 -- What the objects outside tell at a moment, and their counts of faults: the main definition is `Outside`.
 use Rattle.std.specs.Prelude.{◌≡◌, ◌⊎◌, ◌≤◌, ℕ, List, [], ◌∷◌, Option}
 use Rattle.cf_outside.specs.Desk.{IsNoneOf}
-use Rattle.cf_outside.specs.Faults.{HasCauseIn, Rose}
+use Rattle.cf_outside.specs.Faults.{Rose}
 use Rattle.cf_outside.specs.Files.{Content}
 use Rattle.cf_outside.specs.PairValue.{PairValue, pair_value}
 use Rattle.cf_outside.specs.declared.Files.{Ghosts as FilesOf}
@@ -60,10 +60,10 @@ ReadFailed c before after = RoseIn (input_files c) before.files.read_faults afte
 abbrev pub WriteFailed : Outside → Outside → Type 0
 WriteFailed before after = Rose before.files.write_faults after.files.write_faults ⊎ Rose before.sink.faults after.sink.faults
 
--- the file of this name was read, and no other, and no file changed
-pub record ReadsOnly (name : List ℕ) (before after : FilesValue) : Type 0 where
+-- files of these names were read, and no others, and no file changed
+pub record ReadsOnly (names : List (List ℕ)) (before after : FilesValue) : Type 0 where
   pub content : after.content ≡ before.content
-  pub reads : HasCauseIn name before.read_faults after.read_faults ⊥
+  pub reads : RisesIn names before.read_faults after.read_faults
   pub writes : after.write_faults ≡ before.write_faults
 
 -- no count of the files falls, and no read of other files than these failed
