@@ -10,6 +10,7 @@ pub mod Listing
 pub mod Migrating
 mod OneJudgement
 mod Passing
+mod Reading
 pub mod Recorded
 pub mod Relaying
 pub mod RunHolds

@@ -1,5 +1,5 @@
 //! `learn POLICY CAPTURE OUT`: a policy is written that allows exactly what a capture shows.
-ghost use Rattle.std.specs.Prelude.{map};
+ghost use Rattle.std.specs.Prelude.{map, ◌∷◌, []};
 ghost use Rattle.cf_words.specs.Command.{Learn};
 ghost use Rattle.cf_box.specs.Ends.{Meets};
 ghost use Rattle.cf_box.specs.Learn.{LearnsAs};
@@ -28,7 +28,8 @@ pub(crate) fn learn_capture<F: Files>(
 ) -> Result<Done, Stop>
     ensures meets { (sink : SinkValue) (pair : PairValue) → Meets (Learn policy_file.now capture.now out.now)
         (outside (files_value F.Files files.old) sink pair) (outside (files_value F.Files files.new) sink pair) result }
-    ensures later { FilesNeverFall (files_value F.Files files.old) (files_value F.Files files.new) }
+    ensures later { FilesNeverFall (policy_file.now ∷ capture.now ∷ []) (files_value F.Files files.old)
+        (files_value F.Files files.new) }
 {
     let policy = match load_policy(alloc, policy_file, files) {
         Ok(policy) => policy,

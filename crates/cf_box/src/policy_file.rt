@@ -39,7 +39,7 @@ pub(crate) fn load_policy<F: Files>(
         → StopsFor c (outside (files_value F.Files files.old) sink pair) (outside (files_value F.Files files.new) sink pair) s) }
     ensures unwritten { IfErr result (λ s. s ≢ Stop.WriteFault) }
     ensures early { IfErr result StopsPolicy }
-    ensures only { ReadsOnly (files_value F.Files files.old) (files_value F.Files files.new) }
+    ensures only { ReadsOnly (name.now ∷ []) (files_value F.Files files.old) (files_value F.Files files.new) }
 {
     let bytes = match read_whole(alloc, name, POLICY_LIMIT, files) {
         Ok(bytes) => bytes,
