@@ -50,3 +50,5 @@ reads_policy (Run policy names) name old new is rose = let same : name ≡ polic
 reads_policy (Relay policy asset port idles log) name old new is rose = let same : name ≡ policy = cc in inl (subst (λ n. Rose (old n) (new n)) same rose)
 reads_policy (World seed sessions policy names) name old new is rose = cc is
 reads_policy (Sift policy asset client names) name old new is rose = let same : name ≡ policy = cc in inl (subst (λ n. Rose (old n) (new n)) same rose)
+
+pub ruleset policy_laws = (rises_one, reads_policy)

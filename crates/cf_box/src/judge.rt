@@ -22,6 +22,7 @@ use cf_watch::{Flow, watch};
 use std::alloc::Global;
 
 /// Reads the policy and the capture, and judges its flows. Changes no file.
+#[tactic(auto, using(crate::proofs::Reading::rises_one))]
 pub(crate) fn judge_capture<F: Files>(
     alloc: Global,
     policy: &str,

@@ -19,6 +19,7 @@ use std::alloc::Global;
 
 /// Reads a policy and a capture, learns the policy that allows exactly what the capture shows, and writes it to a file that is created
 /// last.
+#[tactic(auto, using(crate::proofs::Reading::rises_one))]
 pub(crate) fn learn_capture<F: Files>(
     alloc: Global,
     policy_file: &str,

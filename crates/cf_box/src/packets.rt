@@ -41,6 +41,7 @@ fn open_stop(fault: OpenFault) -> Stop
 ///
 /// The lines are gathered, and put before the buffer is full and at the end, so that what was put before a stop is the lines
 /// of the records before it.
+#[tactic(auto, using(crate::proofs::Reading::rises_one))]
 pub(crate) fn packets<F: Files, O: Sink>(
     alloc: Global,
     name: &str,

@@ -28,6 +28,7 @@ const TOO_LONG: PolicyRefusal = PolicyRefusal {
 };
 
 /// Reads the policy of a file, or says why each command that reads it stops. Changes no file.
+#[tactic(auto, using(crate::proofs::Reading::policy_laws))]
 pub(crate) fn load_policy<F: Files>(
     alloc: Global,
     name: &str,

@@ -15,6 +15,7 @@ use cf_watch::watch_recording;
 use std::alloc::Global;
 
 /// Reads the policy and the capture, reviews its flows, and writes the lines of all remarks into the log, which is created last.
+#[tactic(auto, using(crate::proofs::Reading::rises_one))]
 pub(crate) fn review_capture<F: Files>(
     alloc: Global,
     policy_file: &str,

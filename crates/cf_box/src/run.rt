@@ -31,6 +31,7 @@ fn run_stop(fault: RunFault) -> Stop
 }
 
 /// Reads the policy, and runs it over the capture.
+#[tactic(auto, using(crate::proofs::Reading::rises_one))]
 pub(crate) fn run<F: Files>(
     alloc: Global,
     policy_file: &str,

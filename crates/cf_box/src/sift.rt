@@ -26,6 +26,7 @@ fn sift_stop(fault: SiftFault) -> Stop
 }
 
 /// Reads the policy, and filters the stream for its asset of a name.
+#[tactic(auto, using(crate::proofs::Reading::rises_one))]
 pub(crate) fn sift<F: Files>(
     alloc: Global,
     policy_file: &str,
