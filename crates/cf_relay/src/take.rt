@@ -51,12 +51,7 @@ fn most_back(directions: Directions) -> u32
 }
 
 /// Whether a side has not ended, and neither queue has more letters than it may have as the side is read.
-fn may_take(
-    directions: Directions,
-    side: Side,
-    to_client: &Outq,
-    to_controller: &Outq,
-) -> bool
+fn may_take(directions: Directions, side: Side, to_client: &Outq, to_controller: &Outq) -> bool
     ensures { IsTrue result ↔ MayTakeNow directions side to_client.now to_controller.now }
 {
     let most = most_back(directions);

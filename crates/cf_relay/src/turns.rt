@@ -47,15 +47,7 @@ impl Relaying {
         ensures whole { StaysWhole result (D.value desk.new) }
     {
         'turns: loop {
-            self.turn(
-                asset,
-                Directions::Together,
-                most,
-                buf,
-                session,
-                links,
-                desk,
-            )?;
+            self.turn(asset, Directions::Together, most, buf, session, links, desk)?;
             if self.is_closed() {
                 return Ok(());
             }

@@ -265,17 +265,15 @@ impl Linked {
         ensures buffer { length buf.new ≡ MOST_BYTES }
     {
         let earlier = self.relaying.refused();
-        let answer = self
-            .relaying
-            .turn(
-                terms.asset,
-                Directions::Apart,
-                terms.most,
-                buf,
-                session,
-                links,
-                desk,
-            );
+        let answer = self.relaying.turn(
+            terms.asset,
+            Directions::Apart,
+            terms.most,
+            buf,
+            session,
+            links,
+            desk,
+        );
         let end = match end_by(answer, self.relaying.is_closed())? {
             Some(end) => end,
             None => {
