@@ -1,5 +1,5 @@
 //! What comes from a side of a session, handed to the lane.
-ghost use Rattle.std.specs.Prelude.{◌≡◌, ◌+◌, ◌-◌, ◌^◌, ◌<◌, ◌≤◌, Err, IsTrue, ◌↔◌, ℕ, length, true};
+ghost use Rattle.std.specs.Prelude.{◌≡◌, ◌+◌, ◌^◌, ◌<◌, ◌≤◌, Err, IsTrue, ◌↔◌, ℕ, length, true};
 ghost use Rattle.cf_links.specs.LinkValue.{told_of};
 ghost use Rattle.cf_links.specs.Links.{LinksPlace};
 ghost use Rattle.cf_outq.specs.SendQueue.{queue_length};
@@ -12,7 +12,6 @@ ghost use Rattle.cf_relay.specs.declared.limit.TheConstants.{MOST_BYTES};
 ghost use Rattle.cf_relay.specs.Reading.{most_back};
 ghost use Rattle.cf_relay.specs.Scene.{RoseBy};
 ghost use Rattle.cf_relay.specs.Taken.{MayTakeNow, StaysWhole, TakesBy, WaitAtMost, take_state};
-ghost use Rattle.cf_stream.specs.Sizes.{window_size};
 
 use crate::directions::Directions;
 use crate::stop::{Stop, count_idle};
