@@ -5,6 +5,7 @@ use Rattle.std.proofs.lemmas.List.{append_assoc}
 use Rattle.cf_links.specs.Links.{LinksEntry, Of, SessionTold, with_answers, with_entry}
 use Rattle.cf_outside.specs.Pair.{Entry, met_at}
 use Rattle.cf_relay.proofs.Starting.{empty_judged, relayed_met}
+use Rattle.cf_relay.specs.declared.directions.Directions.TheVariants as both
 use Rattle.cf_serve.proofs.Rounding.{more_none}
 use Rattle.cf_view.specs.declared.Endpoint.{Endpoint}
 use Rattle.cf_view.specs.declared.WriteFault.{WriteFault}
@@ -36,7 +37,7 @@ module _ (at : Listening) (most : ℕ) (client : Endpoint) where
     admitted = 0;
     refused = 0;
     ended = record {
-      relayed = relayed_met at.asset at.port most few met;
+      relayed = relayed_met at.asset at.port most few both.Apart met;
       goes = record { judged = []; are_items = empty_judged at.asset met.address; uncut = refl; idle = few };
       prefixes = λ s. ([], refl);
       holds_log = refl;

@@ -10,6 +10,7 @@ use Rattle.cf_outside.specs.Lines.{file_lines, file_part}
 use Rattle.cf_outside.specs.Pair.{Entry}
 use Rattle.cf_outside.specs.declared.files.WriteAnswer.TheVariants as write
 use Rattle.cf_relay.specs.Ends.{IsWriteEnd, LogContents}
+use Rattle.cf_relay.specs.declared.directions.Directions.TheVariants as both
 use Rattle.cf_view.specs.declared.Endpoint.{Endpoint}
 use Rattle.std.specs.List.{AllByRecursion, concat, flat_map}
 use Rattle.std.specs.Prelude.{List, None, Option, Some, [], drop, false, length, map, option_map, slice_get, take, true, ℕ, ◌++◌}
@@ -53,7 +54,7 @@ pub record LastLineFails (at : Listening) (most : ℕ) (client : Endpoint) (es :
 -- or it was the open line, or one amid a turn: the session is a relay whose write failed
 abbrev pub FailsSo : Listening → (most : ℕ) → (client : Endpoint) → List Entry → (own : List (List ℕ)) → (part : List ℕ) → Type 0
 FailsSo at most client es own part =
-    LastLineFails at most client es own part ⊎ IsWriteEnd at.asset at.port most (own_begun own part) es
+    LastLineFails at most client es own part ⊎ IsWriteEnd both.Apart at.asset at.port most (own_begun own part) es
 
 -- a client that failed by its own answers and its own lines alone
 abbrev pub IsFailedClient : List Listening → (most : ℕ) → List TurnOf → Seat → (part : List ℕ) → Type 0

@@ -9,6 +9,7 @@ use Rattle.cf_relay.specs.Relaying.{AreClosed, IsSound, RelayingValue, relaying_
 use Rattle.cf_relay.specs.Stands.{StandsFor}
 use Rattle.cf_relay.specs.Turn.{DoesStages, turns}
 use Rattle.cf_view.specs.declared.Endpoint.{Endpoint}
+use Rattle.cf_relay.specs.declared.directions.Directions.TheVariants as both
 use Rattle.cf_relay.specs.declared.stop.Stop.{Stop}
 use Rattle.cf_relay.specs.declared.stop.Stop.TheVariants as stop
 use Rattle.std.specs.Prelude.{Bool, Err, List, None, Ok, Result, false, true, Option, Some, [], is_some, map, not, option_map, ℕ}
@@ -69,7 +70,7 @@ pub record StandsLinked (at : Listening) (most : ℕ) (es : List Entry) (own : L
   pub count : ℕ
   pub answers : List Entry
   pub split : es ≡ met_at at.port at.asset.endpoint v.met ∷ Moment moment ∷ answers
-  pub does : DoesStages at.asset most (turns count) (met_at at.port at.asset.endpoint v.met ∷ Moment moment ∷ []) answers
+  pub does : DoesStages at.asset most (turns both.Apart count) (met_at at.port at.asset.endpoint v.met ∷ Moment moment ∷ []) answers
   pub stands : StandsFor at.asset (Some (line_about at.asset v.met moment Begun ∷ []))
       (met_at at.port at.asset.endpoint v.met ∷ Moment moment ∷ answers) v.now (Some own)
 

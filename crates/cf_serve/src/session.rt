@@ -28,7 +28,7 @@ use cf_links::{Links, ReachAnswer};
 use cf_outq::Outq;
 use cf_outside::{Desk, MomentAnswer};
 use cf_policy::Asset;
-use cf_relay::{Relaying, Stop};
+use cf_relay::{Directions, Relaying, Stop};
 use cf_view::{Endpoint, NoMemory, WriteFault};
 use std::alloc::Global;
 
@@ -265,9 +265,15 @@ impl Linked {
         ensures buffer { length buf.new ≡ MOST_BYTES }
     {
         let earlier = self.relaying.refused();
-        let answer = self
-            .relaying
-            .turn(terms.asset, terms.most, buf, session, links, desk);
+        let answer = self.relaying.turn(
+            terms.asset,
+            Directions::Apart,
+            terms.most,
+            buf,
+            session,
+            links,
+            desk,
+        );
         let end = match end_by(answer, self.relaying.is_closed())? {
             Some(end) => end,
             None => {
