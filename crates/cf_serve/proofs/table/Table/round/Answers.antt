@@ -1,7 +1,6 @@
-use Rattle.std.proofs.Common.{Bool, length, map, subst, sym, ℕ}
+use Rattle.std.proofs.Common.{Bool, Option, length, map, subst, sym, ℕ}
 use Rattle.cf_links.specs.Links.{LinksPlace}
-use Rattle.cf_serve.proofs.Arriving.{round_is}
-use Rattle.cf_serve.proofs.Breaking.{round_missed, round_missed_early}
+use Rattle.cf_serve.proofs.Minuting.{round_is, round_missed, round_missed_early, round_missed_late}
 use Rattle.cf_serve.proofs.Rounding.{may_leave}
 use Rattle.cf_serve.specs.Phase.{listenings, phase_of}
 use Rattle.cf_serve.specs.Table.{IsTable, RoundDoes}
@@ -23,39 +22,36 @@ turns-requires-clause-table g c =
     let woken = subst (λ (s : ℕ → Bool). IsTable places c.args.most s c.args.self.now.lobby.next ps) (sym c.in-Told.ensures.place.serves) c.requires.table in
     c.arrivals.ensures.table c.args.most woken
 
-pub returns-in-Ok-turns-clause-does : goal.returns-in-Ok-turns-clause-does
-returns-in-Ok-turns-clause-does g c = λ past keeps.
-    let ps = map phase_of c.args.self.now.sessions.items in
-    let mid = map phase_of c.arrivals.new.self.sessions.items in
-    let new = map phase_of c.turns.new.self.sessions.items in
-    let places = listenings c.args.places.now in
-    let a = c.in-Ok.ensures.does c.args.most in
-    let b = c.in-Ok-turns.ensures.does past (a.keeps past keeps) in
-    subst (λ (n : Lobby). RoundDoes places c.args.most c.args.self.now.lobby n past (g.L.Links.told c.args.links.now) (g.L.Links.told c.turns.new.links)
-    (g.D.Desk.value c.args.desk.now).lines (g.D.Desk.value c.turns.new.desk).lines ps new) (sym c.turns.ensures.lobby)
-    (round_is places c.args.most c.in-Told.moment c.args.self.now.lobby (g.L.Links.told c.wait.new.self) (g.D.Desk.value c.args.desk.now).lines ps
-    (length c.args.places.now) c.arrivals.new.self.lobby (g.L.Links.told c.args.links.now) (g.L.Links.told c.arrivals.new.links) (g.L.Links.told c.turns.new.links)
-    (g.D.Desk.value c.arrivals.new.desk).lines (g.D.Desk.value c.turns.new.desk).lines mid new past c.in-Told.ensures.entry a b)
+pub returns-in-Err-end_round-clause-leave : goal.returns-in-Err-end_round-clause-leave
+returns-in-Err-end_round-clause-leave g c = ?
+
+pub returns-in-Ok-end_round-clause-table : goal.returns-in-Ok-end_round-clause-table
+returns-in-Ok-end_round-clause-table g c = ?
+
+pub returns-in-Ok-end_round-clause-does : goal.returns-in-Ok-end_round-clause-does
+returns-in-Ok-end_round-clause-does g c = ?
 
 pub returns-in-Err-clause-breaks : goal.returns-in-Err-clause-breaks
-returns-in-Err-clause-breaks g c = λ is past keeps.
+returns-in-Err-clause-breaks g c = λ is past keeps last its.
     let ps = map phase_of c.args.self.now.sessions.items in
     let mid = map phase_of c.arrivals.new.self.sessions.items in
     let places = listenings c.args.places.now in
     let woken = subst (λ (s : ℕ → Bool). IsTable places c.args.most s c.args.self.now.lobby.next ps) (sym c.in-Told.ensures.place.serves) c.requires.table in
-    round_missed_early places c.args.most c.in-Told.moment c.args.self.now.lobby c.arrivals.new.self.lobby past (g.L.Links.told c.args.links.now)
+    round_missed_early c.args.places.now c.args.most c.in-Told.moment c.args.self.now.lobby c.arrivals.new.self.lobby last past (g.L.Links.told c.args.links.now)
     (g.L.Links.told c.wait.new.self) (g.L.Links.told c.arrivals.new.links) (g.D.Desk.value c.args.desk.now).lines (g.D.Desk.value c.arrivals.new.desk).lines
     (g.D.Desk.value c.arrivals.new.desk).line_part ps mid c.in-Told.ensures.entry (LinksPlace.serves (g.L.Links.place c.arrivals.new.links))
     (c.in-Err.ensures.breaks c.args.most) (c.arrivals.ensures.table c.args.most woken) keeps
 
 pub returns-in-Err-turns-clause-breaks : goal.returns-in-Err-turns-clause-breaks
-returns-in-Err-turns-clause-breaks g c = λ is past keeps.
+returns-in-Err-turns-clause-breaks g c = λ is past keeps last its.
     let ps = map phase_of c.args.self.now.sessions.items in
     let mid = map phase_of c.arrivals.new.self.sessions.items in
     let new = map phase_of c.turns.new.self.sessions.items in
-    let places = listenings c.args.places.now in
     let a = c.in-Ok.ensures.does c.args.most in
-    round_missed places c.args.most c.in-Told.moment c.args.self.now.lobby c.arrivals.new.self.lobby past (g.L.Links.told c.args.links.now)
+    round_missed c.args.places.now c.args.most c.in-Told.moment c.args.self.now.lobby c.arrivals.new.self.lobby last past (g.L.Links.told c.args.links.now)
     (g.L.Links.told c.wait.new.self) (g.L.Links.told c.arrivals.new.links) (g.D.Desk.value c.args.desk.now).lines (g.D.Desk.value c.arrivals.new.desk).lines
     (g.D.Desk.value c.turns.new.desk).line_part ps mid c.in-Told.ensures.entry (length c.args.places.now) (g.L.Links.told c.turns.new.links)
     (g.D.Desk.value c.turns.new.desk).lines new a (c.in-Err-turns.ensures.breaks past (a.keeps past keeps))
+
+pub returns-in-Err-end_round-clause-breaks : goal.returns-in-Err-end_round-clause-breaks
+returns-in-Err-end_round-clause-breaks g c = ?
