@@ -3,8 +3,9 @@ use Rattle.std.proofs.Common.{List, Option, Some, ap, arith, length, refl, sym, 
 use Rattle.std.specs.Prelude.{slice_get}
 use Rattle.std.proofs.lemmas.List.{append-nil, append_assoc, length-append}
 use Rattle.std.proofs.lemmas.Option.{same_Some}
+use Rattle.cf_audit.specs.Line.{Stands}
 use Rattle.cf_lane.specs.Handled.{MayHaveMore}
-use Rattle.cf_lane.specs.Log.{with_lines}
+use Rattle.cf_lane.specs.Log.{line_about, with_lines}
 use Rattle.cf_relay.proofs.Lined.{lines_both, lines_none}
 use Rattle.cf_serve.proofs.Missing.{begins_line}
 use Rattle.cf_serve.specs.Failing.{MissesLine}
@@ -12,6 +13,11 @@ use Rattle.cf_serve.specs.Minute.{stands_line, stands_lines}
 use Rattle.cf_serve.specs.Rounds.{Seat, count_of}
 use Rattle.cf_serve.specs.declared.minute.Tally.{Tally}
 use Rattle.cf_serve.specs.declared.table.Place.{Place}
+
+-- a line by numbers that are those of the place
+pub said_as : (p : Place) (n n' : ℕ) (t t' : Tally) (moment : ℕ) → n ≡ n' → t ≡ t' → line_about p.asset.now p.at moment (Stands n t.admitted t.refused) ≡ stands_line p n' t' moment
+said_as p n n' t t' moment e f =
+    ap (λ k. line_about p.asset.now p.at moment (Stands k t.admitted t.refused)) e ∙ ap (λ (x : Tally). line_about p.asset.now p.at moment (Stands n' x.admitted x.refused)) f
 
 -- a place by its number, and the places behind it
 rest_at : (done rest : List Place) (p : Place) → slice_get (done ++ rest) (length done) ≡ Some p → (more : List Place) × (rest ≡ p ∷ more)
