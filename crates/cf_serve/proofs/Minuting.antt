@@ -47,13 +47,16 @@ module _ (places : List Place) (most moment : ℕ) (lobby lobby1 : Lobby) (last 
         minute = [];
         added = simp (a.added, append-nil);
         ended = subst (λ (p : List TurnOf). AllByRecursion (λ (t : TurnOf). IfEnded (listenings places) most p t t.end) p) (sym (append-nil past)) (all_ended (listenings places) most past mid k.over);
-        breaks = inl (refl, record {
-          fails = a.fails;
-          no_turns = refl;
-          measured = k.measured;
-          all = a.seats;
-          stand = all_seats (λ (s : Seat). IsClient (listenings places) most past s []) mid (all_stand (listenings places) most past serves mid k.held table.each);
-        });
+        breaks = inl (
+          refl,
+          record {
+            fails = a.fails;
+            no_turns = refl;
+            measured = k.measured;
+            all = a.seats;
+            stand = all_seats (λ (s : Seat). IsClient (listenings places) most past s []) mid (all_stand (listenings places) most past serves mid k.held table.each);
+          },
+        );
       }
 
   module _ (upto : ℕ) (told2 : Option (List LinksEntry)) (log2 : Option (List (List ℕ))) (new : List Phase)
@@ -72,7 +75,7 @@ module _ (places : List Place) (most moment : ℕ) (lobby lobby1 : Lobby) (last 
     -- all had their turns
     module _ (minutes minutes1 minutes2 : Minutes) (b : TurnsDo (listenings places) most lobby1.next moment past told1 told2 log1 log2 minutes1.tallies minutes2.tallies mid new)
         (few : length places ≤ 256) (is : IsMinuteOf minutes last past) (came : minutes1 ≡ minutes) (kept : minutes2.last ≡ minutes1.last) where
-      round : Round
+      abbrev round : Round
       round = record { moment = moment; arrivals = a.arrivals; turns = b.turns }
 
       its_last : minutes2.last ≡ last
@@ -92,15 +95,15 @@ module _ (places : List Place) (most moment : ℕ) (lobby lobby1 : Lobby) (last 
 
       pub round_is : (minutes3 : Minutes) (log3 : Option (List (List ℕ))) → minutes3 ≡ record minutes2 { last = last_behind minutes2.last moment } → log3 ≡ with_lines log2 Lines →
           RoundDoes places most lobby lobby1 minutes3 last past told0 told2 log log3 old new
-      round_is minutes3 log3 then put = record {
+      round_is minutes3 log3 noted put = record {
         round = round;
         tells = simp (b.tells, a.tells, woke, more_twice);
         added = simp (put, same_lines, b.added, a.added, more_twice);
         is_round = is_round;
         keeps = b.keeps;
         minutes = record {
-          last_is = ap (λ (m : Minutes). m.last) then ∙ ap (λ (l : Option ℕ). last_behind l moment) its_last;
-          tallied = subst (λ (m : Minutes). IsTallied m.tallies (past ++ b.turns)) (sym then) tallied;
+          last_is = ap (λ (m : Minutes). m.last) noted ∙ ap (λ (l : Option ℕ). last_behind l moment) its_last;
+          tallied = subst (λ (m : Minutes). IsTallied m.tallies (past ++ b.turns)) (sym noted) tallied;
         };
       }
 

@@ -22,7 +22,7 @@ loop-number-preserved g c =
     }
 
 pub returns-clause-lines : goal.returns-clause-lines
-returns-clause-lines g c = says_all _ _ _ _ c.loop-number.number _ _ c.loop-number.invariant.does ?
+returns-clause-lines g c = says_all _ _ _ _ c.loop-number.number _ _ c.loop-number.invariant.does (omega (arith, c.loop-number-test.false, c.loop-number.auto.number-end))
 
 pub returns-in_err-log_line-clause-breaks : goal.returns-in_err-log_line-clause-breaks
 returns-in_err-log_line-clause-breaks g c =
