@@ -63,7 +63,7 @@ pub record HasNumbers : Type 0 where
   -- octets that one call of a relay gives or takes at most
   pub bytes : MOST_BYTES ≡ 4096
   -- letters that may wait for a side of a service as it is read, of the 131,072 bytes for which a queue has room
-  pub back : most_back both.Apart ≡ 98304
+  pub back : most_back both.Separate ≡ 98304
   -- octets of a refused command that its line of a review shows at most, and those of a name in a line of the log
   pub shown : SHOWN ≡ 16
   pub name : NAME_LIMIT ≡ 32

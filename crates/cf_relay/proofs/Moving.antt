@@ -210,7 +210,7 @@ waits_empty most q some none = omega (arith, some, ap length none, one_at_most q
 
 some_back : (dirs : Directions) → 1 ≤ most_back dirs
 some_back both.Together = omega arith
-some_back both.Apart = omega arith
+some_back both.Separate = omega arith
 
 not_open : (b : Bool) → (b ≡ false → ⊥) → b ≡ true
 not_open true passed = refl

@@ -11,7 +11,7 @@ use Rattle.cf_relay.specs.declared.limit.TheConstants.{MOST_BYTES}
 abbrev pub most_put : ℕ → ℕ
 most_put octets = 2 * octets + 8192
 
--- together, as many as of the other queue; apart, so many that there is room for what both sides put there in a turn
+-- together, as many as of the other queue; separate, so many that there is room for what both sides put there in a turn
 abbrev pub most_back : Directions → ℕ
 most_back both.Together = window_size
-most_back both.Apart = queue_size - 2 * most_put MOST_BYTES
+most_back both.Separate = queue_size - 2 * most_put MOST_BYTES

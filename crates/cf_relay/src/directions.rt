@@ -7,5 +7,5 @@ pub enum Directions {
     Together,
     /// Where the queue that its bytes go to is small, and the other one has room for what may come of them, as `serve` has it: a
     /// side that takes nothing is read all the same.
-    Apart,
+    Separate,
 }

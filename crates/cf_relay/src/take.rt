@@ -27,7 +27,7 @@ use cf_view::Side;
 /// one back to it.
 const SMALL: u32 = 16_384;
 
-/// How many may wait in the one back to it where they are apart: so many of its 131,072 that what both sides of a turn put there
+/// How many may wait in the one back to it where they are separate: so many of its 131,072 that what both sides of a turn put there
 /// finds room. Each puts there at most twice the 4,096 octets that are taken of it, and 8,192 more.
 const ROOMY: u32 = 131_072 - 2 * (2 * 4_096 + 8_192);
 
@@ -45,7 +45,7 @@ fn most_back(directions: Directions) -> u32
 {
     match directions {
         Directions::Together => SMALL,
-        Directions::Apart => ROOMY,
+        Directions::Separate => ROOMY,
     }
 }
 

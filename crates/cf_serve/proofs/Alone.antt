@@ -17,7 +17,7 @@ use Rattle.cf_serve.specs.declared.end.SessionEnd.{SessionEnd}
 use Rattle.cf_serve.specs.declared.end.SessionEnd.TheVariants as end
 
 -- a relay that has made its turns has met a client
-not_unmet : (at : Listening) (most turns : ℕ) (es : List Entry) → es ≡ [] → DoesStages at.asset most (stages both.Apart at.port turns) [] es → ⊥
+not_unmet : (at : Listening) (most turns : ℕ) (es : List Entry) → es ≡ [] → DoesStages at.asset most (stages both.Separate at.port turns) [] es → ⊥
 not_unmet at most turns es none (now, next, split, (goes, (client, is)), later) = cc
 
 -- numbers of the same items are the same, and so is a line that has them

@@ -37,7 +37,7 @@ module _ (at : Listening) (most : ℕ) (client : Endpoint) where
     admitted = 0;
     refused = 0;
     ended = record {
-      relayed = relayed_met at.asset at.port most few both.Apart met;
+      relayed = relayed_met at.asset at.port most few both.Separate met;
       goes = record { judged = []; are_items = empty_judged at.asset met.address; uncut = refl; idle = few };
       prefixes = λ s. ([], refl);
       holds_log = refl;

@@ -123,7 +123,7 @@ module _ (k : ℕ) where
 stands_session : (at : Listening) (most : ℕ) (es : List Entry) (own : List (List ℕ)) (o : Option LinkedValue) → StandsAs at most es own o → MayTurn at most o → StandsSo at most es own
 stands_session at most es own None h may = inl h
 stands_session at most es own (Some v) h may =
-    let t = turned_stands both.Apart at.asset at.port most v.met h.moment (Some []) h.answers v.now (Some own) (record { count = h.count; does = h.does; stands = h.stands; few = may.0.few }) in
+    let t = turned_stands both.Separate at.asset at.port most v.met h.moment (Some []) h.answers v.now (Some own) (record { count = h.count; does = h.does; stands = h.stands; few = may.0.few }) in
     subst (λ (xs : List Entry). StandsSo at most xs own) (sym h.split) (inr (h.count, (t.0, (t.1.0, same_Some _ _ t.1.1))))
 
 pub all_seats : (P : Seat → Type 0) (ps : List Phase) → AllByRecursion (λ (p : Phase). P p.seat) ps → AllByRecursion P (seats_of ps)

@@ -55,7 +55,7 @@ pub record LastLineFails (at : Listening) (most : ℕ) (client : Endpoint) (es :
 -- or it was the open line, or one amid a turn: the session is a relay whose write failed
 abbrev pub FailsSo : Listening → (most : ℕ) → (client : Endpoint) → List Entry → (own : List (List ℕ)) → (part : List ℕ) → Type 0
 FailsSo at most client es own part =
-    LastLineFails at most client es own part ⊎ IsWriteEnd both.Apart at.asset at.port most (own_begun own part) es
+    LastLineFails at most client es own part ⊎ IsWriteEnd both.Separate at.asset at.port most (own_begun own part) es
 
 -- a client that failed by its own answers and its own lines alone
 abbrev pub IsFailedClient : List Listening → (most : ℕ) → List TurnOf → Seat → (part : List ℕ) → Type 0

@@ -83,7 +83,7 @@ pub record StandsLinked (at : Listening) (most : ℕ) (es : List Entry) (own : L
   pub count : ℕ
   pub answers : List Entry
   pub split : es ≡ met_at at.port at.asset.endpoint v.met ∷ Moment moment ∷ answers
-  pub does : DoesStages at.asset most (turns both.Apart count) (met_at at.port at.asset.endpoint v.met ∷ Moment moment ∷ []) answers
+  pub does : DoesStages at.asset most (turns both.Separate count) (met_at at.port at.asset.endpoint v.met ∷ Moment moment ∷ []) answers
   pub stands : StandsFor at.asset (Some (line_about at.asset v.met moment Begun ∷ []))
       (met_at at.port at.asset.endpoint v.met ∷ Moment moment ∷ answers) v.now (Some own)
 

@@ -268,7 +268,7 @@ impl Linked {
         let earlier = self.relaying.refused();
         let answer = self.relaying.turn(
             terms.asset,
-            Directions::Apart,
+            Directions::Separate,
             terms.most,
             buf,
             session,
