@@ -1,4 +1,5 @@
 //! `serve POLICY SECONDS LOG NAME=A.B.C.D:PORT..`: a policy between many clients and their controllers.
+ghost use Rattle.std.specs.List.{list_any};
 ghost use Rattle.std.specs.Prelude.{◌≡◌, ◌⊎◌, ◌++◌, ◌-◌, ◌^◌, Err, IfErr, List, OnOk, Some, false, map, string_bytes, ℕ, ◌∷◌, []};
 ghost use Rattle.cf_ending.specs.Outside.{RisesIn, files_value};
 ghost use Rattle.cf_box.specs.PolicyFile.{HasPolicy};
@@ -44,12 +45,11 @@ fn has_asset_at(assets: &[Asset], at: Endpoint) -> bool
 
 /// Whether one of the places is the endpoint of an asset.
 fn takes_endpoint(policy: &Policy, words: &[PlaceWord<'_>]) -> bool
-    ensures { result ≡ takes_endpoint policy.now (map place_word_value words.now) }
+    ensures { result ≡ list_any (λ word. has_asset_at policy.now.assets (place_word_value word).at) words.now }
 {
-    let Some((word, rest)) = words.split_first() else {
-        return false;
-    };
-    has_asset_at(policy.assets.as_slice(), word.at) || takes_endpoint(policy, rest)
+    words
+        .iter()
+        .any(|word| has_asset_at(policy.assets.as_slice(), word.at))
 }
 
 /// Adds the asset of each place, and where its clients come.
@@ -125,6 +125,37 @@ fn serve_places<F: Files, L: Links>(
     }
 }
 
+/// Serves the clients of the places of a policy that was read, none of which is an endpoint of it.
+fn serve_read<F: Files, L: Links>(
+    alloc: Global,
+    policy: &Policy,
+    service: &Service<'_>,
+    files: &mut F,
+    links: &mut L,
+) -> Result<(), Unserved>
+    requires within { IsWithin policy.now }
+    requires has { HasPolicy (F.content files.old (service.now.policy).now) policy.now }
+    requires fit { IsFitService service.now }
+    requires free { (session : ℕ) → LinksPlace.serves (L.place links.old) session ≡ false }
+    ensures serves { OnOk result (HasServed (service_value service.now) (files_value F.Files files.old) (files_value F.Files files.new)
+        (L.told links.old) (L.told links.new) (LinksPlace.round_faults (L.place links.old)) (LinksPlace.round_faults (L.place links.new))
+        (λ made. made ≡ 2 ^ 64 - 1)) }
+    ensures stops { IfErr result (λ s. EndsService (service_value service.now) (files_value F.Files files.old)
+        (files_value F.Files files.new)
+        (L.told links.old) (L.told links.new) (LinksPlace.round_faults (L.place links.old)) (LinksPlace.round_faults (L.place links.new))
+        s) }
+    ensures others { KeepsOthers (service.now.log).now (F.content files.old) (F.content files.new) }
+    ensures reads { F.read_faults files.new ≡ F.read_faults files.old }
+{
+    if takes_endpoint(policy, service.places.as_slice()) {
+        return Err(Unserved::OwnEndpoint);
+    }
+    match serve_places(alloc, policy, service, files, links) {
+        Ok(()) => Ok(()),
+        Err(stop) => Err(Unserved::Stopped(stop)),
+    }
+}
+
 /// Reads the policy, and serves the clients of its places.
 fn serve_policy<F: Files, L: Links>(
     alloc: Global,
@@ -144,15 +175,8 @@ fn serve_policy<F: Files, L: Links>(
     ensures others { KeepsOthers (service.now.log).now (F.content files.old) (F.content files.new) }
     ensures reads { RisesIn ((service.now.policy).now ∷ []) (F.read_faults files.old) (F.read_faults files.new) }
 {
-    let policy = match load_policy(alloc, service.policy, files) {
-        Ok(policy) => policy,
-        Err(stop) => return Err(Unserved::Stopped(stop)),
-    };
-    if takes_endpoint(&policy, service.places.as_slice()) {
-        return Err(Unserved::OwnEndpoint);
-    }
-    match serve_places(alloc, &policy, service, files, links) {
-        Ok(()) => Ok(()),
+    match load_policy(alloc, service.policy, files) {
+        Ok(policy) => serve_read(alloc, &policy, service, files, links),
         Err(stop) => Err(Unserved::Stopped(stop)),
     }
 }
