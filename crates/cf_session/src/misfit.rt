@@ -1,5 +1,5 @@
 //! What does not fit in a packet.
-ghost use Rattle.std.specs.Prelude.{◌≡◌, ◌<◌, ◌≤◌, ◌/◌, ◌%◌, ◌^◌, ◌==◌, List, ◌∷◌, length, option_map};
+ghost use Rattle.std.specs.Prelude.{◌≡◌, ◌<◌, ◌≤◌, ◌/◌, ◌%◌, ◌^◌, ◌==◌, List, ◌∷◌, length};
 ghost use Rattle.cf_leg.specs.Segment.{is_opening};
 ghost use Rattle.cf_packet.specs.Packet.{packet_value};
 ghost use Rattle.cf_session.specs.Misfit.{acknowledges_unsent, ends_beyond, stands_past, is_probe, misfit_by, misfit_of, number_after, reach_by};
@@ -14,7 +14,7 @@ use cf_packet::{ACK, FIN, Packet, RST, SYN, sequence_number};
 use cf_view::Side;
 
 /// What does not fit in a segment that came from a side of a session. This project's own.
-#[derive(Clone, Copy, PartialEq, Eq)]
+#[derive(Clone, Copy)]
 pub enum Misfit {
     /// It fits.
     Nothing,
