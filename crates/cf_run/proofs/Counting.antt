@@ -37,8 +37,18 @@ twelve : (s t : Summary) → s.records ≡ t.records → s.dropped ≡ t.dropped
     s.admitted ≡ t.admitted → s.refused ≡ t.refused → s.cuts ≡ t.cuts → s.foreign ≡ t.foreign → s.closed ≡ t.closed → s.above ≡ t.above → s.beyond ≡ t.beyond → s ≡ t
 twelve s t a b c d e f g h i j k l =
     let r : Summary = record {
-      records = t.records; dropped = t.dropped; outside = t.outside; full = t.full; sessions = t.sessions; admitted = t.admitted; refused = t.refused; cuts = t.cuts;
-      foreign = t.foreign; closed = t.closed; above = t.above; beyond = t.beyond;
+      records = t.records;
+      dropped = t.dropped;
+      outside = t.outside;
+      full = t.full;
+      sessions = t.sessions;
+      admitted = t.admitted;
+      refused = t.refused;
+      cuts = t.cuts;
+      foreign = t.foreign;
+      closed = t.closed;
+      above = t.above;
+      beyond = t.beyond;
     } in
     rw (a, b, c, d, e, f, g, h, i, j, k, l) refl
 

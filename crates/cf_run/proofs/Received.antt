@@ -1,5 +1,5 @@
 -- The second half of an event, in the table.
-use Rattle.std.proofs.Common.{◌≡◌, ℕ, zero, suc, ◌-◌, ◌<◌, ◌≤◌, not, Bool, true, false, ◌&&◌, List, [], ◌∷◌, length, cond, Some, refl, sym, ap, ◌∙◌, subst, arith}
+use Rattle.std.proofs.Common.{◌≡◌, ℕ, zero, suc, ◌-◌, ◌<◌, ◌≤◌, not, Bool, true, false, ◌&&◌, List, [], ◌∷◌, length, cond, Some, None, refl, sym, ap, ◌∙◌, subst, arith}
 use Rattle.std.specs.Prelude.{filter, slice_get, slice_set}
 use Rattle.std.specs.List.{remove}
 use Rattle.std.specs.Option.{is_none, is_some}

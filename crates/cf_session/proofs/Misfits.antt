@@ -1,5 +1,5 @@
 -- What was sent to a side and told it, in a session in memory.
-use Rattle.std.proofs.Common.{◌≡◌, ℕ, Bool, true, false, List, ◌∷◌, cond, Option, Some, None, refl, sym, ap, ◌∙◌}
+use Rattle.std.proofs.Common.{◌≡◌, ℕ, Bool, true, false, List, ◌∷◌, cond, Option, Some, None, refl, ap, ◌∙◌}
 use Rattle.cf_leg.specs.Calls.{origin_as}
 use Rattle.cf_leg.specs.Heard.{opened}
 use Rattle.cf_leg.specs.LegValue.{is_open, phase_of}
@@ -11,7 +11,6 @@ use Rattle.cf_session.specs.Misfit.{controller_number, misfit_by, misfit_of, rea
 use Rattle.cf_session.specs.Parts.{SessionValue}
 use Rattle.cf_session.specs.Session.{Flow, SessionEvent, client_ends, clients, controller_ends, controllers}
 use Rattle.cf_session.specs.Stands.{IsSessionOf}
-use Rattle.cf_session.specs.declared.misfit.Misfit.{Misfit}
 
 open_by : (o g : Bool) → is_open (phase_of o g) ≡ o
 open_by true g = refl

@@ -75,7 +75,7 @@ returns-else-not-stays-clause-goes g c = λ table ticked all.
     (told (g.D.Desk.value c.args.desk.now)) (told (g.D.Desk.value c.on_packet.new.desk)) x c.on_packet.new.self c.due-due.result c.asset_of-asset.result.now at c.asset_of-asset.ensures
     all ticked c.requires.moment.0 c.admitted-admitted.result c.refused-refused.result c.admitted-admitted.ensures.counts c.refused-refused.ensures.counts
     (λ flow earlier event s. sym c.admitted.ensures.value ∙ c.admitted.ensures.counts flow earlier event s) (λ flow earlier event s. sym c.refused.ensures.value ∙ c.refused.ensures.counts flow earlier event s)
-    c.is_closed.result (λ flow earlier event s. c.is_closed.ensures ∙ ap is_some s.closed) c.misfit-misfit.result c.misfit-misfit.ensures
+    c.is_closed-was_closed.result (λ flow earlier event s. c.is_closed-was_closed.ensures ∙ ap is_some s.closed) c.misfit-misfit.result c.misfit-misfit.ensures.value
     c.in-Ok.life (λ flow earlier half served stands tick now.
     subst (λ n. HearsBy flow n earlier half c.args.side (packet_value c.args.packet.now) c.on_packet.new.self (told (g.D.Desk.value c.args.desk.now)) (told (g.D.Desk.value c.on_packet.new.desk)) c.in-Ok.life)
     one.limit_is (c.in-Ok.ensures.hears flow earlier half served stands tick now))
@@ -94,7 +94,7 @@ returns-then-not-stays-clause-goes g c = λ table ticked all.
     (told (g.D.Desk.value c.args.desk.now)) (told (g.D.Desk.value c.on_packet.new.desk)) x c.on_packet.new.self c.due-due.result c.asset_of-asset.result.now at c.asset_of-asset.ensures
     all ticked c.requires.moment.0 c.admitted-admitted.result c.refused-refused.result c.admitted-admitted.ensures.counts c.refused-refused.ensures.counts
     (λ flow earlier event s. sym c.admitted.ensures.value ∙ c.admitted.ensures.counts flow earlier event s) (λ flow earlier event s. sym c.refused.ensures.value ∙ c.refused.ensures.counts flow earlier event s)
-    c.is_closed.result (λ flow earlier event s. c.is_closed.ensures ∙ ap is_some s.closed) c.misfit-misfit.result c.misfit-misfit.ensures
+    c.is_closed-was_closed.result (λ flow earlier event s. c.is_closed-was_closed.ensures ∙ ap is_some s.closed) c.misfit-misfit.result c.misfit-misfit.ensures.value
     c.in-Ok.life (λ flow earlier half served stands tick now.
     subst (λ n. HearsBy flow n earlier half c.args.side (packet_value c.args.packet.now) c.on_packet.new.self (told (g.D.Desk.value c.args.desk.now)) (told (g.D.Desk.value c.on_packet.new.desk)) c.in-Ok.life)
     one.limit_is (c.in-Ok.ensures.hears flow earlier half served stands tick now))
