@@ -34,13 +34,13 @@ pub enum Outcome {
     Full,
     /// It is of no session.
     Outside {
-        /// It is one whose ends are not a client's and an asset's, or none.
+        /// Packets of which neither end, or both, is an asset's: this one or none.
         foreign: u64,
     },
     /// A session began.
     Begun,
-    /// It went to a session, which decided so many commands, and cut or closed so many sessions: that one or none. Above what was sent,
-    /// and beyond the edge that was told, it is one packet or none.
+    /// It went to a session, which decided so many commands, and was cut or closed, or was not. Of all other counts each is one or none:
+    /// that session, or this packet.
     Went {
         /// Commands admitted.
         admitted: u64,
@@ -50,9 +50,9 @@ pub enum Outcome {
         cuts: u64,
         /// Sessions closed.
         closed: u64,
-        /// Packets that acknowledged what was not sent.
+        /// Packets that acknowledged what the box had not sent.
         above: u64,
-        /// Packets that ended beyond the edge.
+        /// Packets that ended beyond the edge that the box had told.
         beyond: u64,
     },
 }

@@ -5,7 +5,8 @@ ghost use Rattle.cf_run.specs.Counted.{counted};
 
 use crate::second_half::Outcome;
 
-/// What was counted over the events so far. A count that would pass `u64::MAX` stays there.
+/// What was counted over the events so far; the last four counts are told, and not printed. A count that would pass `u64::MAX` stays
+/// there.
 #[derive(Clone, Copy, PartialEq, Eq, Debug, Default)]
 pub struct Summary {
     /// Records.
@@ -24,7 +25,7 @@ pub struct Summary {
     pub refused: u64,
     /// Sessions cut.
     pub cuts: u64,
-    /// Packets of no session that go between no client and no asset: neither end, or both, is an asset's.
+    /// Packets of no session of which neither end, or both, is an asset's.
     pub foreign: u64,
     /// Sessions that closed.
     pub closed: u64,

@@ -2,8 +2,8 @@
 ghost use Rattle.std.specs.Prelude.{◌≡◌, ◌<◌, ◌≤◌, ◌/◌, ◌%◌, ◌^◌, ◌==◌, List, ◌∷◌, length};
 ghost use Rattle.cf_leg.specs.Segment.{is_opening};
 ghost use Rattle.cf_packet.specs.Packet.{packet_value};
-ghost use Rattle.cf_session.specs.Misfit.{acknowledges_unsent, ends_beyond, stands_past, is_probe, misfit_by, misfit_of, number_after, reach_by};
-ghost use Rattle.cf_session.specs.Misfit.{segment_length};
+ghost use Rattle.cf_session.specs.Misfit.{acknowledges_unsent, ends_beyond, is_probe, misfit_by, misfit_of, number_after, reach_by};
+ghost use Rattle.cf_session.specs.Misfit.{segment_length, stands_past};
 ghost use Rattle.cf_session.specs.Session.{Flow, SessionEvent};
 ghost use Rattle.cf_session.specs.Stands.{IsSessionOf};
 
