@@ -25,7 +25,8 @@ const AMID: &str = " came without the SYN of their connection: the capture begin
 const FOREIGN: &str = " did not go between a client and an asset of POLICY: \
     neither end, or both, has an asset's address and port";
 
-const REST: &str = " were of no session: they came without the SYN of their connection, behind a cut, long behind a closing, \
+const REST: &str =
+    " were of no session: they came without the SYN of their connection, behind a cut, long behind a closing, \
     or for a session that was not begun";
 
 const REVIEW: &str =
