@@ -1,5 +1,5 @@
 -- Steps of the proof: what a watcher keeps of a flow in memory, and what the letters of a packet do to it: `Takes`.
-use Rattle.std.specs.Prelude.{◌≡◌, ◌≢◌, ◌+◌, ◌^◌, ◌≤◌, ℕ, nat_lt, if◌then◌else◌, List, [], ◌∷◌, ◌++◌, length, replicate, slice_index, true, false}
+use Rattle.std.specs.Prelude.{◌≡◌, ◌≢◌, ◌+◌, ◌^◌, ◌≤◌, ◌<◌, ℕ, nat_lt, if◌then◌else◌, List, [], ◌∷◌, ◌++◌, length, replicate, slice_index, true, false}
 use Rattle.std.specs.Prelude.{Option, Some, None, option_map}
 use Rattle.std.specs.BTreeMap.{BTreeMap, btree_map_len, get}
 use Rattle.std.specs.Option.{option_or}
@@ -65,6 +65,14 @@ pub record TakesOut (place byte : ℕ) (old new : BTreeMap ℕ Came) : Type 0 wh
 -- no byte stands there
 abbrev pub HasNoByte : (place : ℕ) → BTreeMap ℕ Came → Type 0
 HasNoByte place ahead = (byte number : ℕ) → get nat_cmp ahead (place + 2 ^ 31) ≢ Some (record { letter = heard.Byte byte; number = number })
+
+-- this letter stood at the lowest place, and was taken out
+pub record IsFirst (place : ℕ) (came : Came) (old new : BTreeMap ℕ Came) : Type 0 where
+  pub was : get nat_cmp old place ≡ Some came
+  pub none_before : (q : ℕ) → q < place → get nat_cmp old q ≡ None
+  pub gone : get nat_cmp new place ≡ None
+  pub others : (q : ℕ) → q ≢ place → get nat_cmp new q ≡ get nat_cmp old q
+  pub fewer : btree_map_len new + 1 ≡ btree_map_len old
 
 -- a run without where it lies in memory
 abbrev pub run_value : Run → RunValue

@@ -1,6 +1,6 @@
 //! What the letters of a packet do to a flow.
 ghost use Rattle.std.specs.Prelude.{◌≡◌, ◌==◌, ◌≢◌, ◌+◌, ◌^◌, ◌++◌, ◌∷◌, [], IfSome, ◌<◌, ◌≤◌, ◌≤ℤ◌, ℕ, pos, None, Some};
-ghost use Rattle.std.specs.Prelude.{OnOk, false, if◌then◌else◌, length, option_map, ◌↔◌, IsTrue, ◌-ℤ◌, ◌<ℤ◌};
+ghost use Rattle.std.specs.Prelude.{OnOk, false, if◌then◌else◌, length, option_map, ◌↔◌, IsTrue, ◌-ℤ◌, ◌<ℤ◌, ◌+ℤ◌};
 ghost use Rattle.std.specs.BTreeMap.{get};
 ghost use Rattle.std.specs.Ordering.{nat_cmp};
 ghost use Rattle.cf_stream.specs.Stream.{Byte};
@@ -87,12 +87,7 @@ fn insert(ahead: &mut Ahead, key: u64, number: u64, letter: Letter) -> Result<()
 }
 
 /// Keeps a letter below position 0, where none is kept.
-fn keep_below(
-    ahead: &mut Ahead,
-    number: u64,
-    at: i64,
-    letter: Letter,
-) -> Result<(), NoMemory>
+fn keep_below(ahead: &mut Ahead, number: u64, at: i64, letter: Letter) -> Result<(), NoMemory>
     requires number { number < 2 ^ 32 }
     requires from { (pos 0 -ℤ pos (2 ^ 31)) ≤ℤ at }
     requires to { at <ℤ pos 0 }
@@ -100,11 +95,22 @@ fn keep_below(
     ensures holds { OnOk result ((count : ℕ) → Holds (record { number = number; at = at; text = stream_of letter }) ahead.old count
         ahead.new) }
 {
-    let key = (at + BELOW as i64) as u64;
+    let key = key_below(at);
     if ahead.contains_key(&key) {
         return Ok(());
     }
-    insert(ahead, key, number, letter)
+    insert(ahead, key, number, letter)?;
+    Ok(())
+}
+
+/// The place of a letter below position 0, counted from `BELOW` places below it.
+fn key_below(at: i64) -> u64
+    requires from { (pos 0 -ℤ pos (2 ^ 31)) ≤ℤ at }
+    requires to { at <ℤ pos 0 }
+    ensures key { pos result ≡ at +ℤ pos (2 ^ 31) }
+    ensures low { result < 2 ^ 31 }
+{
+    (at + BELOW as i64) as u64
 }
 
 /// Whether two letters differ.
@@ -128,7 +134,8 @@ fn carry_letter(
         ahead.new) }
 {
     if at < 0 {
-        return keep_below(ahead, number, at, letter);
+        keep_below(ahead, number, at, letter)?;
+        return Ok(());
     }
     let place = at as u64;
     match letter_at(flow.bytes.as_slice(), ahead, place) {

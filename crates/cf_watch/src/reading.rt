@@ -12,7 +12,7 @@ ghost use Rattle.cf_view.specs.declared.LinkSet.TheVariants as set;
 ghost use Rattle.cf_watch.specs.Watch.{FailsAs, IsRecordingFor, IsRecordingOf, WatchesAs, kinds_by, stretches_by};
 
 use crate::fault::{CAPTURE_LIMIT, WatchFault, WatchRefusal};
-use crate::flow::{Flow, Recording};
+use crate::flow::{Flow, Recording, Stretch};
 use crate::scope::Scope;
 use crate::stretches::stretches_in;
 use crate::watching::Watch;
@@ -208,13 +208,26 @@ fn recorded(
     ensures stretches { IfOk result (λ r. (number : ℕ) (ws : List Watched) → IsWatchOf number watch ws
         → map stretch_value r.stretches.items ≡ stretches_by scope ws (map flow_value watch.flows.items)) }
 {
-    let stretches = match scope {
-        Scope::Connections => Vec::new(alloc),
-        Scope::Recording => stretches_in(alloc, &mut watch)?,
-    };
+    let stretches = stretches_by(alloc, scope, &mut watch)?;
     Ok(Recording {
         flows: watch.flows,
         stretches,
         stamps,
     })
+}
+
+/// What is told besides of what does not follow on the first bytes of flows.
+fn stretches_by(alloc: Global, scope: Scope, watch: &mut Watch) -> Result<Vec<Stretch>, NoMemory>
+    requires { length watch.old.flows.items ≡ length watch.old.trails.items }
+    ensures stretches { IfOk result (λ stretches. (number : ℕ) (ws : List Watched) → IsWatchOf number watch.old ws
+        → map stretch_value stretches.items ≡ stretches_by scope ws (map flow_value watch.old.flows.items)) }
+    ensures flows { watch.new.flows ≡ watch.old.flows }
+{
+    match scope {
+        Scope::Connections => Ok(Vec::new(alloc)),
+        Scope::Recording => {
+            let stretches = stretches_in(alloc, watch)?;
+            Ok(stretches)
+        }
+    }
 }

@@ -1,8 +1,10 @@
 //! The bytes of flows that do not follow on their first ones.
 ghost use Rattle.std.specs.Prelude.{◌≡◌, ◌∷◌, [], ◌++◌, ◌^◌, ◌≤◌, List, IfOk, OnOk, Option, Some, None, if◌then◌else◌, length, map, pos, reverse, ◌==◌, ◌+◌};
-ghost use Rattle.std.specs.Prelude.{ℕ, slice_get};
+ghost use Rattle.std.specs.Prelude.{ℕ, slice_get, IfSome};
+ghost use Rattle.std.specs.BTreeMap.{get};
+ghost use Rattle.std.specs.Ordering.{nat_cmp};
 ghost use Rattle.cf_watch.specs.FlowValue.{flow_value, stretch_value};
-ghost use Rattle.cf_watch.specs.Kept.{HasRuns, came_value, run_value};
+ghost use Rattle.cf_watch.specs.Kept.{HasRuns, IsFirst, came_value, run_value};
 ghost use Rattle.cf_watch.specs.Stretches.{all_stretches, is_nil, is_own, longer, run_at, stretch_of, stretches_from, stretches_of, with_byte, with_place};
 ghost use Rattle.cf_watch.specs.Trail.{IsHeard, IsWatchOf};
 ghost use Rattle.cf_watch.specs.Watched.{Watched};
@@ -31,10 +33,9 @@ pub(crate) struct Run {
 
 /// Whether a place, so counted, is one of the first bytes of a flow, so many.
 fn is_own(count: usize, place: u64) -> bool
-    requires { count ≤ 2 ^ 63 }
     ensures { result ≡ is_own count place }
 {
-    BELOW <= place && place < BELOW + count as u64
+    BELOW <= place && place - BELOW < count as u64
 }
 
 /// A run without a byte yet.
@@ -125,11 +126,19 @@ fn runs_in(alloc: Global, count: usize, ahead: &mut Ahead) -> Result<Vec<Run>, N
 {
     let mut runs = Vec::new(alloc);
     'letters: loop {
-        match ahead.pop_first() {
+        match take_first(ahead) {
             Some((place, came)) => put_letter(alloc, &mut runs, count, place, came)?,
             None => return Ok(runs),
         }
     }
+}
+
+/// Takes the letter of the lowest place out, if there is one.
+fn take_first(ahead: &mut Ahead) -> Option<(u64, Came)>
+    ensures some { IfSome result (λ p. IsFirst p.0 p.1 ahead.old ahead.new) }
+    ensures none { result ≡ None → (q : ℕ) → get nat_cmp ahead.old q ≡ None }
+{
+    ahead.pop_first()
 }
 
 /// The position of the gap, which the first run of a flow tells.
