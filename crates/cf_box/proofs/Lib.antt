@@ -10,6 +10,7 @@ mod Listing
 mod Migrating
 mod OneJudgement
 mod Passing
+mod Reading
 mod Recorded
 mod Relaying
 mod RunHolds
