@@ -12,8 +12,8 @@
 //!   Segments with RST are neither, and a SYN that opens is not: where a session had closed it begins the next one.
 //! - A packet belongs to a connection whose SYN is not there where it comes before any SYN of its pair. A packet is of no asset where
 //!   not exactly one of its endpoints is an asset's. Both counts are exact: each such packet is of no session.
-//! - A gap of a connection is before data at which no packet of the capture has the octets that come first: what stands behind it is not
-//!   read. A wrong TCP sum is partial where its field is the folded sum of the pseudo header alone; a review takes it as right.
+//! - A gap of a connection is before data at which no packet of the capture has the octets that come first: what stands behind it a review
+//!   reads alone. A wrong TCP sum is partial where its field is the folded sum of the pseudo header alone; a review takes it as right.
 //! - After `learn` the commands of each client to each asset are those with the asset's station whose form is read, up to where its
 //!   connection breaks; what is left out beside them is counted by why.
 //! - How many sessions never closed is what the summary counts without those that were cut and those that LOG says closed.

@@ -1,11 +1,11 @@
 -- The other stretches of flows, reviewed one after the other.
-use Rattle.std.proofs.Common.{◌≡◌, ◌+◌, ◌-◌, ◌<◌, ◌≤◌, ◌∙◌, ℕ, List, [], ◌∷◌, ◌++◌, length, map, get_or, slice_get, All, Option, None, Some, min, ◌^◌, refl, sym, ap, subst, arith, append_assoc}
+use Rattle.std.proofs.Common.{◌≡◌, ◌+◌, ◌-◌, ◌<◌, ◌∙◌, ℕ, List, [], ◌∷◌, ◌++◌, length, map, get_or, slice_get, Option, Some, min, ◌^◌, refl, sym, ap, subst, arith, append_assoc}
 use Rattle.std.proofs.lemmas.List.{append-nil, get_or-map, length-map, map-append}
 use Rattle.cf_lane.specs.Judged.{in_turn}
 use Rattle.cf_policy.specs.declared.Asset.{Asset}
-use Rattle.cf_watch.specs.FlowValue.{AreStretchesFor, FlowValue, IsForAsset, StretchValue, flow_value, stretch_value}
+use Rattle.cf_watch.specs.FlowValue.{AreStretchesFor, IsForAsset, StretchValue, flow_value, stretch_value}
 use Rattle.cf_watch.specs.declared.Stretch.{Stretch}
-use Rattle.cf_judge.specs.Objections.{IsReadBy, Reading, admitted_in, commands_in}
+use Rattle.cf_judge.specs.Objections.{IsReadBy, commands_in}
 use Rattle.cf_review.proofs.Reading.{commands_more, same_asset}
 use Rattle.cf_review.specs.FirstUnit.{IsReadPart, IsReadPartAt, from_place}
 use Rattle.cf_review.specs.Remark.{RemarkValue}

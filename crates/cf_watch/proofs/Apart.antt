@@ -1,5 +1,5 @@
 -- Letters with their records, which stand apart from the bytes of their flow.
-use Rattle.std.proofs.Common.{◌≡◌, ◌≢◌, ◌==◌, if◌then◌else◌, ◌+◌, ◌^◌, ◌<◌, ◌≤◌, ◌+ℤ◌, ℕ, ℤ, pos, Bool, true, false, nat_le, nat_lt, List, ◌++◌, length, Option, Some, None, option_map, is_some, refl, sym, ap, ◌∙◌, inl, inr, arith, subst}
+use Rattle.std.proofs.Common.{◌≡◌, ◌≢◌, ◌==◌, if◌then◌else◌, ◌+◌, ◌^◌, ◌≤◌, ◌+ℤ◌, ℕ, ℤ, pos, Bool, true, false, nat_le, nat_lt, List, ◌++◌, length, Option, Some, None, option_map, is_some, refl, sym, ap, ◌∙◌, inl, inr, arith}
 use Rattle.std.proofs.lemmas.Bool.{cases_eq, cases_lt, eq-eqb, true≢false, false≢true}
 use Rattle.std.proofs.lemmas.Bool.Decides.{nat_tests}
 use Rattle.std.proofs.lemmas.Int.{ints}

@@ -1,13 +1,12 @@
 -- The other stretches of flows are to assets of the policy, and have a record for each byte.
-use Rattle.std.proofs.Common.{◌≡◌, ◌<◌, ◌+◌, ◌∙◌, ◌++◌, ◌∷◌, [], ℕ, ℤ, pos, ◌^◌, zero, suc, Bool, true, false, List, Option, Some, None, if◌then◌else◌, length, map, max, All, refl, sym, ap, subst, length-append}
+use Rattle.std.proofs.Common.{◌≡◌, ◌<◌, ◌+◌, ◌∙◌, ◌++◌, ◌∷◌, [], ℕ, ℤ, pos, ◌^◌, zero, suc, Bool, true, false, List, Option, Some, None, if◌then◌else◌, length, map, max, refl, sym, ap, length-append}
 use Rattle.std.specs.List.{AllByRecursion}
-use Rattle.std.proofs.lemmas.List.{map-append}
 use Rattle.std.proofs.lemmas.List.Elements.{All-from_recursion}
 use Rattle.cf_policy.specs.declared.Asset.{Asset}
 use Rattle.cf_stream.specs.Stream.{Byte, End, Letter}
 use Rattle.cf_watch.specs.Carried.{top_of}
 use Rattle.cf_watch.specs.FlowValue.{AreStretchesFor, FlowValue, IsForAsset, StretchValue}
-use Rattle.cf_watch.specs.Stretches.{FirstLetter, Run, all_stretches, apart, first_letter, is_nil, longer, run_at, runs_of, stretch_of, stretches_from, stretches_of, with_byte, with_letter, with_place}
+use Rattle.cf_watch.specs.Stretches.{FirstLetter, Run, all_stretches, apart, first_letter, longer, run_at, runs_of, stretches_from, stretches_of, with_byte, with_letter, with_place}
 use Rattle.cf_watch.specs.Watched.{Watched}
 
 -- each byte of a run came with a record

@@ -70,7 +70,7 @@ fn keep(
     }
 }
 
-/// Puts a letter among those that stand apart.
+/// Puts a letter among those that stand apart from the bytes of their flow.
 fn insert(ahead: &mut Ahead, key: u64, number: u64, letter: Letter) -> Result<(), NoMemory>
     requires number { number < 2 ^ 32 }
     ensures { OnOk result ((q : ℕ) → get nat_cmp ahead.new q

@@ -1,14 +1,10 @@
-use Rattle.std.proofs.Common.{rules, ◌≡◌, ◌+◌, ◌<◌, ◌++◌, ◌∷◌, [], ◌∙◌, sym, ap, subst, refl, arith, take, map, length, Some, min, ◌^◌, ◌-◌, slice_get, get_or}
-use Rattle.std.proofs.lemmas.List.{length-map, map_more, take_all}
-use Rattle.std.proofs.lemmas.List.Sorted.{IsNonDecreasingBy-from_sort_by_key, answers_always}
+use Rattle.std.proofs.Common.{◌≡◌, ◌+◌, ◌<◌, ◌++◌, ◌∷◌, [], ◌∙◌, sym, ap, subst, refl, arith, take, map, length, Some, min, ◌^◌, ◌-◌, slice_get, get_or}
+use Rattle.std.proofs.lemmas.List.{map_more, take_all}
 use Rattle.std.proofs.lemmas.Option.{slice_get_read}
 use Rattle.cf_policy.specs.Within.{IsAssetWithin}
 use Rattle.cf_watch.specs.FlowValue.{flow_value}
-use Rattle.cf_review.specs.FirstUnit.{AreReadParts}
 use Rattle.cf_review.specs.Remark.{remark_value}
 use Rattle.cf_review.specs.Review.{AreReviewed}
-use Rattle.cf_review.specs.declared.remark.Remark.{Remark}
-use Rattle.cf_review.proofs.Ordering.{in_order, when_done}
 use Rattle.cf_review.proofs.Reading.{for_asset, reviewed_first, reviewed_on}
 use Rattle.cf_review.proofs.reviewing.review_flows.Goals as goal
 

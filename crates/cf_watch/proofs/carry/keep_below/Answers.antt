@@ -1,9 +1,8 @@
-use Rattle.std.proofs.Common.{rules, ◌≡◌, ◌==◌, ◌+◌, ◌^◌, ◌∙◌, if◌then◌else◌, false, ℕ, pos, arith, sym, refl, Some, None, Option, is_some, subst}
+use Rattle.std.proofs.Common.{◌≡◌, ◌==◌, ◌+◌, ◌^◌, ◌∙◌, false, arith, sym, refl}
 use Rattle.std.proofs.lemmas.Bool.Decides.{nat_tests}
 use Rattle.std.proofs.lemmas.Int.{ints}
 use Rattle.std.specs.BTreeMap.{get}
 use Rattle.std.specs.Ordering.{nat_cmp}
-use Rattle.cf_watch.specs.declared.letter.Came.{Came}
 use Rattle.cf_watch.proofs.Apart.{came_kept, came_new, not_some}
 use Rattle.cf_watch.proofs.carry.keep_below.Goals as goal
 

@@ -2,7 +2,7 @@ use Rattle.std.proofs.Common.{rules, ◌≡◌, ◌++◌, ◌∷◌, [], ◌∙�
 use Rattle.std.proofs.lemmas.List.{map-append, nil_from_length}
 use Rattle.cf_watch.specs.FlowValue.{StretchValue, flow_value, stretch_value}
 use Rattle.cf_watch.specs.Kept.{HasRuns, run_value}
-use Rattle.cf_watch.specs.Stretches.{Run, is_nil, stretch_of, stretches_from, stretches_of}
+use Rattle.cf_watch.specs.Stretches.{Run, is_nil, stretch_of, stretches_from}
 use Rattle.cf_watch.specs.declared.stretches.Run.{Run as Kept}
 use Rattle.cf_watch.proofs.Runs.{runs_of_flow, stretches_last}
 use Rattle.cf_watch.proofs.stretches.add_stretches.Goals as goal

@@ -1,9 +1,9 @@
-use Rattle.std.proofs.Common.{rules, ◌≡◌, ◌≢◌, ◌+◌, ◌<◌, ◌≤◌, ◌∙◌, ℕ, suc, [], Some, None, Option, option_map, if◌then◌else◌, map, reverse, refl, sym, ap, subst, arith, inl, inr}
+use Rattle.std.proofs.Common.{◌≡◌, ◌<◌, ◌≤◌, ◌∙◌, ℕ, suc, Some, None, Option, option_map, if◌then◌else◌, refl, sym, ap, arith, inl, inr}
 use Rattle.std.proofs.lemmas.Bool.{cases_lt}
 use Rattle.std.proofs.lemmas.Option.{none-some}
 use Rattle.std.specs.BTreeMap.{get}
 use Rattle.std.specs.Ordering.{nat_cmp}
-use Rattle.cf_watch.specs.Kept.{IsFirst, came_value, kept, run_value}
+use Rattle.cf_watch.specs.Kept.{IsFirst, came_value, kept}
 use Rattle.cf_watch.specs.Stretches.{FirstLetter, apart, is_own, runs_of, with_place}
 use Rattle.cf_watch.proofs.Runs.{apart_none, runs_to}
 use Rattle.cf_watch.proofs.stretches.runs_in.Goals as goal

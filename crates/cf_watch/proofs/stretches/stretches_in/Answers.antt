@@ -1,8 +1,8 @@
-use Rattle.std.proofs.Common.{rules, ◌≡◌, ◌≤◌, ◌<◌, ◌+◌, ◌++◌, ◌∷◌, [], ◌∙◌, ℕ, List, Some, option_map, drop, length, map, set, slice_get, refl, sym, ap, subst, arith, append-nil, append_assoc}
+use Rattle.std.proofs.Common.{rules, ◌≡◌, ◌≤◌, ◌<◌, ◌+◌, ◌++◌, [], ◌∙◌, List, Some, option_map, drop, length, map, slice_get, refl, sym, ap, arith, append-nil, append_assoc}
 use Rattle.std.proofs.Math.ListN.{drop_of_length-le}
 use Rattle.std.proofs.lemmas.List.{length-set}
 use Rattle.std.proofs.lemmas.Option.{slice_get-map, slice_get_read}
-use Rattle.cf_watch.specs.FlowValue.{FlowValue, StretchValue, flow_value, stretch_value}
+use Rattle.cf_watch.specs.FlowValue.{StretchValue, flow_value, stretch_value}
 use Rattle.cf_watch.specs.Stretches.{all_stretches, stretches_of}
 use Rattle.cf_watch.specs.Watched.{Watched}
 use Rattle.cf_watch.proofs.Runs.{stretches_on, trails_behind}
