@@ -6,8 +6,8 @@
 //!   of its pair. Of a run that neither cut nor closed a session, and had room for all, each packet of no session is such a one, or goes
 //!   between no client and no asset.
 //! - How many sessions never closed is what the summary counts without those that were cut and those that closed.
-//! - A gap of a connection is before data at which no packet of the capture has the octets that come first: what stands behind it is not
-//!   read. A wrong TCP sum is partial where its field is the folded sum of the pseudo header alone; a review takes it as right.
+//! - A gap of a connection is before data at which no packet of the capture has the octets that come first: what stands behind it a review
+//!   reads alone. A wrong TCP sum is partial where its field is the folded sum of the pseudo header alone; a review takes it as right.
 //! - After `learn` the commands of each client to each asset are those with the asset's station whose form is read, up to where its
 //!   connection breaks; what is left out beside them is counted by why.
 #![tactic(auto)]

@@ -145,12 +145,12 @@ pub fn survey_text(alloc: Global, survey: &Survey, reading: Reading) -> Result<S
             TAKEN,
         );
     }
-    put_gaps(&mut lines, &survey.gaps);
+    put_gaps(&mut lines, &survey.gaps, reading);
     lines.finish()
 }
 
-/// How many connections have a gap, the first of them, and what stands behind.
-fn put_gaps(lines: &mut Lines, gaps: &Gaps) {
+/// How many connections have a gap, the first of them, and what stands behind, which a review reads.
+fn put_gaps(lines: &mut Lines, gaps: &Gaps, reading: Reading) {
     let Some(first) = gaps.first else {
         return;
     };
@@ -171,7 +171,11 @@ fn put_gaps(lines: &mut Lines, gaps: &Gaps) {
         Number(first.record),
         Words("; "),
         Number(gaps.octets),
-        Words(" octets stand behind gaps and are not read, in "),
+        Words(" octets stand behind gaps and are "),
+        Words(match reading {
+            Reading::FromSyn => "not read, in ",
+            Reading::Amid => "read from the first unit on, in ",
+        }),
         Number(gaps.packets),
         Words(if gaps.packets == 1 {
             " packet"

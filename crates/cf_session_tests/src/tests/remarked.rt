@@ -66,7 +66,7 @@ note: 1 of 1 connections has a gap, as where a packet was not recorded; the firs
 octets stand behind gaps and are not read, in 3 packets
 amid:
 note: 1 of 1 connections has a gap, as where a packet was not recorded; the first: that of 10.0.0.5:49152 at position 0, before record 4; 4 \
-octets stand behind gaps and are not read, in 3 packets
+octets stand behind gaps and are read from the first unit on, in 3 packets
 
 row: a closed session, and another from the same port, whose SYN stands far beyond the window that the first was told
 1.000000 c S 1000 0 65535
@@ -165,7 +165,7 @@ note: 1 of 1 connections has a gap, as where a packet was not recorded; the firs
 36 octets stand behind gaps and are not read, in 3 packets
 amid:
 note: 1 of 1 connections has a gap, as where a packet was not recorded; the first: that of 10.0.0.5:49152 at position 0, before record 4; \
-36 octets stand behind gaps and are not read, in 3 packets
+36 octets stand behind gaps and are read from the first unit on, in 3 packets
 
 row: a connection without its SYN, with a gap, and behind it one whose packets came in another order
 1.000000 c PA 2001 6000 65535 W
@@ -183,7 +183,7 @@ unread:
 note: 2 packets came without the SYN of their connection, and are not read: record from before it begins
 amid:
 note: 1 of 2 connections has a gap, as where a packet was not recorded; the first: that of 10.0.0.5:49152 at position 12, before record 2; \
-12 octets stand behind gaps and are not read, in 1 packet
+12 octets stand behind gaps and are read from the first unit on, in 1 packet
 ";
 
 const NAMES: RunNames<'static> = RunNames {
