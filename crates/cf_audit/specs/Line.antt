@@ -24,6 +24,7 @@ pub data WhatValue : Type 0 where
   Away Stranger : (came : ℕ) → WhatValue
   Lost Silent : (admitted refused : ℕ) → WhatValue
   NoMemory : WhatValue
+  Stands : (standing admitted refused : ℕ) → WhatValue
 
 -- a line of the log: its moment in microseconds, the client, the name of the asset, and what happened
 pub record LineValue : Type 0 where
@@ -49,6 +50,7 @@ what_value (what.Stranger came) = Stranger came
 what_value (what.Lost admitted refused) = Lost admitted refused
 what_value (what.Silent admitted refused) = Silent admitted refused
 what_value what.NoMemory = NoMemory
+what_value (what.Stands standing admitted refused) = Stands standing admitted refused
 
 abbrev pub line_value : Line → LineValue
 line_value line = record { moment = line.moment; client = line.client; asset = line.asset.now; what = what_value line.what }
@@ -70,6 +72,7 @@ HasShortRule (Stranger came) = Unit {0}
 HasShortRule (Lost admitted refused) = Unit {0}
 HasShortRule (Silent admitted refused) = Unit {0}
 HasShortRule NoMemory = Unit {0}
+HasShortRule (Stands standing admitted refused) = Unit {0}
 
 abbrev pub HasShortNames : LineValue → Type 0
 HasShortNames line = (length line.asset ≤ NAME_LIMIT) × HasShortRule line.what

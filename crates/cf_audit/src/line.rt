@@ -119,6 +119,12 @@ pub enum What<'a> {
     },
     /// Memory was wanting for a session.
     NoMemory,
+    /// A service lives: so many sessions stand at the asset's place, and so many commands of that place's sessions were admitted and refused.
+    Stands {
+        standing: u64,
+        admitted: u64,
+        refused: u64,
+    },
 }
 
 /// A line of the log.

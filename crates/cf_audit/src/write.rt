@@ -258,6 +258,15 @@ fn push_what<const N: usize>(out: &mut ArrayString<N>, what: &What<'_>)
             push_counts(out, *admitted, *refused);
         }
         What::NoMemory => out.push_str("nomemory"),
+        What::Stands {
+            standing,
+            admitted,
+            refused,
+        } => {
+            out.push_str("stands ");
+            push_number(out, *standing);
+            push_counts(out, *admitted, *refused);
+        }
     }
 }
 

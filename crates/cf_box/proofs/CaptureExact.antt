@@ -38,11 +38,11 @@ run_apart bytes end cut e g = cc (run_once bytes FileEnd Cut end cut e g)
 
 module _ (failed : Type 0) (status : ℕ) (before after : Outside) where
   -- what is due where a write may have failed before
-  abbrev pub DueBehind : ℕ → Type 0
-  DueBehind n = (status ≡ n) ⊎ (((status ≡ 4) × (WriteFailed before after ⊎ failed)) ⊎ (((status ≡ 3) × ReadFailed before after) ⊎ (status ≡ 13)))
+  abbrev pub DueBehind : Command → ℕ → Type 0
+  DueBehind c n = (status ≡ n) ⊎ (((status ≡ 4) × (WriteFailed before after ⊎ failed)) ⊎ (((status ≡ 3) × ReadFailed c before after) ⊎ (status ≡ 13)))
 
   -- of a capture, the places where its records end so, and what refuses it: it has one such end
-  module _ (Ends : AtPlace → ℕ → Type 0) (IsRefused : CaptureRefusal → Type 0)
+  module _ (c : Command) (Ends : AtPlace → ℕ → Type 0) (IsRefused : CaptureRefusal → Type 0)
       (apart : (r : CaptureRefusal) → IsRefused r → (found : AtPlace) (place : ℕ) → Ends found place → Refusing found) (once : (end cut : ℕ) → Ends FileEnd end → Ends Cut cut → ⊥) where
     -- what an answer of the work over the capture means of it
     abbrev EndsBy : Result Done Stop → Type 0
@@ -52,12 +52,12 @@ module _ (failed : Type 0) (status : ℕ) (before after : Outside) where
     EndsBy (Err (stop.RunCut place summary)) = Ends Cut place
     EndsBy (Err (stop.Denied why)) = (place : ℕ) × Ends FileEnd place
     EndsBy (Err (stop.TooManyRules name)) = (place : ℕ) × Ends FileEnd place
-    EndsBy (Err stop.ReadFault) = ReadFailed before after
+    EndsBy (Err stop.ReadFault) = ReadFailed c before after
     EndsBy (Err stop.WriteFault) = WriteFailed before after
     EndsBy (Err stop.NoMemory) = Unit {0}
     EndsBy (Err _) = ⊥
 
-    refused_due : (refused : CaptureRefusal) → IsRefused refused → (r : Result Done Stop) → EndsBy r → IsOf r failed status → DueBehind 6
+    refused_due : (refused : CaptureRefusal) → IsRefused refused → (r : Result Done Stop) → EndsBy r → IsOf r failed status → DueBehind c 6
     refused_due refused is (Ok d) h of = absurd (apart refused is FileEnd h.0 h.1)
     refused_due refused is (Err (stop.CaptureRefused r)) h of = inl (stop_is failed status (stop.CaptureRefused r) of)
     refused_due refused is (Err (stop.CaptureCut place)) h of = absurd (apart refused is Cut place h)
@@ -69,7 +69,7 @@ module _ (failed : Type 0) (status : ℕ) (before after : Outside) where
     refused_due refused is (Err stop.NoMemory) h of = inr (inr (inr (stop_is failed status stop.NoMemory of)))
     refused_due refused is (Err s) h of = absurd h
 
-    cut_due : (cut : ℕ) → Ends Cut cut → (r : Result Done Stop) → EndsBy r → IsOf r failed status → DueBehind 7
+    cut_due : (cut : ℕ) → Ends Cut cut → (r : Result Done Stop) → EndsBy r → IsOf r failed status → DueBehind c 7
     cut_due cut is (Ok d) h of = absurd (once h.0 cut h.1 is)
     cut_due cut is (Err (stop.CaptureRefused r)) h of = absurd (apart r h Cut cut is)
     cut_due cut is (Err (stop.CaptureCut place)) h of = inl (stop_is failed status (stop.CaptureCut place) of)
@@ -85,7 +85,7 @@ module _ (failed : Type 0) (status : ℕ) (before after : Outside) where
 
   module _ (capture bytes : List ℕ) (told : before.files.content capture ≡ holds bytes) where
     abbrev ListingBy : Result Done Stop → Type 0
-    ListingBy r = EndsBy (EndsAt HasListedRecords (holds bytes)) (Refuses HasListedRecords (holds bytes)) (ends_refused set.Plain HasListedRecords bytes (listing_once set.Plain bytes)) (listing_apart set.Plain bytes) r
+    ListingBy r = EndsBy (Packets capture) (EndsAt HasListedRecords (holds bytes)) (Refuses HasListedRecords (holds bytes)) (ends_refused set.Plain HasListedRecords bytes (listing_once set.Plain bytes)) (listing_apart set.Plain bytes) r
 
     unread_policy : (r : PolicyRefusal) → RefusesPolicy (Packets capture) before r → ⊥
     unread_policy r (inl cause) = let none = cause.1 in cc
@@ -108,7 +108,7 @@ module _ (failed : Type 0) (status : ℕ) (before after : Outside) where
 
   module _ (policy : List ℕ) (names : RunNamesValue) (known : TellsPolicy (before.files.content policy)) (bytes : List ℕ) (told : before.files.content names.capture ≡ holds bytes) where
     abbrev RunBy : Result Done Stop → Type 0
-    RunBy r = EndsBy (EndsAt HasRunRecords (holds bytes)) (Refuses HasRunRecords (holds bytes)) (ends_refused set.Plain HasRunRecords bytes (run_once bytes)) (run_apart bytes) r
+    RunBy r = EndsBy (Run policy names) (EndsAt HasRunRecords (holds bytes)) (Refuses HasRunRecords (holds bytes)) (ends_refused set.Plain HasRunRecords bytes (run_once bytes)) (run_apart bytes) r
 
     run_by : (r : Result Done Stop) → Meets (Run policy names) before after r → RunBy r
     run_by (Ok d) meets =
@@ -129,7 +129,7 @@ module _ (failed : Type 0) (status : ℕ) (before after : Outside) where
 
   -- ---- a capture that is watched
 
-  module _ (kinds : LinkSet) (policy capture : List ℕ) (known : TellsPolicy (before.files.content policy)) (bytes : List ℕ) (told : before.files.content capture ≡ holds bytes) where
+  module _ (kinds : LinkSet) (c : Command) (policy capture : List ℕ) (known : TellsPolicy (before.files.content policy)) (bytes : List ℕ) (told : before.files.content capture ≡ holds bytes) where
     -- one that is refused is watched to no other end
     watch_apart : (r : CaptureRefusal) → WatchRefusesIn kinds (holds bytes) r → (found : AtPlace) (place : ℕ) → WatchEnd kinds (holds bytes) found place → Refusing found
     watch_apart r (inl (is, long)) found place e = absurd (omega (arith, e.short, long))
@@ -139,7 +139,7 @@ module _ (failed : Type 0) (status : ℕ) (before after : Outside) where
     watch_once end cut e g = listing_apart kinds bytes end cut (listed kinds (holds bytes) FileEnd end e) (listed kinds (holds bytes) Cut cut g)
 
     abbrev WatchedBy : Result Done Stop → Type 0
-    WatchedBy r = EndsBy (WatchEnd kinds (holds bytes)) (WatchRefusesIn kinds (holds bytes)) watch_apart watch_once r
+    WatchedBy r = EndsBy c (WatchEnd kinds (holds bytes)) (WatchRefusesIn kinds (holds bytes)) watch_apart watch_once r
 
     abbrev ToItsEnd : Type 0
     ToItsEnd = (place : ℕ) × WatchEnd kinds (holds bytes) FileEnd place
@@ -147,20 +147,20 @@ module _ (failed : Type 0) (status : ℕ) (before after : Outside) where
     to_its_end : (place : ℕ) → WatchEnd kinds (before.files.content capture) FileEnd place → ToItsEnd
     to_its_end place e = (place, subst (λ f. WatchEnd kinds f FileEnd place) told e)
 
-    watched_refused : (refused : CaptureRefusal) → WatchRefusesIn kinds (holds bytes) refused → (r : Result Done Stop) → WatchedBy r → IsOf r failed status → DueBehind 6
-    watched_refused = refused_due (WatchEnd kinds (holds bytes)) (WatchRefusesIn kinds (holds bytes)) watch_apart watch_once
+    watched_refused : (refused : CaptureRefusal) → WatchRefusesIn kinds (holds bytes) refused → (r : Result Done Stop) → WatchedBy r → IsOf r failed status → DueBehind c 6
+    watched_refused = refused_due c (WatchEnd kinds (holds bytes)) (WatchRefusesIn kinds (holds bytes)) watch_apart watch_once
 
-    watched_cut : (cut : ℕ) → WatchCutsIn kinds (holds bytes) cut → (r : Result Done Stop) → WatchedBy r → IsOf r failed status → DueBehind 7
-    watched_cut = cut_due (WatchEnd kinds (holds bytes)) (WatchRefusesIn kinds (holds bytes)) watch_apart watch_once
+    watched_cut : (cut : ℕ) → WatchCutsIn kinds (holds bytes) cut → (r : Result Done Stop) → WatchedBy r → IsOf r failed status → DueBehind c 7
+    watched_cut = cut_due c (WatchEnd kinds (holds bytes)) (WatchRefusesIn kinds (holds bytes)) watch_apart watch_once
 
   module _ (policy capture : List ℕ) (known : TellsPolicy (before.files.content policy)) (bytes : List ℕ) (told : before.files.content capture ≡ holds bytes) where
     -- a judgement
-    objects_end : (why : Denial) → Objects policy capture before why → ToItsEnd set.Plain policy capture known bytes told
-    objects_end (denial.Objects tells) o = to_its_end set.Plain policy capture known bytes told o.2.has_flows.place o.2.has_flows.ends
+    objects_end : (why : Denial) → Objects policy capture before why → ToItsEnd set.Plain (Judge policy capture) policy capture known bytes told
+    objects_end (denial.Objects tells) o = to_its_end set.Plain (Judge policy capture) policy capture known bytes told o.2.has_flows.place o.2.has_flows.ends
     objects_end _ o = absurd o
 
-    judge_by : (r : Result Done Stop) → Meets (Judge policy capture) before after r → WatchedBy set.Plain policy capture known bytes told r
-    judge_by (Ok d) meets = let has = meets.keeps.2.has_flows in to_its_end set.Plain policy capture known bytes told has.place has.ends
+    judge_by : (r : Result Done Stop) → Meets (Judge policy capture) before after r → WatchedBy set.Plain (Judge policy capture) policy capture known bytes told r
+    judge_by (Ok d) meets = let has = meets.keeps.2.has_flows in to_its_end set.Plain (Judge policy capture) policy capture known bytes told has.place has.ends
     judge_by (Err (stop.CaptureRefused r)) meets = subst (λ f. WatchRefuses f r) told meets.0.0
     judge_by (Err (stop.CaptureCut place)) meets = subst (λ f. WatchCuts f place) told meets.0.0
     judge_by (Err stop.ReadFault) meets = meets.0
@@ -173,8 +173,8 @@ module _ (failed : Type 0) (status : ℕ) (before after : Outside) where
     judge_by (Err _) meets = absurd meets.0.0
 
     -- what is learned of a capture
-    learn_by : (out : List ℕ) (r : Result Done Stop) → Meets (Learn policy capture out) before after r → WatchedBy set.Plain policy capture known bytes told r
-    learn_by out (Ok d) meets = let has = meets.holds.learns.watched.has_flows in to_its_end set.Plain policy capture known bytes told has.place has.ends
+    learn_by : (out : List ℕ) (r : Result Done Stop) → Meets (Learn policy capture out) before after r → WatchedBy set.Plain (Learn policy capture out) policy capture known bytes told r
+    learn_by out (Ok d) meets = let has = meets.holds.learns.watched.has_flows in to_its_end set.Plain (Learn policy capture out) policy capture known bytes told has.place has.ends
     learn_by out (Err (stop.CaptureRefused r)) meets = subst (λ f. WatchRefuses f r) told meets.0.0
     learn_by out (Err (stop.CaptureCut place)) meets = subst (λ f. WatchCuts f place) told meets.0.0
     learn_by out (Err stop.ReadFault) meets = meets.0
@@ -183,62 +183,62 @@ module _ (failed : Type 0) (status : ℕ) (before after : Outside) where
     learn_by out (Err (stop.PolicyRefused r)) meets =
         absurd (known_unrefused (Learn policy capture out) before policy known.bytes known.policy r refl known.told known.means (λ second e. cc e) meets.0)
     learn_by out (Err stop.UnknownAsset) meets = let none = meets.0.3 in cc
-    learn_by out (Err (stop.TooManyRules name)) meets = let has = meets.0.0.2.has_flows in to_its_end set.Plain policy capture known bytes told has.place has.ends
+    learn_by out (Err (stop.TooManyRules name)) meets = let has = meets.0.0.2.has_flows in to_its_end set.Plain (Learn policy capture out) policy capture known bytes told has.place has.ends
     learn_by out (Err _) meets = absurd meets.0.0
 
-  module _ (policy capture : List ℕ) (known : TellsPolicy (before.files.content policy)) (bytes : List ℕ) (told : before.files.content capture ≡ holds bytes) where
+  module _ (policy capture log : List ℕ) (known : TellsPolicy (before.files.content policy)) (bytes : List ℕ) (told : before.files.content capture ≡ holds bytes) where
     -- a review of a capture
-    remarks_end : (why : Denial) → Remarks policy capture before why → ToItsEnd set.Recorded policy capture known bytes told
-    remarks_end (denial.Remarks counts) o = let has = o.3.recorded in to_its_end set.Recorded policy capture known bytes told has.place has.ends
+    remarks_end : (why : Denial) → Remarks policy capture before why → ToItsEnd set.Recorded (Review policy capture log) policy capture known bytes told
+    remarks_end (denial.Remarks counts) o = let has = o.3.recorded in to_its_end set.Recorded (Review policy capture log) policy capture known bytes told has.place has.ends
     remarks_end _ o = absurd o
 
-    review_end : (log : List ℕ) (d : Done) → DoesReview policy capture log before after d → ToItsEnd set.Recorded policy capture known bytes told
-    review_end log (done.Reviewed counts) m =
+    review_end : (d : Done) → DoesReview policy capture log before after d → ToItsEnd set.Recorded (Review policy capture log) policy capture known bytes told
+    review_end (done.Reviewed counts) m =
         let h : HoldsReview policy capture log before after = m.0.holds in
-        let has = h.has.recorded in to_its_end set.Recorded policy capture known bytes told has.place has.ends
-    review_end log d m = absurd m
+        let has = h.has.recorded in to_its_end set.Recorded (Review policy capture log) policy capture known bytes told has.place has.ends
+    review_end d m = absurd m
 
-    review_by : (log : List ℕ) (r : Result Done Stop) → Meets (Review policy capture log) before after r → WatchedBy set.Recorded policy capture known bytes told r
-    review_by log (Ok d) meets = review_end log d meets
-    review_by log (Err (stop.CaptureRefused r)) meets = subst (λ f. ReviewRefuses f r) told meets.0.0
-    review_by log (Err (stop.CaptureCut place)) meets = subst (λ f. ReviewCuts f place) told meets.0.0
-    review_by log (Err stop.ReadFault) meets = meets.0
-    review_by log (Err stop.WriteFault) meets = meets.0.0
-    review_by log (Err stop.NoMemory) meets = tt
-    review_by log (Err (stop.PolicyRefused r)) meets =
+    review_by : (r : Result Done Stop) → Meets (Review policy capture log) before after r → WatchedBy set.Recorded (Review policy capture log) policy capture known bytes told r
+    review_by (Ok d) meets = review_end d meets
+    review_by (Err (stop.CaptureRefused r)) meets = subst (λ f. ReviewRefuses f r) told meets.0.0
+    review_by (Err (stop.CaptureCut place)) meets = subst (λ f. ReviewCuts f place) told meets.0.0
+    review_by (Err stop.ReadFault) meets = meets.0
+    review_by (Err stop.WriteFault) meets = meets.0.0
+    review_by (Err stop.NoMemory) meets = tt
+    review_by (Err (stop.PolicyRefused r)) meets =
         absurd (known_unrefused (Review policy capture log) before policy known.bytes known.policy r refl known.told known.means (λ second e. cc e) meets.0)
-    review_by log (Err stop.UnknownAsset) meets = let none = meets.0.3 in cc
-    review_by log (Err (stop.Denied why)) meets = remarks_end why meets.0.0
-    review_by log (Err _) meets = absurd meets.0.0
+    review_by (Err stop.UnknownAsset) meets = let none = meets.0.3 in cc
+    review_by (Err (stop.Denied why)) meets = remarks_end why meets.0.0
+    review_by (Err _) meets = absurd meets.0.0
 
   -- ---- a line a command that reads a capture
 
-  pub capture_from : (c : Command) → TellsRefusedCapture c before → (r : Result Done Stop) → Meets c before after r → IsOf r failed status → DueBehind 6
+  pub capture_from : (c : Command) → TellsRefusedCapture c before → (r : Result Done Stop) → Meets c before after r → IsOf r failed status → DueBehind c 6
   capture_from (Packets capture) t r meets h =
-      refused_due (EndsAt HasListedRecords (holds t.bytes)) (Refuses HasListedRecords (holds t.bytes)) (ends_refused set.Plain HasListedRecords t.bytes (listing_once set.Plain t.bytes)) (listing_apart set.Plain t.bytes)
+      refused_due (Packets capture) (EndsAt HasListedRecords (holds t.bytes)) (Refuses HasListedRecords (holds t.bytes)) (ends_refused set.Plain HasListedRecords t.bytes (listing_once set.Plain t.bytes)) (listing_apart set.Plain t.bytes)
       t.refusal t.refuses.0 r (listing_by capture t.bytes t.told r meets) h
   capture_from (Run policy names) (known, t) r meets h =
-      refused_due (EndsAt HasRunRecords (holds t.bytes)) (Refuses HasRunRecords (holds t.bytes)) (ends_refused set.Plain HasRunRecords t.bytes (run_once t.bytes)) (run_apart t.bytes)
+      refused_due (Run policy names) (EndsAt HasRunRecords (holds t.bytes)) (Refuses HasRunRecords (holds t.bytes)) (ends_refused set.Plain HasRunRecords t.bytes (run_once t.bytes)) (run_apart t.bytes)
       t.refusal t.refuses r (run_by policy names known t.bytes t.told r meets) h
   capture_from (Judge policy capture) (known, t) r meets h =
-      watched_refused set.Plain policy capture known t.bytes t.told t.refusal t.refuses r (judge_by policy capture known t.bytes t.told r meets) h
+      watched_refused set.Plain (Judge policy capture) policy capture known t.bytes t.told t.refusal t.refuses r (judge_by policy capture known t.bytes t.told r meets) h
   capture_from (Review policy capture log) (known, t) r meets h =
-      watched_refused set.Recorded policy capture known t.bytes t.told t.refusal t.refuses r (review_by policy capture known t.bytes t.told log r meets) h
+      watched_refused set.Recorded (Review policy capture log) policy capture known t.bytes t.told t.refusal t.refuses r (review_by policy capture log known t.bytes t.told r meets) h
   capture_from (Learn policy capture out) (known, t) r meets h =
-      watched_refused set.Plain policy capture known t.bytes t.told t.refusal t.refuses r (learn_by policy capture known t.bytes t.told out r meets) h
+      watched_refused set.Plain (Learn policy capture out) policy capture known t.bytes t.told t.refusal t.refuses r (learn_by policy capture known t.bytes t.told out r meets) h
   capture_from c t r meets h = absurd t
 
-  pub capture_cut_from : (c : Command) → TellsCutCapture c before → (r : Result Done Stop) → Meets c before after r → IsOf r failed status → DueBehind 7
+  pub capture_cut_from : (c : Command) → TellsCutCapture c before → (r : Result Done Stop) → Meets c before after r → IsOf r failed status → DueBehind c 7
   capture_cut_from (Packets capture) t r meets h =
-      cut_due (EndsAt HasListedRecords (holds t.bytes)) (Refuses HasListedRecords (holds t.bytes)) (ends_refused set.Plain HasListedRecords t.bytes (listing_once set.Plain t.bytes)) (listing_apart set.Plain t.bytes)
+      cut_due (Packets capture) (EndsAt HasListedRecords (holds t.bytes)) (Refuses HasListedRecords (holds t.bytes)) (ends_refused set.Plain HasListedRecords t.bytes (listing_once set.Plain t.bytes)) (listing_apart set.Plain t.bytes)
       t.place t.cuts r (listing_by capture t.bytes t.told r meets) h
   capture_cut_from (Run policy names) (known, t) r meets h =
-      cut_due (EndsAt HasRunRecords (holds t.bytes)) (Refuses HasRunRecords (holds t.bytes)) (ends_refused set.Plain HasRunRecords t.bytes (run_once t.bytes)) (run_apart t.bytes)
+      cut_due (Run policy names) (EndsAt HasRunRecords (holds t.bytes)) (Refuses HasRunRecords (holds t.bytes)) (ends_refused set.Plain HasRunRecords t.bytes (run_once t.bytes)) (run_apart t.bytes)
       t.place t.cuts r (run_by policy names known t.bytes t.told r meets) h
   capture_cut_from (Judge policy capture) (known, t) r meets h =
-      watched_cut set.Plain policy capture known t.bytes t.told t.place t.cuts r (judge_by policy capture known t.bytes t.told r meets) h
+      watched_cut set.Plain (Judge policy capture) policy capture known t.bytes t.told t.place t.cuts r (judge_by policy capture known t.bytes t.told r meets) h
   capture_cut_from (Review policy capture log) (known, t) r meets h =
-      watched_cut set.Recorded policy capture known t.bytes t.told t.place t.cuts r (review_by policy capture known t.bytes t.told log r meets) h
+      watched_cut set.Recorded (Review policy capture log) policy capture known t.bytes t.told t.place t.cuts r (review_by policy capture log known t.bytes t.told r meets) h
   capture_cut_from (Learn policy capture out) (known, t) r meets h =
-      watched_cut set.Plain policy capture known t.bytes t.told t.place t.cuts r (learn_by policy capture known t.bytes t.told out r meets) h
+      watched_cut set.Plain (Learn policy capture out) policy capture known t.bytes t.told t.place t.cuts r (learn_by policy capture known t.bytes t.told out r meets) h
   capture_cut_from c t r meets h = absurd t

@@ -1,5 +1,6 @@
 -- The answer of a listing, as the answer of the command.
-use Rattle.std.proofs.Common.{◌≡◌, ◌≢◌, ℕ, List, Option, Result, Ok, Err, refl, ap, subst, inl, inr, arith}
+use Rattle.std.proofs.Common.{◌≡◌, ◌≢◌, ℕ, List, Option, Result, Ok, Err, refl, ap, subst, inl, inr}
+use Rattle.cf_outside.specs.Faults.{Rose}
 use Rattle.cf_outside.specs.Files.{Content}
 use Rattle.cf_records.specs.Capture.{AtPlace, Large, LastPlace, Record, Refused, TooLong}
 use Rattle.cf_records.specs.Reader.{HasFormIn, OpensAs}
@@ -27,6 +28,7 @@ use Rattle.cf_ending.specs.declared.CaptureRefusal.TheVariants as refusal
 use Rattle.cf_ending.specs.declared.Done.{Done}
 use Rattle.cf_ending.specs.declared.Stop.{Stop}
 use Rattle.cf_ending.specs.declared.Stop.TheVariants as stop
+use Rattle.cf_box.proofs.Reading.{since_read}
 
 -- a header that is refused refuses the capture, and so does a block
 pub form_refuses : (kinds : LinkSet) (Has : Content → Form → List Record → LastPlace → Type 0) (file : Content) (of : FormRefusal) →
@@ -70,8 +72,8 @@ module _ (file : List ℕ) (before after : Outside) (content : after.files.conte
   passes_none : PassesPolicy (Packets file) before
   passes_none = record { policy = λ file e. cc e; other = λ file e. cc e; asset = λ other name e f. cc e }
 
-  stops : (s : Stop) → (s ≡ stop.ReadFault → ReadFailed before after) → ListsFile capture before.sink after.sink (Err s) → StopsFor (Packets file) before after s
-  stops stop.ReadFault read l = read refl
+  stops : (s : Stop) → (s ≡ stop.ReadFault → Rose (before.files.read_faults file) (after.files.read_faults file)) → ListsFile capture before.sink after.sink (Err s) → StopsFor (Packets file) before after s
+  stops stop.ReadFault read l = inl (read refl)
   stops stop.WriteFault read l = (inr l.answers.0, passes_none)
   stops (stop.CaptureRefused refusal.TooLong) read l = (((l.last.place, listed_to TooLong l l.answers.0), λ e. cc e), passes_none)
   stops (stop.CaptureRefused refusal.Large) read l = (((l.last.place, listed_to Large l l.answers.0), λ e. cc e), passes_none)
@@ -86,17 +88,17 @@ module _ (file : List ℕ) (before after : Outside) (content : after.files.conte
   stops (stop.CaptureRefused why) read l = absurd l.answers
   stops s read l = absurd l.answers
 
-  pub listing_meets : (r : Result Done Stop) → (r ≡ Err stop.ReadFault → ReadFailed before after) → ListsFile capture before.sink after.sink r → Meets (Packets file) before after r
+  pub listing_meets : (r : Result Done Stop) → (r ≡ Err stop.ReadFault → Rose (before.files.read_faults file) (after.files.read_faults file)) → ListsFile capture before.sink after.sink r → Meets (Packets file) before after r
   listing_meets (Ok d) read l = record { lists = l; content = content; pair = pair }
   listing_meets (Err s) read l = (stops s (λ e. read (ap Err e)) l, record { lines = inr l; content = content; pair = pair })
 
   -- the capture was not opened
-  unopened : (fault : OpenFault) → (fault ≡ opened.Read → ReadFailed before after) → OpensAs capture (Err fault) → StopsFor (Packets file) before after (open_stop fault)
+  unopened : (fault : OpenFault) → (fault ≡ opened.Read → Rose (before.files.read_faults file) (after.files.read_faults file)) → OpensAs capture (Err fault) → StopsFor (Packets file) before after (open_stop fault)
   unopened opened.NoMemory read h = tt
-  unopened opened.Read read h = read refl
+  unopened opened.Read read h = inl (read refl)
   unopened (opened.Refused of) read h = ((form_refuses set.Plain HasListedRecords capture of h, (form_apart of).0), passes_none)
 
-  pub closed_meets : (fault : OpenFault) → (fault ≡ opened.Read → ReadFailed before after) → OpensAs capture (Err fault) → after.sink ≡ before.sink → Meets (Packets file) before after (Err (open_stop fault))
+  pub closed_meets : (fault : OpenFault) → (fault ≡ opened.Read → Rose (before.files.read_faults file) (after.files.read_faults file)) → OpensAs capture (Err fault) → after.sink ≡ before.sink → Meets (Packets file) before after (Err (open_stop fault))
   closed_meets fault read h same = (
     unopened fault read h,
     record { lines = inl (record { fault = fault; opens = h; stops = refl; sink = same }); content = content; pair = pair },
@@ -112,10 +114,11 @@ not_a_write _ e = cc e
 -- it is why a command stops that reads the capture after its policy
 module _ (c : Command) (before after : Outside) (capture : List ℕ) (kinds : LinkSet)
     (refuses : (r : CaptureRefusal) → WatchRefusesIn kinds (before.files.content capture) r → RefusesCapture c before r)
-    (cuts : (place : ℕ) → WatchCutsIn kinds (before.files.content capture) place → CutsCapture c before place) (passes : PassesPolicy c before) where
-  unwatched_by : (f : WatchFault) → (f ≡ fault.Read → ReadFailed before after) → FailsAs kinds (before.files.content capture) f → StopsFor c before after (fault_stop f)
+    (cuts : (place : ℕ) → WatchCutsIn kinds (before.files.content capture) place → CutsCapture c before place)
+    (reads : Rose (before.files.read_faults capture) (after.files.read_faults capture) → ReadFailed c before after) (passes : PassesPolicy c before) where
+  unwatched_by : (f : WatchFault) → (f ≡ fault.Read → Rose (before.files.read_faults capture) (after.files.read_faults capture)) → FailsAs kinds (before.files.content capture) f → StopsFor c before after (fault_stop f)
   unwatched_by fault.NoMemory read w = tt
-  unwatched_by fault.Read read w = read refl
+  unwatched_by fault.Read read w = reads (read refl)
   unwatched_by (fault.Cut place) read w = (cuts place w, passes)
   unwatched_by (fault.Refused watch.Long) read w = (refuses refusal.Long (inl (refl, w)), passes)
   unwatched_by (fault.Refused watch.TooLong) read w =
@@ -127,7 +130,8 @@ module _ (c : Command) (before after : Outside) (capture : List ℕ) (kinds : Li
       let refused = block_refuses kinds HasListedRecords (before.files.content capture) of (w.0, listed kinds _ (Refused of) w.0 w.1) in
       (refuses (block_refusal of) (inr (record { short = w.1.short; refuses = refused; no_clock = (block_apart of).0; no_large = (block_apart of).1 })), passes)
 
-  pub unwatched : (middle : Outside) → ReadsOnly before.files middle.files → (f : WatchFault) → (f ≡ fault.Read → ReadFailed middle after) →
+  pub unwatched : {names : List (List ℕ)} (middle : Outside) → ReadsOnly names before.files middle.files → (f : WatchFault) →
+      (f ≡ fault.Read → Rose (middle.files.read_faults capture) (after.files.read_faults capture)) →
       FailsAs kinds (middle.files.content capture) f → StopsFor c before after (fault_stop f)
   unwatched middle only f read w =
-      unwatched_by f (λ e. let rose = read e in omega (arith, rose, only.reads)) (subst (λ k. FailsAs kinds (k capture) f) only.content w)
+      unwatched_by f (λ e. since_read before.files middle.files after.files only capture (read e)) (subst (λ k. FailsAs kinds (k capture) f) only.content w)

@@ -1,5 +1,5 @@
 -- What is said of two policies, as the answer of the command.
-use Rattle.std.proofs.Common.{◌≡◌, ℕ, List, Result, Ok, Err, refl, subst, ◌∙◌, inl, inr, arith}
+use Rattle.std.proofs.Common.{◌≡◌, ℕ, List, [], ◌∷◌, Result, Ok, Err, refl, subst, ◌∙◌, inl, inr}
 use Rattle.cf_policy.specs.declared.Policy.{Policy}
 use Rattle.cf_box.specs.Check.{ChangesNothing}
 use Rattle.cf_words.specs.Command.{Check, Compare}
@@ -10,16 +10,18 @@ use Rattle.cf_box.specs.PolicyFile.{HasPolicy, IsRefusedBy, StopsPolicy}
 use Rattle.cf_ending.specs.declared.Done.{Done}
 use Rattle.cf_ending.specs.declared.Stop.{Stop}
 use Rattle.cf_ending.specs.declared.Stop.TheVariants as stop
+use Rattle.cf_box.proofs.Reading.{since_read}
 
 module _ (policy other : List ℕ) (before middle after : Outside) (ours : Policy) (has : HasPolicy (before.files.content policy) ours)
-    (first : ReadsOnly before.files middle.files) (second : ReadsOnly middle.files after.files) (sink : after.sink ≡ before.sink)
+    (first : ReadsOnly (policy ∷ []) before.files middle.files) (second : ReadsOnly (other ∷ []) middle.files after.files) (sink : after.sink ≡ before.sink)
     (pair : after.pair ≡ before.pair) where
   same : ChangesNothing before after
   same = record { content = second.content ∙ first.content; sink = sink; pair = pair }
 
   -- the second policy was not read
   pub other_stops : (s : Stop) → StopsPolicy s → StopsFor (Check other) middle after s → Meets (Compare policy other) before after (Err s)
-  other_stops stop.ReadFault early h = (omega (arith, h, first.reads), record { unwritten = λ e. cc e; same = same })
+  other_stops stop.ReadFault early (inl rose) = (inr (inl (since_read before.files middle.files after.files first other rose)), record { unwritten = λ e. cc e; same = same })
+  other_stops stop.ReadFault early (inr never) = absurd never
   other_stops (stop.PolicyRefused r) early (inl cause) =
       let e = cause.1 in
       let here : cause.0 ≡ other = cc in

@@ -243,7 +243,7 @@ asked_is_room (Learn policy capture out) before name asked d = asked name d
 asked_is_room c before name asked d = absurd d
 
 module _ (c : Command) (before middle : Outside) (failed : Type 0) (status : ℕ) (input : HasInput c before middle)
-    (reads : ReadFailed before middle → ⊥) (writes : WriteFailed before middle → ⊥) (links : LinkFails c before middle.pair → ⊥) (puts : failed → ⊥) where
+    (reads : ReadFailed c before middle → ⊥) (writes : WriteFailed before middle → ⊥) (links : LinkFails c before middle.pair → ⊥) (puts : failed → ⊥) where
   in_form : EndsInForm c before
   in_form = ends_in_form c before input.capture input.made
 

@@ -78,8 +78,8 @@ found_asset file name t a finds =
 
 module _ (failed : Type 0) (status : ℕ) (before after : Outside) where
   -- the status that is due, or one of those to which it yields
-  abbrev Due : ℕ → Type 0
-  Due n = (status ≡ n) ⊎ (((status ≡ 3) × ReadFailed before after) ⊎ (status ≡ 13))
+  abbrev Due : Command → ℕ → Type 0
+  Due c n = (status ≡ n) ⊎ (((status ≡ 3) × ReadFailed c before after) ⊎ (status ≡ 13))
 
   module _ (c : Command) (t : TellsNoPolicy c before) where
     no_policy : (p : Policy) → HasPolicy (before.files.content t.file) p → ⊥
@@ -102,7 +102,7 @@ module _ (failed : Type 0) (status : ℕ) (before after : Outside) where
     not_lacked : LacksAsset c before → ⊥
     not_lacked cause = elim t.needs [ inl e ↦ lacking_in cause e | inr e ↦ one_policy c t.file cause.1 e cause.3 ]
 
-    refused_from : (r : Result Done Stop) → Meets c before after r → IsOf r failed status → Due 5
+    refused_from : (r : Result Done Stop) → Meets c before after r → IsOf r failed status → Due c 5
     refused_from (Ok d) meets h = absurd (not_passed (does_pass before after c d meets))
     refused_from (Err stop.ReadFault) meets h = inr (inl (stop_is failed status stop.ReadFault h, meets.0))
     refused_from (Err stop.NoMemory) meets h = inr (inr (stop_is failed status stop.NoMemory h))
@@ -119,7 +119,7 @@ module _ (failed : Type 0) (status : ℕ) (before after : Outside) where
         let some = found.2.1 in
         cc
 
-    unknown_from : (r : Result Done Stop) → Meets c before after r → IsOf r failed status → Due 10
+    unknown_from : (r : Result Done Stop) → Meets c before after r → IsOf r failed status → Due c 10
     unknown_from (Ok d) meets h = absurd (not_found (does_pass before after c d meets))
     unknown_from (Err stop.ReadFault) meets h = inr (inl (stop_is failed status stop.ReadFault h, meets.0))
     unknown_from (Err stop.NoMemory) meets h = inr (inr (stop_is failed status stop.NoMemory h))
@@ -140,7 +140,7 @@ module _ (failed : Type 0) (status : ℕ) (before after : Outside) where
         let none = taken.is_cut in
         cc
 
-    cut_from : (r : Result Done Stop) → Meets (Sift file name client names) before after r → IsOf r failed status → DueBehind failed status before after 12
+    cut_from : (r : Result Done Stop) → Meets (Sift file name client names) before after r → IsOf r failed status → DueBehind failed status before after (Sift file name client names) 12
     cut_from (Ok d) meets h = absurd (not_uncut meets.takes)
     cut_from (Err stop.ReadFault) meets h = inr (inr (inl (stop_is failed status stop.ReadFault h, meets.0)))
     cut_from (Err stop.NoMemory) meets h = inr (inr (inr (stop_is failed status stop.NoMemory h)))
@@ -191,7 +191,7 @@ module _ (failed : Type 0) (status : ℕ) (before after : Outside) where
     not_cut_stop reason cut s kind late (inr l) = not_cut reason cut (Err s) kind l.0 l.1 l.2
 
     relay_cut_from : (reason : CutReason) → cut_at t.known.asset t.answers t.judged ≡ Some reason → (r : Result Done Stop) →
-        Meets (Relay file name port idles log) before after r → IsOf r failed status → DueBehind failed status before after 12
+        Meets (Relay file name port idles log) before after r → IsOf r failed status → DueBehind failed status before after (Relay file name port idles log) 12
     relay_cut_from reason cut (Ok d) meets h = absurd (not_cut reason cut (Ok d) tt meets.0 meets.1 meets.2)
     relay_cut_from reason cut (Err stop.ReadFault) meets h = inr (inr (inl (stop_is failed status stop.ReadFault h, meets.0)))
     relay_cut_from reason cut (Err stop.NoMemory) meets h = inr (inr (inr (stop_is failed status stop.NoMemory h)))
@@ -212,7 +212,7 @@ module _ (failed : Type 0) (status : ℕ) (before after : Outside) where
         omega (arith, few, idle, ap idle_run same)
 
     relay_idle_from : cut_at t.known.asset t.answers t.judged ≡ None → idle_run t.answers ≡ 2 * idles → (r : Result Done Stop) →
-        Meets (Relay file name port idles log) before after r → IsOf r failed status → DueBehind failed status before after 9
+        Meets (Relay file name port idles log) before after r → IsOf r failed status → DueBehind failed status before after (Relay file name port idles log) 9
     relay_idle_from uncut idle (Ok d) meets h = absurd (not_idle idle (Ok d) tt meets.0 meets.1 meets.2)
     relay_idle_from uncut idle (Err stop.ReadFault) meets h = inr (inr (inl (stop_is failed status stop.ReadFault h, meets.0)))
     relay_idle_from uncut idle (Err stop.NoMemory) meets h = inr (inr (inr (stop_is failed status stop.NoMemory h)))
@@ -230,19 +230,19 @@ module _ (failed : Type 0) (status : ℕ) (before after : Outside) where
     relay_idle_from uncut idle (Err _) meets h = absurd meets.0.0
 
   -- answers that end in too many Idle: a line a command
-  idle_from : HasOneJudgement → (c : Command) → TellsIdle c before after.pair → (r : Result Done Stop) → Meets c before after r → IsOf r failed status → DueBehind failed status before after 9
+  idle_from : HasOneJudgement → (c : Command) → TellsIdle c before after.pair → (r : Result Done Stop) → Meets c before after r → IsOf r failed status → DueBehind failed status before after c 9
   idle_from law (Relay policy asset port idles log) t r meets h = relay_idle_from law policy asset port idles log t.0 t.1 t.2 r meets h
   idle_from law _ t r meets h = absurd t
 
   -- a stream that is cut: a line a command
-  stream_from : HasOneCut → HasOneJudgement → (c : Command) → TellsCut c before after.pair → (r : Result Done Stop) → Meets c before after r → IsOf r failed status → DueBehind failed status before after 12
+  stream_from : HasOneCut → HasOneJudgement → (c : Command) → TellsCut c before after.pair → (r : Result Done Stop) → Meets c before after r → IsOf r failed status → DueBehind failed status before after c 12
   stream_from one judgement (Relay policy asset port idles log) t r meets h = relay_cut_from judgement policy asset port idles log t.0 t.1.0 t.1.1 r meets h
   stream_from one judgement (Sift policy asset client names) t r meets h = cut_from one policy asset client names t r meets h
   stream_from one judgement _ t r meets h = absurd t
 
   -- what is due where the first of two policies is not included in the second
-  abbrev DueDenied : Type 0
-  DueDenied = ((status ≡ 15) ⊎ (status ≡ 17)) ⊎ (((status ≡ 3) × ReadFailed before after) ⊎ (status ≡ 13))
+  abbrev DueDenied : Command → Type 0
+  DueDenied c = ((status ≡ 15) ⊎ (status ≡ 17)) ⊎ (((status ≡ 3) × ReadFailed c before after) ⊎ (status ≡ 13))
 
   module _ (policy second : List ℕ) (t : TellsNotIncluded policy second before) where
     not_included : OfPolicies policy second before IsIncluded → ⊥
@@ -264,7 +264,7 @@ module _ (failed : Type 0) (status : ℕ) (before after : Outside) where
         (subst (λ f. IsRefusedBy (before.files.content f) r) here cause.4.2)
     both_mean r (inr (inr made)) = made
 
-    denied_from : (r : Result Done Stop) → Meets (Compare policy second) before after r → IsOf r failed status → DueDenied
+    denied_from : (r : Result Done Stop) → Meets (Compare policy second) before after r → IsOf r failed status → DueDenied (Compare policy second)
     denied_from (Ok d) meets h = absurd (not_included meets.includes)
     denied_from (Err stop.ReadFault) meets h = inr (inl (stop_is failed status stop.ReadFault h, meets.0))
     denied_from (Err stop.NoMemory) meets h = inr (inr (stop_is failed status stop.NoMemory h))
@@ -276,7 +276,7 @@ module _ (failed : Type 0) (status : ℕ) (before after : Outside) where
     denied_from (Err _) meets h = absurd meets.0.0
 
   module _ (policy capture : List ℕ) (t : TellsObjection policy capture before) where
-    objection_from : (r : Result Done Stop) → Meets (Judge policy capture) before after r → IsOf r failed status → DueDenied
+    objection_from : (r : Result Done Stop) → Meets (Judge policy capture) before after r → IsOf r failed status → DueDenied (Judge policy capture)
     objection_from (Ok d) meets h = absurd (t.not_clean d meets.keeps)
     objection_from (Err stop.ReadFault) meets h = inr (inl (stop_is failed status stop.ReadFault h, meets.0))
     objection_from (Err stop.NoMemory) meets h = inr (inr (stop_is failed status stop.NoMemory h))
@@ -293,7 +293,7 @@ module _ (failed : Type 0) (status : ℕ) (before after : Outside) where
     clean_of : (counts : Counts) → DoesReview policy capture log before after (done.Reviewed counts) → NothingRemarked policy capture before
     clean_of counts m = let h : HoldsReview policy capture log before after = m.0.holds in (h.known, h.stamps, h.reviewed, h.has, m.1)
 
-    remark_from : (r : Result Done Stop) → Meets (Review policy capture log) before after r → IsOf r failed status → DueBehind failed status before after 15
+    remark_from : (r : Result Done Stop) → Meets (Review policy capture log) before after r → IsOf r failed status → DueBehind failed status before after (Review policy capture log) 15
     remark_from (Ok (done.Reviewed counts)) meets h = absurd (t.not_clean (clean_of counts meets))
     remark_from (Ok d) meets h = absurd meets
     remark_from (Err stop.ReadFault) meets h = inr (inr (inl (stop_is failed status stop.ReadFault h, meets.0)))
@@ -307,12 +307,12 @@ module _ (failed : Type 0) (status : ℕ) (before after : Outside) where
     remark_from (Err (stop.Denied why)) meets h = inl (stop_is failed status (stop.Denied why) h)
     remark_from (Err _) meets h = absurd meets.0.0
 
-  remarked_from : (c : Command) → TellsRemarks c before → (r : Result Done Stop) → Meets c before after r → IsOf r failed status → DueBehind failed status before after 15
+  remarked_from : (c : Command) → TellsRemarks c before → (r : Result Done Stop) → Meets c before after r → IsOf r failed status → DueBehind failed status before after c 15
   remarked_from (Review policy capture log) t r meets h = remark_from policy capture log t r meets h
   remarked_from c t r meets h = absurd t
 
   module _ (policy capture out : List ℕ) (t : TellsTooMuch policy capture before) where
-    rules_from : (r : Result Done Stop) → Meets (Learn policy capture out) before after r → IsOf r failed status → Due 16
+    rules_from : (r : Result Done Stop) → Meets (Learn policy capture out) before after r → IsOf r failed status → Due (Learn policy capture out) 16
     rules_from (Ok d) meets h = absurd (t.none_learned meets.holds.learned meets.holds.learns)
     rules_from (Err stop.ReadFault) meets h = inr (inl (stop_is failed status stop.ReadFault h, meets.0))
     rules_from (Err stop.NoMemory) meets h = inr (inr (stop_is failed status stop.NoMemory h))
@@ -325,50 +325,50 @@ module _ (failed : Type 0) (status : ℕ) (before after : Outside) where
     rules_from (Err (stop.TooManyRules name)) meets h = inl (stop_is failed status (stop.TooManyRules name) h)
     rules_from (Err _) meets h = absurd meets.0.0
 
-  too_many_from : (c : Command) → TellsTooManyRules c before → (r : Result Done Stop) → Meets c before after r → IsOf r failed status → Due 16
+  too_many_from : (c : Command) → TellsTooManyRules c before → (r : Result Done Stop) → Meets c before after r → IsOf r failed status → Due c 16
   too_many_from (Learn policy capture out) t r meets h = rules_from policy capture out t r meets h
   too_many_from c t r meets h = absurd t
 
   -- what is asked and is not so: a line a command that asks
-  asked_from : (c : Command) → TellsDenial c before → (r : Result Done Stop) → Meets c before after r → IsOf r failed status → DueDenied
+  asked_from : (c : Command) → TellsDenial c before → (r : Result Done Stop) → Meets c before after r → IsOf r failed status → DueDenied c
   asked_from (Compare policy second) t r meets h = denied_from policy second t r meets h
   asked_from (Judge policy capture) t r meets h = objection_from policy capture t r meets h
   asked_from c t r meets h = absurd t
 
 -- what is due at the answer is due at the end
-later : (due : Type 0) (status : ℕ) (before middle after : Outside) → (ReadFailed before middle → ReadFailed before after) →
-    due ⊎ (((status ≡ 3) × ReadFailed before middle) ⊎ (status ≡ 13)) → due ⊎ (((status ≡ 3) × ReadFailed before after) ⊎ (status ≡ 13))
-later due status before middle after rise (inl h) = inl h
-later due status before middle after rise (inr (inl h)) = inr (inl (h.0, rise h.1))
-later due status before middle after rise (inr (inr h)) = inr (inr h)
+later : (c : Command) (due : Type 0) (status : ℕ) (before middle after : Outside) → (ReadFailed c before middle → ReadFailed c before after) →
+    due ⊎ (((status ≡ 3) × ReadFailed c before middle) ⊎ (status ≡ 13)) → due ⊎ (((status ≡ 3) × ReadFailed c before after) ⊎ (status ≡ 13))
+later c due status before middle after rise (inl h) = inl h
+later c due status before middle after rise (inr (inl h)) = inr (inl (h.0, rise h.1))
+later c due status before middle after rise (inr (inr h)) = inr (inr h)
 
-later_written : (failed : Type 0) (status n : ℕ) (before middle after : Outside) → (ReadFailed before middle → ReadFailed before after) →
-    (WriteFailed before middle ⊎ failed → WriteFailed before after) → DueBehind failed status before middle n →
-    (status ≡ n) ⊎ (((status ≡ 4) × WriteFailed before after) ⊎ (((status ≡ 3) × ReadFailed before after) ⊎ (status ≡ 13)))
-later_written failed status n before middle after rise wrote (inl h) = inl h
-later_written failed status n before middle after rise wrote (inr (inl h)) = inr (inl (h.0, wrote h.1))
-later_written failed status n before middle after rise wrote (inr (inr (inl h))) = inr (inr (inl (h.0, rise h.1)))
-later_written failed status n before middle after rise wrote (inr (inr (inr h))) = inr (inr (inr h))
+later_written : (c : Command) (failed : Type 0) (status n : ℕ) (before middle after : Outside) → (ReadFailed c before middle → ReadFailed c before after) →
+    (WriteFailed before middle ⊎ failed → WriteFailed before after) → DueBehind failed status before middle c n →
+    (status ≡ n) ⊎ (((status ≡ 4) × WriteFailed before after) ⊎ (((status ≡ 3) × ReadFailed c before after) ⊎ (status ≡ 13)))
+later_written c failed status n before middle after rise wrote (inl h) = inl h
+later_written c failed status n before middle after rise wrote (inr (inl h)) = inr (inl (h.0, wrote h.1))
+later_written c failed status n before middle after rise wrote (inr (inr (inl h))) = inr (inr (inl (h.0, rise h.1)))
+later_written c failed status n before middle after rise wrote (inr (inr (inr h))) = inr (inr (inr h))
 
 pub exact_told : HasOneCut → HasOneJudgement → RecordsHaveOneJudgement → {c : Command} {before after : Outside} {status : ℕ} (e : Explains c before after status) → IsExact c before after status
 exact_told one law once {c = c} {before = before} {after = after} {status = status} e = record {
-  refused = λ t. later (status ≡ 5) status before e.middle after (read_failed e)
+  refused = λ t. later c (status ≡ 5) status before e.middle after (read_failed e)
       (refused_from (Unprinted e) status before e.middle c t e.r e.meets (explained e));
-  unknown = λ t. later (status ≡ 10) status before e.middle after (read_failed e)
+  unknown = λ t. later c (status ≡ 10) status before e.middle after (read_failed e)
       (unknown_from (Unprinted e) status before e.middle c t e.r e.meets (explained e));
-  capture = λ t. later_written (Unprinted e) status 6 before e.middle after (read_failed e) (write_failed e)
+  capture = λ t. later_written c (Unprinted e) status 6 before e.middle after (read_failed e) (write_failed e)
       (capture_from (Unprinted e) status before e.middle c t e.r e.meets (explained e));
-  capture_cut = λ t. later_written (Unprinted e) status 7 before e.middle after (read_failed e) (write_failed e)
+  capture_cut = λ t. later_written c (Unprinted e) status 7 before e.middle after (read_failed e) (write_failed e)
       (capture_cut_from (Unprinted e) status before e.middle c t e.r e.meets (explained e));
-  cut = λ t. later_written (Unprinted e) status 12 before e.middle after (read_failed e) (write_failed e)
+  cut = λ t. later_written c (Unprinted e) status 12 before e.middle after (read_failed e) (write_failed e)
       (stream_from (Unprinted e) status before e.middle one law c (subst (λ p. TellsCut c before p) e.reports.pair t) e.r e.meets (explained e));
-  idle = λ t. later_written (Unprinted e) status 9 before e.middle after (read_failed e) (write_failed e)
+  idle = λ t. later_written c (Unprinted e) status 9 before e.middle after (read_failed e) (write_failed e)
       (idle_from (Unprinted e) status before e.middle law c (subst (λ p. TellsIdle c before p) e.reports.pair t) e.r e.meets (explained e));
-  remarked = λ t. later_written (Unprinted e) status 15 before e.middle after (read_failed e) (write_failed e)
+  remarked = λ t. later_written c (Unprinted e) status 15 before e.middle after (read_failed e) (write_failed e)
       (remarked_from (Unprinted e) status before e.middle c t e.r e.meets (explained e));
-  denied = λ t. later ((status ≡ 15) ⊎ (status ≡ 17)) status before e.middle after (read_failed e)
+  denied = λ t. later c ((status ≡ 15) ⊎ (status ≡ 17)) status before e.middle after (read_failed e)
       (asked_from (Unprinted e) status before e.middle c t e.r e.meets (explained e));
-  rules = λ t. later (status ≡ 16) status before e.middle after (read_failed e)
+  rules = λ t. later c (status ≡ 16) status before e.middle after (read_failed e)
       (too_many_from (Unprinted e) status before e.middle c t e.r e.meets (explained e));
   judgement = λ policy capture p judged is t h. judgement_told once e policy capture is t p judged h;
 }

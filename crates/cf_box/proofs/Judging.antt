@@ -1,5 +1,6 @@
 -- What is said of the flows of a capture, as the answer of the command.
-use Rattle.std.proofs.Common.{[], ◌∷◌, ◌<◌, length, slice_get, suc, zero, ◌≡◌, ◌≢◌, ℕ, List, Some, Result, Ok, Err, refl, subst, ◌∙◌, arith}
+use Rattle.std.proofs.Common.{[], ◌∷◌, ◌<◌, length, slice_get, suc, zero, ◌≡◌, ◌≢◌, ℕ, List, Some, Result, Ok, Err, refl, subst, ◌∙◌, arith, inl, inr}
+use Rattle.cf_outside.specs.Faults.{Rose}
 use Rattle.cf_policy.specs.declared.Asset.{Asset}
 use Rattle.cf_policy.specs.declared.Policy.{Policy}
 use Rattle.cf_watch.specs.FlowValue.{FlowValue}
@@ -12,7 +13,7 @@ use Rattle.cf_words.specs.Command.{Judge}
 use Rattle.cf_box.specs.Ends.{Meets, PassesPolicy}
 use Rattle.cf_box.specs.Judge.{SaysOfFlows}
 use Rattle.cf_box.specs.Watching.{HasWatched, fault_stop}
-use Rattle.cf_ending.specs.Outside.{Outside, ReadFailed, ReadsOnly}
+use Rattle.cf_ending.specs.Outside.{Outside, ReadsOnly}
 use Rattle.cf_box.specs.PolicyFile.{HasPolicy}
 use Rattle.cf_ending.specs.declared.Denial.TheVariants as denial
 use Rattle.cf_ending.specs.declared.Done.{Done}
@@ -28,7 +29,7 @@ asset_at (asset ∷ assets) zero below = (asset, refl)
 asset_at (asset ∷ assets) (suc place) below = asset_at assets place (omega (arith, below))
 
 module _ (policy capture : List ℕ) (before middle after : Outside) (p : Policy) (has : HasPolicy (before.files.content policy) p)
-    (first : ReadsOnly before.files middle.files) (kept : after.files.content ≡ middle.files.content) (sink : after.sink ≡ before.sink) (pair : after.pair ≡ before.pair) where
+    (first : ReadsOnly (policy ∷ []) before.files middle.files) (kept : after.files.content ≡ middle.files.content) (sink : after.sink ≡ before.sink) (pair : after.pair ≡ before.pair) where
   same : ChangesNothing before after
   same = record { content = kept ∙ first.content; sink = sink; pair = pair }
 
@@ -39,8 +40,8 @@ module _ (policy capture : List ℕ) (before middle after : Outside) (p : Policy
   leaves s other = record { unwritten = other; same = same }
 
   -- the capture was not watched to its end
-  pub watch_stops : (f : WatchFault) → WatchesAs p.assets (middle.files.content capture) (Err f) → (f ≡ fault.Read → ReadFailed middle after) → Meets (Judge policy capture) before after (Err (fault_stop f))
-  watch_stops f w r = (unwatched (Judge policy capture) before after capture set.Plain (λ r h. h) (λ place h. h) passes middle first f r w, leaves (fault_stop f) (not_a_write f))
+  pub watch_stops : (f : WatchFault) → WatchesAs p.assets (middle.files.content capture) (Err f) → (f ≡ fault.Read → Rose (middle.files.read_faults capture) (after.files.read_faults capture)) → Meets (Judge policy capture) before after (Err (fault_stop f))
+  watch_stops f w r = (unwatched (Judge policy capture) before after capture set.Plain (λ r h. h) (λ place h. h) (λ rose. inr (inl rose)) passes middle first f r w, leaves (fault_stop f) (not_a_write f))
 
   said : (flows : List FlowValue) → HasWatched policy capture before p flows → (r : Result Done Stop) → SaysOfFlows p flows r → Meets (Judge policy capture) before after r
   said flows w (Ok d) s = record { keeps = (p, flows, w, s); same = same }

@@ -1,7 +1,7 @@
 -- The answers of the watching of a capture, of what is learned from it and of its writing, as the answer of the command.
 use Rattle.std.proofs.Math.Seq.{get_or-append_seam}
 use Rattle.std.proofs.lemmas.Option.{slice_get_read}
-use Rattle.std.proofs.Common.{◌≡◌, ℕ, List, [], ◌∷◌, ◌++◌, length, slice_get, Some, Result, Ok, Err, refl, sym, ap, subst, ◌∙◌, inl, arith, length-append}
+use Rattle.std.proofs.Common.{◌≡◌, ℕ, List, [], ◌∷◌, ◌++◌, length, slice_get, Some, Result, Ok, Err, refl, sym, ap, subst, ◌∙◌, inl, inr, arith, length-append}
 use Rattle.cf_learn.specs.Assets.{IsFirstTooMany}
 use Rattle.cf_outside.specs.Faults.{Rose}
 use Rattle.cf_outside.specs.Files.{IsPartly, content_after_write}
@@ -18,7 +18,7 @@ use Rattle.cf_box.specs.Check.{ChangesNothing}
 use Rattle.cf_words.specs.Command.{Learn}
 use Rattle.cf_box.specs.Ends.{Meets, PassesPolicy}
 use Rattle.cf_box.specs.Learn.{IsLearned, LearnLeaves, Learns, LearnsAs, ShowTooMuch}
-use Rattle.cf_ending.specs.Outside.{Outside, ReadFailed, ReadsOnly}
+use Rattle.cf_ending.specs.Outside.{Outside, ReadsOnly}
 use Rattle.cf_box.specs.PolicyFile.{HasPolicy, WritesPolicy}
 use Rattle.cf_box.specs.Watching.{HasWatched, fault_stop}
 use Rattle.cf_ending.specs.declared.Done.{Done}
@@ -48,15 +48,15 @@ module _ (policy capture out : List ℕ) (before : Outside) (p : Policy) (has : 
   unwatched_leaves after (fault.Refused watch.Long) same = same
   unwatched_leaves after _ same = same
 
-  pub unwatched_meets : (middle after : Outside) → ReadsOnly before.files middle.files → after.files.content ≡ middle.files.content → after.sink ≡ before.sink →
-      after.pair ≡ before.pair → (f : WatchFault) → (f ≡ fault.Read → ReadFailed middle after) →
+  pub unwatched_meets : (middle after : Outside) → ReadsOnly (policy ∷ []) before.files middle.files → after.files.content ≡ middle.files.content → after.sink ≡ before.sink →
+      after.pair ≡ before.pair → (f : WatchFault) → (f ≡ fault.Read → Rose (middle.files.read_faults capture) (after.files.read_faults capture)) →
       WatchesAs p.assets (middle.files.content capture) (Err f) → Meets (Learn policy capture out) before after (Err (fault_stop f))
   unwatched_meets middle after only same sink pair f read w = (
-    unwatched (Learn policy capture out) before after capture set.Plain (λ r h. h) (λ place h. h) passes middle only f read w,
+    unwatched (Learn policy capture out) before after capture set.Plain (λ r h. h) (λ place h. h) (λ rose. inr (inl rose)) passes middle only f read w,
     unwatched_leaves after f (record { content = same ∙ only.content; sink = sink; pair = pair }),
   )
 
-  pub has_watched : (middle : Outside) (flows : List FlowValue) → ReadsOnly before.files middle.files → HasFlows p.assets (middle.files.content capture) flows →
+  pub has_watched : (middle : Outside) (flows : List FlowValue) → ReadsOnly (policy ∷ []) before.files middle.files → HasFlows p.assets (middle.files.content capture) flows →
       HasWatched policy capture before p flows
   has_watched middle flows only w = record { has_policy = has; has_flows = subst (λ c. HasFlows p.assets (c capture) flows) only.content w }
 
@@ -67,7 +67,7 @@ module _ (policy capture out : List ℕ) (before : Outside) (p : Policy) (has : 
     unlearned_meets after same stop.NoMemory l = (tt, same)
     unlearned_meets after same s l = absurd l
 
-    module _ (middle after : Outside) (learned : Policy) (is : IsLearned p flows learned) (only : ReadsOnly before.files middle.files)
+    module _ (middle after : Outside) (learned : Policy) (is : IsLearned p flows learned) (only : ReadsOnly (policy ∷ capture ∷ []) before.files middle.files)
         (others : KeepsOtherFiles (out ∷ []) middle.files.content after.files.content) (sink : after.sink ≡ before.sink) (pair : after.pair ≡ before.pair) where
       kept : KeepsOtherFiles (out ∷ []) before.files.content after.files.content
       kept = λ other none. others other none ∙ ap (λ f. f other) only.content

@@ -1,22 +1,23 @@
 mod CaptureExact
-pub mod CaptureStops
-pub mod Comparing
-pub mod Complete
-pub mod Exact
-pub mod Judging
-pub mod Kept
-pub mod Learning
-pub mod Listing
-pub mod Migrating
+mod CaptureStops
+mod Comparing
+mod Complete
+mod Exact
+mod Judging
+mod Kept
+mod Learning
+mod Listing
+mod Migrating
 mod OneJudgement
 mod Passing
-pub mod Recorded
-pub mod Relaying
-pub mod RunHolds
-pub mod Runs
-pub mod ServicePlaces
-pub mod Serving
-pub mod Sifting
-pub mod Statuses
-pub mod WorldHolds
-pub mod Worlds
+mod Reading
+mod Recorded
+mod Relaying
+mod RunHolds
+mod Runs
+mod ServicePlaces
+mod Serving
+mod Sifting
+mod Statuses
+mod WorldHolds
+mod Worlds

@@ -14,7 +14,7 @@ use Rattle.cf_ending.specs.declared.Stop.TheVariants as stop
 use Rattle.cf_box.proofs.Passing.{policy_passes}
 
 module _ (policy out : List ℕ) (before middle after : Outside) where
-  module _ (p : Policy) (has : HasPolicy (before.files.content policy) p) (only : ReadsOnly before.files middle.files)
+  module _ (p : Policy) (has : HasPolicy (before.files.content policy) p) (only : ReadsOnly (policy ∷ []) before.files middle.files)
       (others : KeepsOtherFiles (out ∷ []) middle.files.content after.files.content) (sink : after.sink ≡ before.sink) (pair : after.pair ≡ before.pair) where
     kept : KeepsOtherFiles (out ∷ []) before.files.content after.files.content
     kept = λ other none. others other none ∙ ap (λ f. f other) only.content

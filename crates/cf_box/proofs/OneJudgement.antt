@@ -64,7 +64,7 @@ module _ (law : RecordsHaveOneJudgement) (policy capture : List ℕ) (before : O
   one_judgement p q j k h g =
       (same_known q k g ∙ sym (same_known p j h), law t.known.policy.assets newest j k (of_records p j h) (of_records q k g))
 
-  module _ (failed : Type 0) (status : ℕ) (middle after : Outside) (rise : ReadFailed before middle → ReadFailed before after) (wrote : failed → WriteFailed before after)
+  module _ (failed : Type 0) (status : ℕ) (middle after : Outside) (rise : ReadFailed (Judge policy capture) before middle → ReadFailed (Judge policy capture) before after) (wrote : failed → WriteFailed before after)
       (p : Policy) (j : Judgement) (mine : HasJudgement policy capture before p j) where
     none_of : (d : Done) → JudgesClean policy capture before middle d → j.objection ≡ None
     none_of d m =
@@ -72,7 +72,7 @@ module _ (law : RecordsHaveOneJudgement) (policy capture : List ℕ) (before : O
         let same = one_judgement p m.keeps.0 j no.judged mine (record { flows = m.keeps.1; watched = m.keeps.2; judges = no.judges }) in
         ap (λ (x : Judgement). x.objection) same.1 ∙ no.clean
 
-    said_from : (r : Result Done Stop) → Meets (Judge policy capture) before middle r → Reports r middle after status → IsOf r failed status → SaysOfJudgement p j before after status
+    said_from : (r : Result Done Stop) → Meets (Judge policy capture) before middle r → Reports r middle after status → IsOf r failed status → SaysOfJudgement (Judge policy capture) p j before after status
     said_from (Ok d) m reports (inl e) = has_none (none_of d m) (inl e)
     said_from (Ok d) m reports (inr e) = has_none (none_of d m) (inr (e.0, wrote e.1))
     said_from (Err stop.ReadFault) m reports h = is_not_known (inl (stop_is failed status stop.ReadFault h, rise m.0))
@@ -98,7 +98,7 @@ module _ (law : RecordsHaveOneJudgement) (policy capture : List ℕ) (before : O
     said_from (Err _) m reports h = absurd m.0.0
 
 pub judgement_told : RecordsHaveOneJudgement → {c : Command} {before after : Outside} {status : ℕ} (e : Explains c before after status) → (policy capture : List ℕ) →
-    c ≡ Judge policy capture → TellsInForm set.Plain policy capture before → (p : Policy) (j : Judgement) → HasJudgement policy capture before p j → SaysOfJudgement p j before after status
+    c ≡ Judge policy capture → TellsInForm set.Plain policy capture before → (p : Policy) (j : Judgement) → HasJudgement policy capture before p j → SaysOfJudgement c p j before after status
 judgement_told law {c = c} {before = before} {after = after} {status = status} e policy capture is t p j h =
     said_from law policy capture before t (Unprinted e) status e.middle after (read_failed e) (λ rose. write_failed e (inr rose)) p j h e.r
     (subst (λ k. Meets k before e.middle e.r) is e.meets) e.reports (explained e)

@@ -1,5 +1,5 @@
 -- The answers of the recording of a capture, of its review and of its writing, as the answer of the command.
-use Rattle.std.proofs.Common.{◌≡◌, ℕ, List, [], ◌∷◌, Result, Ok, Err, refl, ap, subst, ◌∙◌, inl}
+use Rattle.std.proofs.Common.{◌≡◌, ℕ, List, [], ◌∷◌, Result, Ok, Err, refl, ap, subst, ◌∙◌, inl, inr}
 use Rattle.cf_outside.specs.Faults.{Rose}
 use Rattle.cf_outside.specs.Files.{IsPartly, content_after_write}
 use Rattle.cf_outside.specs.Frames.{KeepsOtherFiles}
@@ -18,7 +18,7 @@ use Rattle.cf_watch.specs.declared.WatchRefusal.TheVariants as watch
 use Rattle.cf_box.specs.Check.{ChangesNothing}
 use Rattle.cf_words.specs.Command.{Review}
 use Rattle.cf_box.specs.Ends.{Meets, PassesPolicy}
-use Rattle.cf_ending.specs.Outside.{Outside, ReadFailed, ReadsOnly}
+use Rattle.cf_ending.specs.Outside.{Outside, ReadsOnly}
 use Rattle.cf_box.specs.PolicyFile.{HasPolicy}
 use Rattle.cf_box.specs.Review.{AnswersBy, HasReview, ReviewLeaves, WritesReview, remarks_of}
 use Rattle.cf_box.specs.Watching.{fault_stop}
@@ -39,16 +39,16 @@ module _ (policy capture log : List ℕ) (before : Outside) (p : Policy) (has : 
   unwatched_leaves after (fault.Refused watch.Long) same = same
   unwatched_leaves after _ same = same
 
-  pub unwatched_meets : (middle after : Outside) → ReadsOnly before.files middle.files → after.files.content ≡ middle.files.content → after.sink ≡ before.sink →
-      after.pair ≡ before.pair → (f : WatchFault) → (f ≡ fault.Read → ReadFailed middle after) →
+  pub unwatched_meets : (middle after : Outside) → ReadsOnly (policy ∷ []) before.files middle.files → after.files.content ≡ middle.files.content → after.sink ≡ before.sink →
+      after.pair ≡ before.pair → (f : WatchFault) → (f ≡ fault.Read → Rose (middle.files.read_faults capture) (after.files.read_faults capture)) →
       FailsAs set.Recorded (middle.files.content capture) f → Meets (Review policy capture log) before after (Err (fault_stop f))
   unwatched_meets middle after only same sink pair f read w = (
-    unwatched (Review policy capture log) before after capture set.Recorded (λ r h. h) (λ place h. h) passes middle only f read w,
+    unwatched (Review policy capture log) before after capture set.Recorded (λ r h. h) (λ place h. h) (λ rose. inr (inl rose)) passes middle only f read w,
     unwatched_leaves after f (record { content = same ∙ only.content; sink = sink; pair = pair }),
   )
 
   module _ (middle after : Outside) (stamps : List ℕ) (r : Reviewed) (flows : List FlowValue) (recorded : IsRecordingOf p.assets (middle.files.content capture) flows stamps)
-      (is : IsReviewOf p.assets flows r) (only : ReadsOnly before.files middle.files) (sink : after.sink ≡ before.sink) (pair : after.pair ≡ before.pair) where
+      (is : IsReviewOf p.assets flows r) (only : ReadsOnly (policy ∷ capture ∷ []) before.files middle.files) (sink : after.sink ≡ before.sink) (pair : after.pair ≡ before.pair) where
     has_review : HasReview policy capture before p stamps r
     has_review = record { has_policy = has; flows = flows; recorded = subst (λ c. IsRecordingOf p.assets (c capture) flows stamps) only.content recorded; reviews = is }
 

@@ -122,7 +122,7 @@ module _ (policy name : List ℕ) (port idles : ℕ) (log : List ℕ) (before af
 
 -- the same after files were read, none of which changed
 pub relay_after : (policy name : List ℕ) (port idles : ℕ) (log : List ℕ) (before middle after : Outside) (asset : Asset) → FindsAsset (before.files.content policy) name asset →
-    ReadsOnly before.files middle.files → (answer : Result RelayDone RelayFault) (answers : List Entry) → after.pair.told ≡ with_answers before.pair.told answers →
+    ReadsOnly (policy ∷ []) before.files middle.files → (answer : Result RelayDone RelayFault) (answers : List Entry) → after.pair.told ≡ with_answers before.pair.told answers →
     RelayEnds asset port (2 * idles) (file_log (middle.files.content log) (after.files.content log)) (after.files.content log ≡ middle.files.content log) answers answer →
     IdlesRose (2 * idles) before.pair.idles after.pair.idles answer → KeepsOthers log middle.files.content after.files.content →
     FaultsBy before.pair.faults after.pair.faults (answer ≡ Err fault.Link) → HasCause middle.files.write_faults after.files.write_faults (answer ≡ Err fault.Write) →

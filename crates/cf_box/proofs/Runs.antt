@@ -24,6 +24,7 @@ use Rattle.cf_ending.specs.declared.Done.TheVariants as done
 use Rattle.cf_ending.specs.declared.Stop.{Stop}
 use Rattle.cf_box.proofs.CaptureStops.{block_refuses, form_refuses}
 use Rattle.cf_box.proofs.Passing.{policy_passes}
+use Rattle.cf_box.proofs.Reading.{since_read}
 
 -- the answer of the command
 abbrev pub run_answer : Result Summary RunFault → Result Done Stop
@@ -44,10 +45,10 @@ module _ (policy_name : List ℕ) (names : RunNamesValue) (before after : Outsid
   ends_at found place summary r = record { form = r.form; has_form = r.has_form; records = r.records; are_records = r.are_records }
 
   stops : (f : RunFault) → RunsAs policy.assets LETTER_LIMIT names before.files.content after.files.content (Err f) →
-      (f ≡ fault.Read → Rose before.files.read_faults after.files.read_faults) → (f ≡ fault.Write → Rose before.files.write_faults after.files.write_faults) →
+      (f ≡ fault.Read → Rose (before.files.read_faults names.capture) (after.files.read_faults names.capture)) → (f ≡ fault.Write → Rose before.files.write_faults after.files.write_faults) →
       StopsFor (Run policy_name names) before after (run_stop f)
   stops fault.NoMemory h read write = tt
-  stops fault.Read h read write = read refl
+  stops fault.Read h read write = inr (inl (read refl))
   stops fault.Write h read write = (inl (write refl), passes)
   stops (fault.Refused (by.Header of)) h read write = (form_refuses set.Plain HasRunRecords (before.files.content names.capture) of h.0, passes)
   stops (fault.Refused (by.Block of)) h read write =
@@ -56,20 +57,20 @@ module _ (policy_name : List ℕ) (names : RunNamesValue) (before after : Outsid
   stops (fault.Refused _) h read write = ((h.0, ends_at _ h.0 h.1 h.2), passes)
 
   pub run_meets : (r : Result Summary RunFault) → HasRun policy_name names before after r → RunsAs policy.assets LETTER_LIMIT names before.files.content after.files.content r →
-      (IsErrOf r fault.Read → Rose before.files.read_faults after.files.read_faults) → (IsErrOf r fault.Write → Rose before.files.write_faults after.files.write_faults) →
+      (IsErrOf r fault.Read → Rose (before.files.read_faults names.capture) (after.files.read_faults names.capture)) → (IsErrOf r fault.Write → Rose before.files.write_faults after.files.write_faults) →
       Meets (Run policy_name names) before after (run_answer r)
   run_meets (Ok summary) run h read write = (summary, run, refl)
   run_meets (Err f) run h read write = (stops f h (λ e. read (ap Err e)) (λ e. write (ap Err e)), inr (f, run, refl))
 
 -- the same after files were read, none of which changed
 pub run_after : (policy_name : List ℕ) (names : RunNamesValue) (before middle after : Outside) (policy : Policy) → HasPolicy (before.files.content policy_name) policy →
-    ReadsOnly before.files middle.files → (r : Result Summary RunFault) → RunsAs policy.assets LETTER_LIMIT names middle.files.content after.files.content r →
+    ReadsOnly (policy_name ∷ []) before.files middle.files → (r : Result Summary RunFault) → RunsAs policy.assets LETTER_LIMIT names middle.files.content after.files.content r →
     KeepsOtherFiles (names.out ∷ names.log ∷ []) middle.files.content after.files.content →
-    (IsErrOf r fault.Read → Rose middle.files.read_faults after.files.read_faults) → (IsErrOf r fault.Write → Rose middle.files.write_faults after.files.write_faults) →
+    (IsErrOf r fault.Read → Rose (middle.files.read_faults names.capture) (after.files.read_faults names.capture)) → (IsErrOf r fault.Write → Rose middle.files.write_faults after.files.write_faults) →
     after.sink ≡ before.sink → after.pair ≡ before.pair → Meets (Run policy_name names) before after (run_answer r)
 run_after policy_name names before middle after policy has only r runs others read write sink pair =
     let here : RunsAs policy.assets LETTER_LIMIT names before.files.content after.files.content r =
     subst (λ c. RunsAs policy.assets LETTER_LIMIT names c after.files.content r) only.content runs in
     run_meets policy_name names before after policy has r
     (record { policy = policy; has = has; runs = here; others = kept_but names before.files.content middle.files.content after.files.content only.content others; sink = sink; pair = pair }) here
-    (λ e. let rose = read e in omega (arith, rose, only.reads)) (λ e. let rose = write e in omega (arith, rose, only.writes))
+    (λ e. since_read before.files middle.files after.files only names.capture (read e)) (λ e. let rose = write e in omega (arith, rose, only.writes))

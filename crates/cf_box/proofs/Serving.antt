@@ -81,7 +81,7 @@ module _ (w : ServiceWords) (told told' : Option (List LinksEntry)) (waits waits
   )
   stops_of before after policy places has found fault.NoMemory r is serves breaks cause loops memory = let m = memory is in record { log = inr m.1; same = m.0 }
 
-  module _ (old middle after : FilesValue) (only : ReadsOnly old middle) where
+  module _ (old middle after : FilesValue) (only : ReadsOnly (w.policy ∷ []) old middle) where
     -- what was served after a file was read
     served_after : (Made : ℕ → Type 0) → HasServed w middle after told told' waits waits' Made → HasServed w old after told told' waits waits' Made
     served_after Made h = record {
@@ -103,7 +103,7 @@ module _ (w : ServiceWords) (told told' : Option (List LinksEntry)) (waits waits
 
     stops_after : (s : Stop) → StopsService w middle after told told' waits waits' s → StopsService w old after told told' waits waits' s
     stops_after stop.ReadFault h =
-        (since old.read_faults middle.read_faults after.read_faults only.reads h.0, record { content = h.1.content ∙ only.content; same = h.1.same })
+        (since_read old middle after only w.policy h.0, record { content = h.1.content ∙ only.content; same = h.1.same })
     stops_after (stop.PolicyRefused r) h =
         (subst (λ content. IsRefusedBy (content w.policy) r) only.content h.0, record { content = h.1.content ∙ only.content; same = h.1.same })
     stops_after stop.UnknownAsset h = (
@@ -129,7 +129,7 @@ module _ (w : ServiceWords) (told told' : Option (List LinksEntry)) (waits waits
 
 -- a policy that was not read stops the service
 module _ (w : ServiceWords) (told : Option (List LinksEntry)) (waits : ℕ) (before after : FilesValue) (sink : SinkValue) (pair : PairValue)
-    (only : ReadsOnly before after) where
+    (only : ReadsOnly (w.policy ∷ []) before after) where
   nothing : NothingServed w before after told told waits waits
   nothing = record { content = only.content; same = refl }
 
@@ -142,7 +142,8 @@ module _ (w : ServiceWords) (told : Option (List LinksEntry)) (waits : ℕ) (bef
 
   pub policy_stops : (s : Stop) → StopsPolicy s → StopsFor (Check w.policy) (outside before sink pair) (outside after sink pair) s
       → StopsService w before after told told waits waits s
-  policy_stops stop.ReadFault early h = (h, nothing)
+  policy_stops stop.ReadFault early (inl rose) = (rose, nothing)
+  policy_stops stop.ReadFault early (inr never) = absurd never
   policy_stops (stop.PolicyRefused r) early h = (refused r h, nothing)
   policy_stops stop.NoMemory early h = record { log = inl (ap (λ content. content w.log) only.content); same = refl }
   policy_stops s early h = absurd early

@@ -59,17 +59,17 @@ module _ (policy name : List ℕ) (client : ℕ) (names : SiftNamesValue) (befor
     unfolding takes
     sift_ends taken is sifted = record { takes = takes taken None is sifted; counts = refl }
 
-    sift_stops : (f : SiftFault) → (IsErrOf {T = SiftDone} (Err f) fault.Read → Rose before.files.read_faults after.files.read_faults) →
+    sift_stops : (f : SiftFault) → (IsErrOf {T = SiftDone} (Err f) fault.Read → Rose (before.files.read_faults names.stream) (after.files.read_faults names.stream)) →
         (IsErrOf {T = SiftDone} (Err f) fault.Write → Rose before.files.write_faults after.files.write_faults) →
         SiftEnds asset client names before.files.content after.files.content (Err f) →
         StopsFor (Sift policy name client names) before after (sift_stop f) × SiftLeaves policy name client names before after (sift_stop f)
     sift_stops fault.NoMemory reads writes h = (tt, record { content = h; sink = sink; pair = pair })
-    sift_stops fault.Read reads writes h = (reads refl, inr (record { asset = asset; finds = finds; left = h; sink = sink; pair = pair }))
+    sift_stops fault.Read reads writes h = (inr (inl (reads refl)), inr (record { asset = asset; finds = finds; left = h; sink = sink; pair = pair }))
     sift_stops fault.Write reads writes h = ((inl (writes refl), passes), record { asset = asset; finds = finds; left = h; sink = sink; pair = pair })
 
     -- a fault is the stop of its cause
     pub sift_fails : (f : SiftFault) (s : Stop) → s ≡ sift_stop f →
-        (IsErrOf {T = SiftDone} (Err f) fault.Read → Rose before.files.read_faults after.files.read_faults) →
+        (IsErrOf {T = SiftDone} (Err f) fault.Read → Rose (before.files.read_faults names.stream) (after.files.read_faults names.stream)) →
         (IsErrOf {T = SiftDone} (Err f) fault.Write → Rose before.files.write_faults after.files.write_faults) →
         SiftEnds asset client names before.files.content after.files.content (Err f) → Meets (Sift policy name client names) before after (Err s)
     sift_fails f s is reads writes h =

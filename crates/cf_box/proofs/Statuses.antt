@@ -11,12 +11,12 @@ use Rattle.cf_sift.specs.Stored.{stored_history}
 use Rattle.cf_outside.specs.Faults.{Rose}
 use Rattle.cf_outside.specs.PairValue.{PairValue}
 use Rattle.cf_policylang.specs.declared.PolicyRefusal.{PolicyRefusal}
-use Rattle.cf_words.specs.Command.{Command, Compare, Judge, Migrate, Packets, Review, Run, Relay, World, Sift, Learn}
+use Rattle.cf_words.specs.Command.{Command, Compare, Judge, Migrate, Packets, Review, Run, Relay, World, Sift, Learn, input_files}
 use Rattle.cf_ending.specs.Ending.{Prints, Reports, end_text, status_of, stop_status, unprinted_status}
 use Rattle.cf_box.specs.Ends.{CutsCapture, CutsRun, CutsStream, Denies, EndsIdle, ExceedsCells, ExceedsRules, LacksAsset, LinkFails, Meets, RefusesCapture, RefusesPolicy}
 use Rattle.cf_box.specs.Learn.{HoldsLearned}
 use Rattle.cf_box.specs.Migrate.{KeepsMeaning}
-use Rattle.cf_ending.specs.Outside.{Outside, ReadFailed, SinkValue, WriteFailed}
+use Rattle.cf_ending.specs.Outside.{Outside, ReadFailed, RoseIn, SinkValue, WriteFailed}
 use Rattle.cf_box.specs.Packets.{Lists, ListsFile}
 use Rattle.cf_box.specs.Review.{HoldsReview, ReviewHolds, WritesReview}
 use Rattle.cf_review.specs.declared.Counts.{Counts}
@@ -65,7 +65,7 @@ module _ (failed : Type 0) (status : ℕ) where
   not_done s h is = other (Err s) 0 h is (omega arith) (omega arith)
 
   module _ (c : Command) (before middle : Outside) where
-    read_from : (r : Result Done Stop) → Meets c before middle r → IsOf r failed status → status ≡ 3 → ReadFailed before middle
+    read_from : (r : Result Done Stop) → Meets c before middle r → IsOf r failed status → status ≡ 3 → ReadFailed c before middle
     read_from (Err stop.ReadFault) meets h is = meets.0
     read_from r meets h is = absurd (other r 3 h is (omega arith) (omega arith))
 
@@ -236,10 +236,10 @@ module _ {c : Command} {before after : Outside} {status : ℕ} (e : Explains c b
   write_failed (inl (inr rose)) = let late = e.late in inr (omega arith)
   write_failed (inr rose) = let early = e.early in inr (omega arith)
 
-  pub read_failed : ReadFailed before e.middle → ReadFailed before after
-  read_failed rose = subst (λ f. Rose before.files.read_faults f.read_faults) (sym e.reports.files) rose
+  pub read_failed : ReadFailed c before e.middle → ReadFailed c before after
+  read_failed rose = subst (λ f. RoseIn (input_files c) before.files.read_faults f.read_faults) (sym e.reports.files) rose
 
-  pub read_told : status ≡ 3 → ReadFailed before after
+  pub read_told : status ≡ 3 → ReadFailed c before after
   read_told is = read_failed (read_from Unprinted status c before e.middle e.r e.meets explained is)
 
   pub write_told : status ≡ 4 → WriteFailed before after

@@ -15,7 +15,7 @@ use Rattle.cf_hosts.specs.Document.{made_policy}
 use Rattle.cf_world.specs.World.{HoldsCapture, HoldsPolicy, LeavesWorld}
 use Rattle.cf_words.specs.Command.{Command, Run, World}
 use Rattle.cf_box.specs.Ends.{LacksAsset, Meets, PassesPolicy, RefusesPolicy, StopsFor}
-use Rattle.cf_ending.specs.Outside.{Outside}
+use Rattle.cf_ending.specs.Outside.{Outside, RoseIn}
 use Rattle.cf_box.specs.PolicyFile.{IsRefusedBy}
 use Rattle.cf_box.specs.Run.{RunCuts, RunRefuses}
 use Rattle.cf_box.specs.Status.{HasTimedRecords}
@@ -109,7 +109,7 @@ module _ (seed sessions : ℕ) (policy : List ℕ) (names : RunNamesValue) where
 
     -- why the run stopped is why the world did
     stops : (s : Stop) → StopsFor (Run policy names) between after s → StopsFor Own before after s
-    stops stop.ReadFault h = omega (arith, h, reads)
+    stops stop.ReadFault h = subst (λ (f : List ℕ → ℕ). RoseIn (policy ∷ names.capture ∷ []) f after.files.read_faults) reads h
     stops stop.WriteFault h = (wrote h.0, passes_own before)
       where
         wrote : Rose between.files.write_faults after.files.write_faults ⊎ Rose between.sink.faults after.sink.faults → Rose before.files.write_faults after.files.write_faults ⊎ Rose before.sink.faults after.sink.faults

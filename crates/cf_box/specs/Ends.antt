@@ -133,7 +133,7 @@ ExceedsRules _ before name = ⊥
 -- why work stops: a line a cause, the same for every command. What stands later in the order of the work is no cause
 -- where the policy or the asset is one
 abbrev pub StopsFor : Command → (before after : Outside) → Stop → Type 0
-StopsFor c before after stop.ReadFault = ReadFailed before after
+StopsFor c before after stop.ReadFault = ReadFailed c before after
 StopsFor c before after stop.WriteFault = WriteFailed before after × PassesPolicy c before
 StopsFor c before after (stop.PolicyRefused r) = RefusesPolicy c before r
 StopsFor c before after (stop.CaptureRefused r) = RefusesCapture c before r × PassesPolicy c before

@@ -16,7 +16,7 @@ use Rattle.cf_serve.specs.declared.ServeFault.{ServeFault}
 use Rattle.cf_serve.specs.declared.ServeFault.TheVariants as fault
 use Rattle.cf_serve.specs.declared.table.Place.{Place}
 use Rattle.cf_ending.specs.Ending.{Prints, Puts, stop_status, stop_text}
-use Rattle.cf_ending.specs.Outside.{FilesValue, SinkValue, files_value, sink_value}
+use Rattle.cf_ending.specs.Outside.{FilesValue, RisesIn, SinkValue, files_value, sink_value}
 use Rattle.cf_box.specs.PolicyFile.{HasPolicy, IsRefusedBy, asset_named}
 use Rattle.cf_box.specs.ServiceWords.{PlaceWord, ServiceWords}
 use Rattle.cf_ending.specs.declared.Stop.{Stop}
@@ -72,7 +72,7 @@ module _ (w : ServiceWords) (before after : FilesValue) (told told' : Option (Li
 
   -- why a service stops: a line a cause
   abbrev pub StopsService : Stop → Type 0
-  StopsService stop.ReadFault = Rose before.read_faults after.read_faults × NothingServed
+  StopsService stop.ReadFault = Rose (before.read_faults w.policy) (after.read_faults w.policy) × NothingServed
   StopsService (stop.PolicyRefused r) = IsRefusedBy (before.content w.policy) r × NothingServed
   StopsService stop.UnknownAsset = LacksAPlace × NothingServed
   StopsService stop.WriteFault = HasBroken × Rose before.write_faults after.write_faults
@@ -129,8 +129,9 @@ module _ (before after : ServiceOutside) (status : ℕ) where
     pub told : after.told ≡ before.told
     pub waits : after.waits ≡ before.waits
 
-  -- how a service of these words ends; no file but its log changes
+  -- how a service of these words ends; no file but its log changes, and no read of another file than its policy failed
   abbrev pub ServiceEnds : Option ServiceWords → Type 0
   ServiceEnds None = NoWords ⊎ NoService
   ServiceEnds (Some w) =
-      NoWords ⊎ (KeepsOthers w.log before.files.content after.files.content × (ServesOn w ⊎ ((s : Stop) × Stopped w s)))
+      NoWords ⊎ (KeepsOthers w.log before.files.content after.files.content
+      × RisesIn (w.policy ∷ []) before.files.read_faults after.files.read_faults × (ServesOn w ⊎ ((s : Stop) × Stopped w s)))

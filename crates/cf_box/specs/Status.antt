@@ -21,7 +21,7 @@ use Rattle.cf_policylang.specs.Documents.{policy_meaning}
 use Rattle.cf_policylang.specs.declared.PolicyRefusal.{PolicyRefusal}
 use Rattle.cf_run.specs.RunCapture.{RunNamesValue}
 use Rattle.cf_words.specs.Command.{Command, Check, Compare, Judge, Migrate, Packets, Review, Run, Relay, World, Sift, AsksPair, asset_name}
-use Rattle.cf_words.specs.Command.{capture_file, other_file, output_files, policy_file, Learn}
+use Rattle.cf_words.specs.Command.{capture_file, input_files, other_file, output_files, policy_file, Learn}
 use Rattle.cf_box.specs.Compare.{IncludesAll, IsIncluded, OfPolicies, TellsNotIncluded}
 use Rattle.cf_box.specs.Ends.{CutsCapture, CutsStream, Denies, EndsIdle, ExceedsCells, LacksAsset, LinkFails, RefusesCapture, RefusesPolicy}
 use Rattle.cf_box.specs.Ends.{ExceedsRules}
@@ -170,9 +170,9 @@ pub record HasInput (c : Command) (before after : Outside) : Type 0 where
       (bytes : List ℕ) × (before.files.content file ≡ holds bytes) × ((p : Policy) × (policy_meaning bytes ≡ Ok p))
   pub holds : HoldsWhatItAsks c before
 
--- no read failed, no creation, append or put, and no call on the pair of a command that asks it
+-- no read of a file that the command reads failed, no creation, append or put, and no call on the pair of a command that asks it
 pub record NothingFails (c : Command) (before after : Outside) : Type 0 where
-  pub reads : ReadFailed before after → ⊥
+  pub reads : ReadFailed c before after → ⊥
   pub writes : WriteFailed before after → ⊥
   pub links : LinkFails c before after.pair → ⊥
 
@@ -181,9 +181,9 @@ abbrev pub IsComplete : Option Command → (before after : Outside) → (status 
 IsComplete words before after status =
     (c : Command) → words ≡ Some c → HasInput c before after → NothingFails c before after → (status ≡ 0) ⊎ (status ≡ 13)
 
--- what an exact cause yields to: a read that failed, and want of memory
-abbrev pub Yields : (before after : Outside) → (status : ℕ) → Type 0
-Yields before after status = ((status ≡ 3) × ReadFailed before after) ⊎ (status ≡ 13)
+-- what an exact cause yields to: a read of a file of the command that failed, and want of memory
+abbrev pub Yields : Command → (before after : Outside) → (status : ℕ) → Type 0
+Yields c before after status = ((status ≡ 3) × ReadFailed c before after) ⊎ (status ≡ 13)
 
 -- a policy is told, the first or the second, and its bytes mean none
 pub record TellsNoPolicy (c : Command) (before : Outside) : Type 0 where
@@ -306,36 +306,36 @@ TellsCutCapture (Learn policy capture out) before = TellsPolicy (before.files.co
 TellsCutCapture _ before = ⊥
 
 -- what a capture, a cut stream and the idle answers yield to: these, and a write that failed
-abbrev pub YieldsWritten : (before after : Outside) → (status : ℕ) → Type 0
-YieldsWritten before after status = ((status ≡ 4) × WriteFailed before after) ⊎ Yields before after status
+abbrev pub YieldsWritten : Command → (before after : Outside) → (status : ℕ) → Type 0
+YieldsWritten c before after status = ((status ≡ 4) × WriteFailed before after) ⊎ Yields c before after status
 
 -- What the status of a judge tells of the judgement of its files: it has no objection, and the status is 0, or 4 where that could not be
 -- printed; or it has this objection, which was printed, and the status is 15; or a read failed, or memory ran out.
-pub data SaysOfJudgement (p : Policy) (judged : Judgement) (before after : Outside) (status : ℕ) : Type 0 where
+pub data SaysOfJudgement (c : Command) (p : Policy) (judged : Judgement) (before after : Outside) (status : ℕ) : Type 0 where
   has_none : judged.objection ≡ None → (status ≡ 0) ⊎ ((status ≡ 4) × WriteFailed before after)
-      → SaysOfJudgement p judged before after status
+      → SaysOfJudgement c p judged before after status
   has_one : (objection : Objection) → judged.objection ≡ Some objection → IsShown p objection before after status
-      → SaysOfJudgement p judged before after status
-  is_not_known : Yields before after status → SaysOfJudgement p judged before after status
+      → SaysOfJudgement c p judged before after status
+  is_not_known : Yields c before after status → SaysOfJudgement c p judged before after status
 
 -- so it is of every judge whose files are told and in form
 abbrev pub SaysItsJudgement : Command → (before after : Outside) → (status : ℕ) → Type 0
 SaysItsJudgement c before after status =
     (policy capture : List ℕ) (p : Policy) (judged : Judgement) → c ≡ Judge policy capture → TellsInForm set.Plain policy capture before →
-    HasJudgement policy capture before p judged → SaysOfJudgement p judged before after status
+    HasJudgement policy capture before p judged → SaysOfJudgement c p judged before after status
 
 -- each of these gives its status, and nothing but a failed read or want of memory comes before it, and before a capture that is
 -- refused or cut, a stream that is cut, an idle end or a remark a failed write
 pub record IsExact (c : Command) (before after : Outside) (status : ℕ) : Type 0 where
-  pub refused : TellsNoPolicy c before → (status ≡ 5) ⊎ Yields before after status
-  pub unknown : TellsNoAsset c before → (status ≡ 10) ⊎ Yields before after status
-  pub capture : TellsRefusedCapture c before → (status ≡ 6) ⊎ YieldsWritten before after status
-  pub capture_cut : TellsCutCapture c before → (status ≡ 7) ⊎ YieldsWritten before after status
-  pub cut : TellsCut c before after.pair → (status ≡ 12) ⊎ YieldsWritten before after status
-  pub idle : TellsIdle c before after.pair → (status ≡ 9) ⊎ YieldsWritten before after status
-  pub denied : TellsDenial c before → ((status ≡ 15) ⊎ (status ≡ 17)) ⊎ Yields before after status
-  pub rules : TellsTooManyRules c before → (status ≡ 16) ⊎ Yields before after status
-  pub remarked : TellsRemarks c before → (status ≡ 15) ⊎ YieldsWritten before after status
+  pub refused : TellsNoPolicy c before → (status ≡ 5) ⊎ Yields c before after status
+  pub unknown : TellsNoAsset c before → (status ≡ 10) ⊎ Yields c before after status
+  pub capture : TellsRefusedCapture c before → (status ≡ 6) ⊎ YieldsWritten c before after status
+  pub capture_cut : TellsCutCapture c before → (status ≡ 7) ⊎ YieldsWritten c before after status
+  pub cut : TellsCut c before after.pair → (status ≡ 12) ⊎ YieldsWritten c before after status
+  pub idle : TellsIdle c before after.pair → (status ≡ 9) ⊎ YieldsWritten c before after status
+  pub denied : TellsDenial c before → ((status ≡ 15) ⊎ (status ≡ 17)) ⊎ Yields c before after status
+  pub rules : TellsTooManyRules c before → (status ≡ 16) ⊎ Yields c before after status
+  pub remarked : TellsRemarks c before → (status ≡ 15) ⊎ YieldsWritten c before after status
   pub judgement : SaysItsJudgement c before after status
 
 -- the status is exact for the command that the words are, if they are one
@@ -347,6 +347,11 @@ abbrev pub TakesItsOwn : Option Command → (before : Outside) → (status : ℕ
 TakesItsOwn words before status =
     (seed sessions : ℕ) (policy : List ℕ) (names : RunNamesValue) → words ≡ Some (World seed sessions policy names) →
     TellsMade (World seed sessions policy names) before → (status ≢ 5) × (status ≢ 6) × (status ≢ 7)
+
+-- the files that the words have read
+abbrev pub inputs_of : Option Command → List (List ℕ)
+inputs_of None = []
+inputs_of (Some c) = input_files c
 
 -- the files that the words may have written
 abbrev pub outputs_of : Option Command → List (List ℕ)

@@ -1,4 +1,5 @@
 //! `check POLICY`: a policy is read, and its assets and rules are counted.
+ghost use Rattle.std.specs.Prelude.{◌∷◌, []};
 ghost use Rattle.cf_words.specs.Command.{Check};
 ghost use Rattle.cf_box.specs.Ends.{Meets};
 ghost use Rattle.cf_ending.specs.Outside.{FilesNeverFall, SinkValue, files_value, outside};
@@ -14,7 +15,8 @@ pub(crate) fn check<F: Files>(alloc: Global, policy_file: &str, files: &mut F) -
     ensures meets { (sink : SinkValue) (pair : PairValue) →
         Meets (Check policy_file.now) (outside (files_value F.Files files.old) sink pair)
         (outside (files_value F.Files files.new) sink pair) result }
-    ensures later { FilesNeverFall (files_value F.Files files.old) (files_value F.Files files.new) }
+    ensures later { FilesNeverFall (policy_file.now ∷ []) (files_value F.Files files.old)
+        (files_value F.Files files.new) }
 {
     let policy = match load_policy(alloc, policy_file, files) {
         Ok(policy) => policy,

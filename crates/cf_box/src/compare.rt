@@ -1,4 +1,5 @@
 //! `compare POLICY OTHER`: whether the first policy allows only what the second allows.
+ghost use Rattle.std.specs.Prelude.{◌∷◌, []};
 ghost use Rattle.cf_words.specs.Command.{Compare};
 ghost use Rattle.cf_box.specs.Compare.{Says};
 ghost use Rattle.cf_box.specs.Ends.{Meets};
@@ -22,7 +23,8 @@ pub(crate) fn compare_files<F: Files>(
 ) -> Result<Done, Stop>
     ensures meets { (sink : SinkValue) (pair : PairValue) → Meets (Compare policy.now other.now)
         (outside (files_value F.Files files.old) sink pair) (outside (files_value F.Files files.new) sink pair) result }
-    ensures later { FilesNeverFall (files_value F.Files files.old) (files_value F.Files files.new) }
+    ensures later { FilesNeverFall (policy.now ∷ other.now ∷ []) (files_value F.Files files.old)
+        (files_value F.Files files.new) }
 {
     let ours = match load_policy(alloc, policy, files) {
         Ok(ours) => ours,

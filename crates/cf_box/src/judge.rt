@@ -1,5 +1,5 @@
 //! `judge POLICY CAPTURE`: whether what clients sent in a capture keeps a policy.
-ghost use Rattle.std.specs.Prelude.{[], ◌≡◌, ◌≤◌, All, Some, length, map, slice_get};
+ghost use Rattle.std.specs.Prelude.{[], ◌≡◌, ◌≤◌, All, Some, length, map, slice_get, ◌∷◌};
 ghost use Rattle.std.specs.Option.{option_map_or};
 ghost use Rattle.cf_words.specs.Command.{Judge};
 ghost use Rattle.cf_box.specs.Ends.{Meets};
@@ -22,6 +22,7 @@ use cf_watch::{Flow, watch};
 use std::alloc::Global;
 
 /// Reads the policy and the capture, and judges its flows. Changes no file.
+#[tactic(auto, using(crate::proofs::Reading::rises_one))]
 pub(crate) fn judge_capture<F: Files>(
     alloc: Global,
     policy: &str,
@@ -30,7 +31,8 @@ pub(crate) fn judge_capture<F: Files>(
 ) -> Result<Done, Stop>
     ensures meets { (sink : SinkValue) (pair : PairValue) → Meets (Judge policy.now capture.now)
         (outside (files_value F.Files files.old) sink pair) (outside (files_value F.Files files.new) sink pair) result }
-    ensures later { FilesNeverFall (files_value F.Files files.old) (files_value F.Files files.new) }
+    ensures later { FilesNeverFall (policy.now ∷ capture.now ∷ []) (files_value F.Files files.old)
+        (files_value F.Files files.new) }
 {
     let meaning = match load_policy(alloc, policy, files) {
         Ok(meaning) => meaning,

@@ -1,5 +1,5 @@
 //! `learn POLICY CAPTURE OUT`: a policy is written that allows exactly what a capture shows.
-ghost use Rattle.std.specs.Prelude.{map};
+ghost use Rattle.std.specs.Prelude.{map, ◌∷◌, []};
 ghost use Rattle.cf_words.specs.Command.{Learn};
 ghost use Rattle.cf_box.specs.Ends.{Meets};
 ghost use Rattle.cf_box.specs.Learn.{LearnsAs};
@@ -19,6 +19,7 @@ use std::alloc::Global;
 
 /// Reads a policy and a capture, learns the policy that allows exactly what the capture shows, and writes it to a file that is created
 /// last.
+#[tactic(auto, using(crate::proofs::Reading::rises_one))]
 pub(crate) fn learn_capture<F: Files>(
     alloc: Global,
     policy_file: &str,
@@ -28,7 +29,8 @@ pub(crate) fn learn_capture<F: Files>(
 ) -> Result<Done, Stop>
     ensures meets { (sink : SinkValue) (pair : PairValue) → Meets (Learn policy_file.now capture.now out.now)
         (outside (files_value F.Files files.old) sink pair) (outside (files_value F.Files files.new) sink pair) result }
-    ensures later { FilesNeverFall (files_value F.Files files.old) (files_value F.Files files.new) }
+    ensures later { FilesNeverFall (policy_file.now ∷ capture.now ∷ []) (files_value F.Files files.old)
+        (files_value F.Files files.new) }
 {
     let policy = match load_policy(alloc, policy_file, files) {
         Ok(policy) => policy,

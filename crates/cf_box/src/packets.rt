@@ -2,7 +2,7 @@
 //! Lines are gathered up to 32 KiB, and put before the next one may not fit, at the end, and before what is printed of a refusal,
 //! a cut or a failed read: a failed put of them is 4 also there, since they come first in the order of the work. A read that
 //! fails is 3, behind the lines of the records before it.
-ghost use Rattle.std.specs.Prelude.{◌≡◌, ◌+◌, ◌≤◌, ◌⊎◌, ◌++◌, ℕ, List, IsErrOf, Err, Ok, take};
+ghost use Rattle.std.specs.Prelude.{◌≡◌, ◌+◌, ◌≤◌, ◌⊎◌, ◌++◌, ℕ, List, IsErrOf, Err, Ok, take, ◌∷◌, []};
 ghost use Rattle.arrayvec.specs.ArrayVec.{array_vec_len};
 ghost use Rattle.cf_words.specs.Command.{Packets};
 ghost use Rattle.cf_box.specs.Ends.{Meets};
@@ -41,6 +41,7 @@ fn open_stop(fault: OpenFault) -> Stop
 ///
 /// The lines are gathered, and put before the buffer is full and at the end, so that what was put before a stop is the lines
 /// of the records before it.
+#[tactic(auto, using(crate::proofs::Reading::rises_one))]
 pub(crate) fn packets<F: Files, O: Sink>(
     alloc: Global,
     name: &str,
@@ -50,7 +51,8 @@ pub(crate) fn packets<F: Files, O: Sink>(
     ensures meets { (pair : PairValue) →
         Meets (Packets name.now) (outside (files_value F.Files files.old) (sink_value O.Sink out.old) pair)
         (outside (files_value F.Files files.new) (sink_value O.Sink out.new) pair) result }
-    ensures later { FilesNeverFall (files_value F.Files files.old) (files_value F.Files files.new) }
+    ensures later { FilesNeverFall (name.now ∷ []) (files_value F.Files files.old)
+        (files_value F.Files files.new) }
     ensures puts { O.faults out.old ≤ O.faults out.new }
 {
     match RecordReader::open(alloc, name, files) {
@@ -69,7 +71,7 @@ fn list_records<F: Files, O: Sink>(
     requires form { HasForm (F.content files.old name.now) (Ok reader.old.form) }
     requires place { reader.old.place ≡ first_place reader.old.form }
     ensures lists { ListsFile (F.content files.old name.now) (sink_value O.Sink out.old) (sink_value O.Sink out.new) result }
-    ensures reads { OnlyReads F.content F.read_faults F.write_faults files.old files.new (IsErrOf result Stop.ReadFault) }
+    ensures reads { OnlyReads name.now F.content F.read_faults F.write_faults files.old files.new (IsErrOf result Stop.ReadFault) }
     ensures puts { O.faults out.old ≤ O.faults out.new }
 {
     let mut lines = Lines::new();

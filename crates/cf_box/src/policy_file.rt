@@ -28,6 +28,7 @@ const TOO_LONG: PolicyRefusal = PolicyRefusal {
 };
 
 /// Reads the policy of a file, or says why each command that reads it stops. Changes no file.
+#[tactic(auto, using(crate::proofs::Reading::policy_laws))]
 pub(crate) fn load_policy<F: Files>(
     alloc: Global,
     name: &str,
@@ -39,7 +40,7 @@ pub(crate) fn load_policy<F: Files>(
         → StopsFor c (outside (files_value F.Files files.old) sink pair) (outside (files_value F.Files files.new) sink pair) s) }
     ensures unwritten { IfErr result (λ s. s ≢ Stop.WriteFault) }
     ensures early { IfErr result StopsPolicy }
-    ensures only { ReadsOnly (files_value F.Files files.old) (files_value F.Files files.new) }
+    ensures only { ReadsOnly (name.now ∷ []) (files_value F.Files files.old) (files_value F.Files files.new) }
 {
     let bytes = match read_whole(alloc, name, POLICY_LIMIT, files) {
         Ok(bytes) => bytes,

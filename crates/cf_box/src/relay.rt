@@ -1,5 +1,5 @@
 //! `relay POLICY ASSET PORT IDLES LOG`: a policy between two streams.
-ghost use Rattle.std.specs.Prelude.{◌≡◌, ◌≤◌};
+ghost use Rattle.std.specs.Prelude.{◌≡◌, ◌≤◌, ◌∷◌, []};
 ghost use Rattle.cf_words.specs.Command.{Relay};
 ghost use Rattle.cf_box.specs.Ends.{Meets};
 ghost use Rattle.cf_ending.specs.Outside.{FilesNeverFall, SinkValue, files_value, outside};
@@ -50,7 +50,8 @@ pub(crate) fn relay<F: Files, P: Pair>(
     ensures meets { (sink : SinkValue) → Meets (Relay policy_file.now asset_name.now port idles log.now)
         (outside (files_value F.Files files.old) sink (pair_value P.Pair pair.old))
         (outside (files_value F.Files files.new) sink (pair_value P.Pair pair.new)) result }
-    ensures later { FilesNeverFall (files_value F.Files files.old) (files_value F.Files files.new) }
+    ensures later { FilesNeverFall (policy_file.now ∷ []) (files_value F.Files files.old)
+        (files_value F.Files files.new) }
 {
     let policy = match load_policy(alloc, policy_file, files) {
         Ok(policy) => policy,

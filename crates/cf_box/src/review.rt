@@ -1,4 +1,5 @@
 //! `review POLICY CAPTURE LOG`: all that a policy objects to in what clients sent in a capture is written, a line each.
+ghost use Rattle.std.specs.Prelude.{◌∷◌, []};
 ghost use Rattle.cf_words.specs.Command.{Review};
 ghost use Rattle.cf_box.specs.Ends.{Meets};
 ghost use Rattle.cf_ending.specs.Outside.{FilesNeverFall, SinkValue, files_value, outside};
@@ -14,6 +15,7 @@ use cf_watch::watch_recording;
 use std::alloc::Global;
 
 /// Reads the policy and the capture, reviews its flows, and writes the lines of all remarks into the log, which is created last.
+#[tactic(auto, using(crate::proofs::Reading::rises_one))]
 pub(crate) fn review_capture<F: Files>(
     alloc: Global,
     policy_file: &str,
@@ -23,7 +25,8 @@ pub(crate) fn review_capture<F: Files>(
 ) -> Result<Done, Stop>
     ensures meets { (sink : SinkValue) (pair : PairValue) → Meets (Review policy_file.now capture.now log.now)
         (outside (files_value F.Files files.old) sink pair) (outside (files_value F.Files files.new) sink pair) result }
-    ensures later { FilesNeverFall (files_value F.Files files.old) (files_value F.Files files.new) }
+    ensures later { FilesNeverFall (policy_file.now ∷ capture.now ∷ []) (files_value F.Files files.old)
+        (files_value F.Files files.new) }
 {
     let policy = match load_policy(alloc, policy_file, files) {
         Ok(policy) => policy,

@@ -1,5 +1,5 @@
 //! `run POLICY CAPTURE OUT LOG`: a policy is run over a capture.
-ghost use Rattle.std.specs.Prelude.{◌≡◌};
+ghost use Rattle.std.specs.Prelude.{◌≡◌, ◌∷◌, []};
 ghost use Rattle.cf_words.specs.Command.{Run};
 ghost use Rattle.cf_box.specs.Ends.{Meets};
 ghost use Rattle.cf_ending.specs.Outside.{FilesNeverFall, SinkValue, files_value, outside};
@@ -31,6 +31,7 @@ fn run_stop(fault: RunFault) -> Stop
 }
 
 /// Reads the policy, and runs it over the capture.
+#[tactic(auto, using(crate::proofs::Reading::rises_one))]
 pub(crate) fn run<F: Files>(
     alloc: Global,
     policy_file: &str,
@@ -40,7 +41,8 @@ pub(crate) fn run<F: Files>(
     requires { AreApart (run_names_value names.now) }
     ensures meets { (sink : SinkValue) (pair : PairValue) → Meets (Run policy_file.now (run_names_value names.now))
         (outside (files_value F.Files files.old) sink pair) (outside (files_value F.Files files.new) sink pair) result }
-    ensures later { FilesNeverFall (files_value F.Files files.old) (files_value F.Files files.new) }
+    ensures later { FilesNeverFall (policy_file.now ∷ names.now.capture.now ∷ []) (files_value F.Files files.old)
+        (files_value F.Files files.new) }
 {
     let policy = match load_policy(alloc, policy_file, files) {
         Ok(policy) => policy,

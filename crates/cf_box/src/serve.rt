@@ -1,6 +1,6 @@
 //! `serve POLICY SECONDS LOG NAME=A.B.C.D:PORT..`: a policy between many clients and their controllers.
-ghost use Rattle.std.specs.Prelude.{◌≡◌, ◌⊎◌, ◌++◌, ◌-◌, ◌^◌, Err, IfErr, List, OnOk, Some, false, map, string_bytes, ℕ};
-ghost use Rattle.cf_ending.specs.Outside.{files_value};
+ghost use Rattle.std.specs.Prelude.{◌≡◌, ◌⊎◌, ◌++◌, ◌-◌, ◌^◌, Err, IfErr, List, OnOk, Some, false, map, string_bytes, ℕ, ◌∷◌, []};
+ghost use Rattle.cf_ending.specs.Outside.{RisesIn, files_value};
 ghost use Rattle.cf_box.specs.PolicyFile.{HasPolicy};
 ghost use Rattle.cf_box.specs.Service.{ArePlaces, HasServed, LacksPlace, ServiceEnds, StopsService, service_outside, service_stop};
 ghost use Rattle.cf_box.specs.ServiceWords.{IsFitService, place_word_value, service_of, service_value};
@@ -77,6 +77,7 @@ fn serve_places<F: Files, L: Links>(
         (L.told links.old) (L.told links.new) (LinksPlace.round_faults (L.place links.old)) (LinksPlace.round_faults (L.place links.new))
         s) }
     ensures others { KeepsOthers (service.now.log).now (F.content files.old) (F.content files.new) }
+    ensures reads { F.read_faults files.new ≡ F.read_faults files.old }
 {
     let mut places = Vec::new(alloc);
     find_places(policy, service.places.as_slice(), &mut places)?;
@@ -110,6 +111,7 @@ fn serve_policy<F: Files, L: Links>(
         (L.told links.old) (L.told links.new) (LinksPlace.round_faults (L.place links.old)) (LinksPlace.round_faults (L.place links.new))
         s) }
     ensures others { KeepsOthers (service.now.log).now (F.content files.old) (F.content files.new) }
+    ensures reads { RisesIn ((service.now.policy).now ∷ []) (F.read_faults files.old) (F.read_faults files.new) }
 {
     match load_policy(alloc, service.policy, files) {
         Ok(policy) => serve_places(alloc, &policy, service, files, links),

@@ -1,5 +1,5 @@
 //! `sift POLICY ASSET CLIENT STREAM OUT REPLIES LOG`: the stored stream of one client is filtered.
-ghost use Rattle.std.specs.Prelude.{◌≡◌};
+ghost use Rattle.std.specs.Prelude.{◌≡◌, ◌∷◌, []};
 ghost use Rattle.cf_words.specs.Command.{Sift};
 ghost use Rattle.cf_box.specs.Ends.{Meets};
 ghost use Rattle.cf_ending.specs.Outside.{FilesNeverFall, SinkValue, files_value, outside};
@@ -26,6 +26,7 @@ fn sift_stop(fault: SiftFault) -> Stop
 }
 
 /// Reads the policy, and filters the stream for its asset of a name.
+#[tactic(auto, using(crate::proofs::Reading::rises_one))]
 pub(crate) fn sift<F: Files>(
     alloc: Global,
     policy_file: &str,
@@ -37,7 +38,8 @@ pub(crate) fn sift<F: Files>(
     requires { AreApart (sift_names_value names.now) }
     ensures meets { (sink : SinkValue) (pair : PairValue) → Meets (Sift policy_file.now asset_name.now client (sift_names_value names.now))
         (outside (files_value F.Files files.old) sink pair) (outside (files_value F.Files files.new) sink pair) result }
-    ensures later { FilesNeverFall (files_value F.Files files.old) (files_value F.Files files.new) }
+    ensures later { FilesNeverFall (policy_file.now ∷ names.now.stream.now ∷ []) (files_value F.Files files.old)
+        (files_value F.Files files.new) }
 {
     let policy = match load_policy(alloc, policy_file, files) {
         Ok(policy) => policy,

@@ -1,19 +1,19 @@
 //! The top call.
 ghost use Rattle.std.specs.Prelude.{◌≡◌, ◌≤◌, ◌⊎◌, ◌↔◌, IsNone, List, Some, map, string_bytes, ℕ};
-ghost use Rattle.cf_words.specs.Command.{AsksPair, Compare, Judge, Migrate, Packets, Review, Run, Sift, World, Learn};
+ghost use Rattle.cf_words.specs.Command.{AsksPair, input_files, Compare, Judge, Migrate, Packets, Review, Run, Sift, World, Learn};
 ghost use Rattle.cf_box.specs.Ends.{Ends, Meets};
 ghost use Rattle.cf_box.specs.Laws.{HasLaws};
 ghost use Rattle.cf_box.specs.Learn.{HoldsLearned};
 ghost use Rattle.cf_box.specs.Limits.{HasLimits};
 ghost use Rattle.cf_box.specs.Migrate.{KeepsMeaning};
 ghost use Rattle.cf_box.specs.Numbers.{HasNumbers};
-ghost use Rattle.cf_ending.specs.Outside.{FilesNeverFall, files_value, outside_value};
+ghost use Rattle.cf_ending.specs.Outside.{FilesNeverFall, RisesIn, RoseIn, files_value, outside_value};
 ghost use Rattle.cf_box.specs.Packets.{Lists};
 ghost use Rattle.cf_box.specs.Review.{ReviewHolds};
 ghost use Rattle.cf_box.specs.RunHolds.{RunHolds};
 ghost use Rattle.cf_box.specs.Status.{AsksItsPair, CutsItsCapture, CutsItsStream, DeniesWhatItAsks, EndsItsIdles, ExceedsItsCells};
 ghost use Rattle.cf_box.specs.Status.{Includes, IsComplete, IsExactly, IsStatus, JudgedClean, LacksItsAsset, RefusesItsCapture};
-ghost use Rattle.cf_box.specs.Status.{RefusesItsPolicy, SiftPassesAllowed, TakesItsOwn, TellsItsOwn, WritesNothing, outputs_of};
+ghost use Rattle.cf_box.specs.Status.{RefusesItsPolicy, SiftPassesAllowed, TakesItsOwn, TellsItsOwn, WritesNothing, inputs_of, outputs_of};
 ghost use Rattle.cf_box.specs.Status.{ExceedsItsRules};
 ghost use Rattle.cf_words.specs.Words.{HasFitWords, command_of, command_value};
 ghost use Rattle.cf_box.specs.World.{WorldHolds};
@@ -56,7 +56,8 @@ fn perform<F: Files, O: Sink, P: Pair>(
     requires { HasFitWords command }
     ensures meets { Meets (command_value command.entry) (outside_value F.Files O.Sink P.Pair files.old out.old pair.old)
         (outside_value F.Files O.Sink P.Pair files.new out.new pair.new) result }
-    ensures later { FilesNeverFall (files_value F.Files files.old) (files_value F.Files files.new) }
+    ensures later { FilesNeverFall (input_files (command_value command.entry)) (files_value F.Files files.old)
+        (files_value F.Files files.new) }
     ensures puts { O.faults out.old ≤ O.faults out.new }
     ensures pair { AsksPair (command_value command.entry) ⊎ (pair.new ≡ pair.old) }
 {
@@ -119,7 +120,8 @@ pub fn box_main<F: Files, O: Sink, P: Pair>(
 
     // Each status by itself.
     ensures usage { (result ≡ 2) ↔ IsNone (command_of (map string_bytes words.now)) }
-    ensures read { result ≡ 3 → Rose (F.read_faults files.old) (F.read_faults files.new) }
+    ensures read { result ≡ 3 → RoseIn (inputs_of (command_of (map string_bytes words.now))) (F.read_faults files.old)
+        (F.read_faults files.new) }
     ensures write { result ≡ 4 → Rose (F.write_faults files.old) (F.write_faults files.new) ⊎ Rose (O.faults out.old) (O.faults out.new) }
     ensures refused { result ≡ 5 → RefusesItsPolicy (command_of (map string_bytes words.now))
         (outside_value F.Files O.Sink P.Pair files.old out.old pair.old) }
@@ -204,8 +206,9 @@ pub fn box_main<F: Files, O: Sink, P: Pair>(
     ensures own { TakesItsOwn (command_of (map string_bytes words.now)) (outside_value F.Files O.Sink P.Pair files.old out.old pair.old)
         result }
 
-    // No file is written but the outputs of the command, and none at all where the words, the policy or the asset are at fault;
+    // No read failed but of the inputs of the command. No file is written but its outputs, and none at all where the words, the policy or the asset are at fault;
     // and nothing is asked of the pair but by a relay.
+    ensures reads { RisesIn (inputs_of (command_of (map string_bytes words.now))) (F.read_faults files.old) (F.read_faults files.new) }
     ensures kept { KeepsOtherFiles (outputs_of (command_of (map string_bytes words.now))) (F.content files.old) (F.content files.new) }
     ensures unwritten { WritesNothing result →
         TellsItsOwn (command_of (map string_bytes words.now)) (outside_value F.Files O.Sink P.Pair files.old out.old pair.old) →

@@ -1,6 +1,6 @@
 //! `world SEED SESSIONS POLICY CAPTURE OUT LOG`: a policy and a capture are made from a number, and the policy is run over the
 //! capture.
-ghost use Rattle.std.specs.Prelude.{◌≡◌};
+ghost use Rattle.std.specs.Prelude.{◌≡◌, ◌∷◌, []};
 ghost use Rattle.cf_words.specs.Command.{World};
 ghost use Rattle.cf_box.specs.Ends.{Meets};
 ghost use Rattle.cf_ending.specs.Outside.{FilesNeverFall, SinkValue, files_value, outside};
@@ -38,7 +38,8 @@ pub(crate) fn world<F: Files>(
     requires { IsFitWorld sessions policy.now (run_names_value names.now) }
     ensures meets { (sink : SinkValue) (pair : PairValue) → Meets (World seed sessions policy.now (run_names_value names.now))
         (outside (files_value F.Files files.old) sink pair) (outside (files_value F.Files files.new) sink pair) result }
-    ensures later { FilesNeverFall (files_value F.Files files.old) (files_value F.Files files.new) }
+    ensures later { FilesNeverFall (policy.now ∷ names.now.capture.now ∷ []) (files_value F.Files files.old)
+        (files_value F.Files files.new) }
 {
     let made = WorldNames {
         policy,

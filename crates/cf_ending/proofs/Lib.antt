@@ -1,2 +1,2 @@
 mod Spelled
-pub mod Texts
+mod Texts

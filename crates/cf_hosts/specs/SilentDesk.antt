@@ -14,7 +14,7 @@ silent_desk = record {
   whole = true;
   faults = 0;
   lender = None;
-  reads = 0;
+  reads = λ _. 0;
   names = [];
   content = λ name. untold;
 }

@@ -178,6 +178,8 @@ what_plain (line.Lost admitted refused) h = and_plain (codes "lost") (counts_tex
 what_plain (line.Silent admitted refused) h = and_plain (codes "silent") (counts_text admitted refused) refl (counts_plain admitted refused)
 what_plain (line.Away came) h = and_plain (codes "away") (came_text came) refl (came_plain came)
 what_plain (line.Stranger came) h = and_plain (codes "stranger") (came_text came) refl (came_plain came)
+what_plain (line.Stands standing admitted refused) h =
+    and_plain (codes "stands " ++ decimal standing) (counts_text admitted refused) (and_plain (codes "stands ") (decimal standing) refl (decimal_plain standing)) (counts_plain admitted refused)
 what_plain w h = refl
 
 pub one_line : (l : LineValue) → HasPlainNames l → is_line (line_text l) ≡ true

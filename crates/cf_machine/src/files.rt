@@ -1,7 +1,7 @@
 //! Real files.
 //! A file that has gone between two calls, and a name that is a folder, are read faults like any other.
-ghost use Rattle.std.specs.Prelude.{◌≡◌, ◌≤◌, IfErr, IfOk, false, length, true};
-ghost use Rattle.cf_outside.specs.Faults.{HasCause};
+ghost use Rattle.std.specs.Prelude.{◌≡◌, ◌≤◌, IfErr, IfOk, [], false, length, true};
+ghost use Rattle.cf_outside.specs.Faults.{HasCause, times_in};
 ghost use Rattle.cf_outside.specs.Files.{untold};
 
 mod order;
@@ -12,7 +12,7 @@ mod writer;
 use crate::files::reader::{Reader, forget, opened, read_from};
 use crate::files::same::{Place, Use, first_twins, is_begun, is_printed, place_of};
 use crate::files::writer::Writers;
-use cf_outside::{Files, ReadAnswer, WriteAnswer};
+use cf_outside::{FailedReads, Files, ReadAnswer, WriteAnswer};
 pub use same::Twins;
 use std::alloc::Global;
 use std::io;
@@ -62,14 +62,14 @@ pub struct RealFiles<'a, R: FileSystem> {
     withheld: Option<Withheld>,
     /// What was gathered for a file that was then read could not be written.
     is_short: bool,
-    read_faults: u64,
+    failed_reads: FailedReads,
     write_faults: u64,
 }
 
 impl<'a, R: FileSystem> RealFiles<'a, R> {
-    /// Files of which none is open, with no name noted. Both counts of faults are 0.
+    /// Files of which none is open, with no name noted. Every count of faults is 0.
     pub fn new(rt: &'a R, alloc: Global, gather: Gather) -> Self
-        ensures counts { (result.read_faults ≡ 0) × (result.write_faults ≡ 0) }
+        ensures counts { (result.failed_reads.names ≡ []) × (result.write_faults ≡ 0) }
         ensures whole { result.is_short ≡ false }
     {
         RealFiles {
@@ -82,14 +82,14 @@ impl<'a, R: FileSystem> RealFiles<'a, R> {
             fault: None,
             withheld: None,
             is_short: false,
-            read_faults: 0,
+            failed_reads: FailedReads::new(),
             write_faults: 0,
         }
     }
 
     /// Notes which file the name of an input stands for before the work begins, so that no output is made empty that is one.
     pub fn expect(&mut self, name: &str) -> io::Result<()>
-        ensures reads { self.new.read_faults ≡ self.old.read_faults }
+        ensures reads { self.new.failed_reads.names ≡ self.old.failed_reads.names }
         ensures writes { self.new.write_faults ≡ self.old.write_faults }
     {
         self.note(name, Use::Read)
@@ -98,7 +98,7 @@ impl<'a, R: FileSystem> RealFiles<'a, R> {
     /// Notes which file the name of an output stands for before the work begins. The first output that is made is withheld where
     /// any of them is an input, or another output, under another name.
     pub fn expect_output(&mut self, name: &str) -> io::Result<()>
-        ensures reads { self.new.read_faults ≡ self.old.read_faults }
+        ensures reads { self.new.failed_reads.names ≡ self.old.failed_reads.names }
         ensures writes { self.new.write_faults ≡ self.old.write_faults }
     {
         self.note(name, Use::Output)
@@ -106,7 +106,7 @@ impl<'a, R: FileSystem> RealFiles<'a, R> {
 
     /// Notes a name, what it leads to now, and what is done with it. The error is want of memory.
     fn note(&mut self, name: &str, used: Use) -> io::Result<()>
-        ensures reads { self.new.read_faults ≡ self.old.read_faults }
+        ensures reads { self.new.failed_reads.names ≡ self.old.failed_reads.names }
         ensures writes { self.new.write_faults ≡ self.old.write_faults }
     {
         let place = place_of(self.rt, self.alloc, name, used)?;
@@ -148,7 +148,7 @@ impl<'a, R: FileSystem> RealFiles<'a, R> {
     #[inline(never)]
     fn read(&mut self, name: &str, at: u64, buf: &mut [u8]) -> io::Result<usize>
         ensures inside { IfOk result (λ n. n ≤ length buf.new) }
-        ensures reads { self.new.read_faults ≡ self.old.read_faults }
+        ensures reads { self.new.failed_reads.names ≡ self.old.failed_reads.names }
         ensures writes { self.new.write_faults ≡ self.old.write_faults }
         ensures short { self.old.is_short ≡ true → self.new.is_short ≡ true }
     {
@@ -166,7 +166,7 @@ impl<'a, R: FileSystem> RealFiles<'a, R> {
 
     /// Writes all that was gathered, before a read of it or one that may wait, and notes where that failed.
     fn write_before_read(&mut self) -> io::Result<()>
-        ensures reads { self.new.read_faults ≡ self.old.read_faults }
+        ensures reads { self.new.failed_reads.names ≡ self.old.failed_reads.names }
         ensures writes { self.new.write_faults ≡ self.old.write_faults }
         ensures fails { IfErr result (λ _. self.new.is_short ≡ true) }
         ensures kept { IfOk result (λ _. self.new.is_short ≡ self.old.is_short) }
@@ -185,7 +185,7 @@ impl<'a, R: FileSystem> RealFiles<'a, R> {
 
     /// Makes a file empty, unless that is withheld.
     fn create_new(&mut self, name: &str) -> Result<(), Option<Fault>>
-        ensures reads { self.new.read_faults ≡ self.old.read_faults }
+        ensures reads { self.new.failed_reads.names ≡ self.old.failed_reads.names }
         ensures writes { self.new.write_faults ≡ self.old.write_faults }
     {
         self.see_allowed(name)?;
@@ -197,7 +197,7 @@ impl<'a, R: FileSystem> RealFiles<'a, R> {
 
     /// Makes a file ready to be gone on with, unless that is withheld.
     fn open_kept(&mut self, name: &str) -> Result<(), Option<Fault>>
-        ensures reads { self.new.read_faults ≡ self.old.read_faults }
+        ensures reads { self.new.failed_reads.names ≡ self.old.failed_reads.names }
         ensures writes { self.new.write_faults ≡ self.old.write_faults }
     {
         self.see_allowed(name)?;
@@ -207,7 +207,7 @@ impl<'a, R: FileSystem> RealFiles<'a, R> {
 
     /// Fails where a file is not to be made, and notes why.
     fn see_allowed(&mut self, name: &str) -> Result<(), Option<Fault>>
-        ensures reads { self.new.read_faults ≡ self.old.read_faults }
+        ensures reads { self.new.failed_reads.names ≡ self.old.failed_reads.names }
         ensures writes { self.new.write_faults ≡ self.old.write_faults }
     {
         let found = match self.reason_against(name) {
@@ -247,7 +247,7 @@ impl<'a, R: FileSystem> RealFiles<'a, R> {
     /// What a call that writes answers; where it failed, that is kept and counted.
     fn answer(&mut self, done: Result<(), Option<Fault>>) -> WriteAnswer
         ensures cause { HasCause self.old.write_faults self.new.write_faults (result ≡ WriteAnswer.Failed) }
-        ensures reads { self.new.read_faults ≡ self.old.read_faults }
+        ensures reads { self.new.failed_reads.names ≡ self.old.failed_reads.names }
     {
         match done {
             Ok(()) => WriteAnswer::Done,
@@ -271,7 +271,7 @@ pub(crate) fn fault_of(alloc: Global, name: &str, error: io::Error) -> Option<Fa
 impl<R: FileSystem> Files for RealFiles<'_, R> {
     ghost content = { λ _ _. untold };
 
-    ghost read_faults = { λ f. f.read_faults };
+    ghost read_faults = { λ f. times_in f.failed_reads.names };
 
     ghost write_faults = { λ f. f.write_faults };
 
@@ -288,7 +288,7 @@ impl<R: FileSystem> Files for RealFiles<'_, R> {
             Ok(count) => ReadAnswer::Got(count),
             Err(error) => {
                 self.fault = fault_of(self.alloc, name, error);
-                self.read_faults = self.read_faults.saturating_add(1);
+                self.failed_reads.note(name);
                 ReadAnswer::Failed
             }
         }

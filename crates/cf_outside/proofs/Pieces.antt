@@ -1,5 +1,5 @@
 -- A buffer that is filled piece by piece with the octets at a place of a file.
-use Rattle.std.proofs.Common.{◌≡◌, ◌+◌, ◌-◌, ◌≤◌, ℕ, List, [], ◌++◌, length, take, drop, refl, sym, ap, ◌∙◌, arith}
+use Rattle.std.proofs.Common.{◌≡◌, ◌+◌, ◌≤◌, ℕ, List, [], ◌++◌, length, take, drop, refl, sym, ap, ◌∙◌, arith}
 use Rattle.std.proofs.lemmas.List.{take-append-le, drop-drop, length-take-le, length-append, length-take, length-drop}
 use Rattle.std.proofs.Math.Seq.{take-add, drop_at}
 use Rattle.std.proofs.lemmas.Slice.{take-put_mid_below}

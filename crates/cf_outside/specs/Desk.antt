@@ -16,8 +16,8 @@ pub record SentValue : Type 0 where
 
 -- what a desk tells: its two lists, each where it tells it, whether it may be called, and how often a call failed; the octets
 -- that stand after the last whole packet and after the last whole line, and the octets of a packet where it keeps them; and
--- of a desk over lent files the reference that it writes through, how often a read failed there, the names of its own files,
--- and every file behind that reference
+-- of a desk over lent files the reference that it writes through, how often a read of each file failed there, the names of its own
+-- files, and every file behind that reference
 pub record DeskValue : Type 0 where
   pub packets : Option (List SentValue)
   pub lines : Option (List (List ℕ))
@@ -27,7 +27,7 @@ pub record DeskValue : Type 0 where
   pub whole : Bool
   pub faults : ℕ
   pub lender : Option GName
-  pub reads : ℕ
+  pub reads : List ℕ → ℕ
   pub names : List (List ℕ)
   pub content : List ℕ → Content
 
@@ -84,7 +84,7 @@ pub record PutsLine (text : List ℕ) (old new : DeskValue) (answer : WriteAnswe
 
 -- a desk that writes a log alone, through lent files: it tells the log's lines and no packets, and is whole where no call
 -- failed and nothing stands after the log's last line feed, since the next line would else join it
-abbrev pub line_desk : (failed : Bool) → (lender : GName) → (faults reads : ℕ) → (log : List ℕ) → (List ℕ → Content) → DeskValue
+abbrev pub line_desk : (failed : Bool) → (lender : GName) → (faults : ℕ) → (reads : List ℕ → ℕ) → (log : List ℕ) → (List ℕ → Content) → DeskValue
 line_desk failed lender faults reads log content = record {
   packets = None;
   lines = file_lines (content log);

@@ -2,7 +2,7 @@
 -- what it puts there `OnlyEmits`, `OnlyLogs` and `EmitsAndLogs`.
 use Rattle.std.specs.Prelude.{◌≡◌, ℕ, Bool, true, false, List}
 use Rattle.cf_outside.specs.Desk.{DeskValue, IsNoneOf, KeepsDesk}
-use Rattle.cf_outside.specs.Faults.{HasCause}
+use Rattle.cf_outside.specs.Faults.{HasCause, HasCauseIn}
 use Rattle.cf_outside.specs.Files.{Content}
 
 -- packets were emitted and lines put, perhaps none: where the desk did not fail it is whole, and nothing new stands after its last
@@ -32,15 +32,16 @@ KeepsOtherFiles written before after = (other : List ℕ) → IsNoneOf written o
 
 -- files of these names alone were written: every other file is as it was, a failed call has its cause in a write that failed, and no
 -- read failed
-pub record OnlyWrites {A : Type 0} (names : List (List ℕ)) (content : A → List ℕ → Content) (read_faults write_faults : A → ℕ)
-    (old new : A) (failed : Type 0) : Type 0 where
+pub record OnlyWrites {A : Type 0} (names : List (List ℕ)) (content : A → List ℕ → Content) (read_faults : A → List ℕ → ℕ)
+    (write_faults : A → ℕ) (old new : A) (failed : Type 0) : Type 0 where
   pub others : KeepsOtherFiles names (content old) (content new)
   pub cause : HasCause (write_faults old) (write_faults new) failed
   pub reads : read_faults new ≡ read_faults old
 
--- files were read alone: each file is as it was, a failed call has its cause in a read that failed, and no write failed
-pub record OnlyReads {A : Type 0} (content : A → List ℕ → Content) (read_faults write_faults : A → ℕ) (old new : A)
-    (failed : Type 0) : Type 0 where
+-- the file of this name was read alone: each file is as it was, a failed call has its cause in a read of that file that failed, no
+-- read of another one failed, and no write
+pub record OnlyReads {A : Type 0} (name : List ℕ) (content : A → List ℕ → Content) (read_faults : A → List ℕ → ℕ)
+    (write_faults : A → ℕ) (old new : A) (failed : Type 0) : Type 0 where
   pub same : content new ≡ content old
-  pub cause : HasCause (read_faults old) (read_faults new) failed
+  pub cause : HasCauseIn name (read_faults old) (read_faults new) failed
   pub writes : write_faults new ≡ write_faults old

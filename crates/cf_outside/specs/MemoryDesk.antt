@@ -42,7 +42,7 @@ desk_in_memory desk = record {
   whole = desk.faults == 0;
   faults = desk.faults;
   lender = None;
-  reads = 0;
+  reads = λ _. 0;
   names = [];
   content = λ _. untold;
 }

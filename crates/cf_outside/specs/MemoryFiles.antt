@@ -1,6 +1,6 @@
 -- Beside the proof: what files in memory hold, `MemoryFilesValue`, and what the calls do to them: `MemoryReads`, `MemoryCreates`,
 -- `MemoryAppends` and `MemoryGoesOn`, one for each call.
-use Rattle.std.specs.Prelude.{◌≡◌, ◌≢◌, ◌⊎◌, ◌≤◌, ℕ, min, Option, None, Some, IsSome, List, [], ◌++◌, length, take, drop}
+use Rattle.std.specs.Prelude.{◌≡◌, ◌≢◌, ◌⊎◌, ◌≤◌, ℕ, min, Option, None, Some, IsSome, List, [], ◌∷◌, ◌++◌, length, take, drop}
 use Rattle.std.specs.declared.alloc.Global.{Global}
 use Rattle.std.specs.declared.vec.Vec.{Vec}
 use Rattle.std.specs.BTreeMap.{get_by_text}
@@ -23,7 +23,7 @@ content_of (Some bytes) = holds bytes.items
 abbrev pub file_in : MemoryFiles → List ℕ → Content
 file_in files name = content_of (get_by_text files.files name)
 
--- each file by its name, the script, and the counts
+-- each file by its name, the script, the counts, and the names of the files of which a read failed, the newest first
 pub record MemoryFilesValue : Type 0 where
   pub content : List ℕ → Content
   pub fails : List Fail
@@ -31,6 +31,7 @@ pub record MemoryFilesValue : Type 0 where
   pub read_faults : ℕ
   pub write_faults : ℕ
   pub lacks : ℕ
+  pub failed_reads : List (List ℕ)
 
 abbrev pub memory_files_value : MemoryFiles → MemoryFilesValue
 memory_files_value files = record {
@@ -40,6 +41,7 @@ memory_files_value files = record {
   read_faults = files.read_faults;
   write_faults = files.write_faults;
   lacks = files.lacks;
+  failed_reads = files.failed_reads.names;
 }
 
 -- the bytes that the next call leaves, where the script has it fail
@@ -63,7 +65,7 @@ MemoryReads name at before after old new read.End =
     × (new ≡ record old { calls = counted old.calls })
 MemoryReads name at before after old new read.Failed =
     (IsSome (next_file_fail old) ⊎ (old.content name ≡ absent)) × (after ≡ before)
-    × (new ≡ record old { calls = counted old.calls; read_faults = counted old.read_faults })
+    × (new ≡ record old { calls = counted old.calls; read_faults = counted old.read_faults; failed_reads = name ∷ old.failed_reads })
 
 -- files of which one was written: beside it just the count of calls moves, after a failure that of the faults, and for want
 -- of memory that of the lacks

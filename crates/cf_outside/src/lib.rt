@@ -3,6 +3,7 @@
 #![tactic(auto)]
 
 mod desk;
+mod failed_reads;
 mod files;
 mod memory_desk;
 mod memory_files;
@@ -15,6 +16,7 @@ mod sink;
 mod whole;
 
 pub use desk::{Desk, LineDesk};
+pub use failed_reads::FailedReads;
 pub use files::{Files, ReadAnswer, WriteAnswer};
 pub use memory_desk::{MemoryDesk, Sent};
 pub use memory_files::MemoryFiles;

@@ -28,7 +28,7 @@ pub fn fill<F: Files>(
     ensures behind { drop size buffer.new ≡ drop size buffer.old }
     ensures some { IfSome result (λ have. before ≤ have) }
     ensures length { length buffer.new ≡ length buffer.old }
-    ensures reads { OnlyReads F.content F.read_faults F.write_faults files.old files.new (result ≡ None) }
+    ensures reads { OnlyReads name.now F.content F.read_faults F.write_faults files.old files.new (result ≡ None) }
 {
     let mut have = before;
     'pieces: while have < size {

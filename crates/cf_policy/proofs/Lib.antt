@@ -1,9 +1,9 @@
 pub mod FirstPlace
-pub mod ByCode
-pub mod CodePart
-pub mod Pairs
+mod ByCode
+mod CodePart
+mod Pairs
 pub mod FirstRule
 mod Fronts
-pub mod PointTable
-pub mod ByTable
-pub mod Runs
+mod PointTable
+mod ByTable
+mod Runs

@@ -1,22 +1,22 @@
-pub mod AddressesBack
-pub mod AssetsBack
-pub mod Called
-pub mod Depths
-pub mod DocumentsBack
-pub mod Kept
-pub mod ListsBack
+mod AddressesBack
+mod AssetsBack
+mod Called
+mod Depths
+mod DocumentsBack
+mod Kept
+mod ListsBack
 pub mod Marks
-pub mod Middles
-pub mod NameNumbers
+mod Middles
+mod NameNumbers
 pub mod Members
-pub mod PointsBack
-pub mod Printed
-pub mod Ranges
-pub mod ReadBack
-pub mod RulesBack
-pub mod SetsBack
-pub mod SetsKept
-pub mod Stated
-pub mod Tables
-pub mod Texts
-pub mod Written
+mod PointsBack
+mod Printed
+mod Ranges
+mod ReadBack
+mod RulesBack
+mod SetsBack
+mod SetsKept
+mod Stated
+mod Tables
+mod Texts
+mod Written

@@ -6,7 +6,7 @@ use Rattle.cf_pcap.specs.declared.header.Header.{Header}
 use Rattle.cf_pcapng.specs.Block.{Is, Other, size_at}
 use Rattle.cf_pcapng.specs.Section.{Section}
 use Rattle.cf_records.specs.Capture.{AtPlace, Cut, FileEnd, Fits, Large, Passes}
-use Rattle.cf_records.specs.Capture.{Record, Refused, TooLong, at_place, classic_at, form_behind}
+use Rattle.cf_records.specs.Capture.{Refused, TooLong, at_place, classic_at, form_behind}
 use Rattle.cf_records.specs.Capture.{is_past, section_at}
 use Rattle.cf_records.specs.Reader.{PassesTo}
 use Rattle.cf_records.specs.declared.form.Form.{Form}

@@ -48,7 +48,7 @@ pub fn block_piece<F: Files>(
     ensures found { FindsPiece (F.content files.old name.now) (form.Blocks reader.old) place (form.Blocks reader.new) buffer.new result }
     ensures inside { IsPieceInside place (length buffer.new) result }
     ensures length { length buffer.new ≡ length buffer.old }
-    ensures reads { OnlyReads F.content F.read_faults F.write_faults files.old files.new (result ≡ piece.Ends next.Failed) }
+    ensures reads { OnlyReads name.now F.content F.read_faults F.write_faults files.old files.new (result ≡ piece.Ends next.Failed) }
 {
     let Some(have) = fill(name, place, 0, TOLD_OCTETS, buffer, files) else {
         return Piece::Ends(NextRecord::Failed);
@@ -80,7 +80,7 @@ fn fill_more<F: Files>(
     ensures inside { IfSome result (λ have. have ≤ size) }
     ensures filled { IfSome result (λ have. IsFilled (F.content files.old name.now) place size (take have buffer.new)) }
     ensures length { length buffer.new ≡ length buffer.old }
-    ensures reads { OnlyReads F.content F.read_faults F.write_faults files.old files.new (result ≡ None) }
+    ensures reads { OnlyReads name.now F.content F.read_faults F.write_faults files.old files.new (result ≡ None) }
 {
     if size <= have {
         return Some(size);

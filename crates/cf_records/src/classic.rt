@@ -26,7 +26,7 @@ pub fn classic_piece<F: Files>(
     ensures found { FindsPiece (F.content files.old name.now) (form.Classic header.now) place (form.Classic header.now) buffer.new result }
     ensures inside { IsPieceInside place (length buffer.new) result }
     ensures length { length buffer.new ≡ length buffer.old }
-    ensures reads { OnlyReads F.content F.read_faults F.write_faults files.old files.new (result ≡ piece.Ends next.Failed) }
+    ensures reads { OnlyReads name.now F.content F.read_faults F.write_faults files.old files.new (result ≡ piece.Ends next.Failed) }
 {
     let Some(have) = fill(name, place, 0, HEAD_OCTETS, buffer, files) else {
         return Piece::Ends(NextRecord::Failed);

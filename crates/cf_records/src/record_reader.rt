@@ -97,7 +97,7 @@ impl RecordReader {
         files: &mut F,
     ) -> Result<RecordReader, OpenFault>
         ensures opened { OpensAs (F.content files.old name.now) result }
-        ensures reads { OnlyReads F.content F.read_faults F.write_faults files.old files.new (IsErrOf result OpenFault.Read) }
+        ensures reads { OnlyReads name.now F.content F.read_faults F.write_faults files.old files.new (IsErrOf result OpenFault.Read) }
     {
         RecordReader::open_in(alloc, LinkSet::Plain, name, files)
     }
@@ -110,7 +110,7 @@ impl RecordReader {
         files: &mut F,
     ) -> Result<RecordReader, OpenFault>
         ensures opened { OpensIn kinds (F.content files.old name.now) result }
-        ensures reads { OnlyReads F.content F.read_faults F.write_faults files.old files.new (IsErrOf result OpenFault.Read) }
+        ensures reads { OnlyReads name.now F.content F.read_faults F.write_faults files.old files.new (IsErrOf result OpenFault.Read) }
     {
         let mut head = [0u8; FORM_OCTETS];
         let Some(have) = fill(name, 0, 0, FORM_OCTETS, &mut head, files) else {
@@ -170,7 +170,7 @@ impl RecordReader {
         ensures found { FindsRecord (F.content files.old name.now) self.old self.new result }
         ensures near { self.new.place ≤ 2 ^ 40 }
         ensures on { IsPastRecord result self.old.place self.new.place }
-        ensures reads { OnlyReads F.content F.read_faults F.write_faults files.old files.new (result ≡ next.Failed) }
+        ensures reads { OnlyReads name.now F.content F.read_faults F.write_faults files.old files.new (result ≡ next.Failed) }
     {
         let piece = piece_behind(
             name,
@@ -216,7 +216,7 @@ fn piece_behind<F: Files>(
     ensures none { (used : ℕ) → result ≡ piece.Passed used → ⊥ }
     ensures room { length buffer.new ≡ length buffer.old }
     ensures form { room_of form.new ≡ room_of form.old }
-    ensures reads { OnlyReads F.content F.read_faults F.write_faults files.old files.new (result ≡ piece.Ends next.Failed) }
+    ensures reads { OnlyReads name.now F.content F.read_faults F.write_faults files.old files.new (result ≡ piece.Ends next.Failed) }
 {
     'pieces: loop {
         match piece_at(name, form, *place, buffer, files) {
@@ -240,7 +240,7 @@ fn piece_at<F: Files>(
     ensures inside { IsPieceInside place (length buffer.new) result }
     ensures length { length buffer.new ≡ length buffer.old }
     ensures form { room_of form.new ≡ room_of form.old }
-    ensures reads { OnlyReads F.content F.read_faults F.write_faults files.old files.new (result ≡ piece.Ends next.Failed) }
+    ensures reads { OnlyReads name.now F.content F.read_faults F.write_faults files.old files.new (result ≡ piece.Ends next.Failed) }
 {
     match form {
         Form::Classic(header) => classic_piece(name, header, place, buffer, files),

@@ -1,4 +1,4 @@
--- The interface of lemmas for the crates above: Lined, Stages, Starting and Turned.
+-- The interface of lemmas for the crates above: Lined, Starting and Turned.
 mod Asked
 mod Asking
 mod Doing
@@ -12,7 +12,7 @@ mod Moving
 mod OnePair
 mod Scenes
 mod Serving
-pub mod Stages
+mod Stages
 mod Standing
 pub mod Starting
 mod Taking

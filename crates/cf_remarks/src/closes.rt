@@ -42,7 +42,7 @@ impl Closes {
 /// How many sessions of a run neither closed nor were cut, by what was counted and its LOG. Nothing where LOG cannot be read.
 /// Changes no file.
 pub fn left_open<F: Files>(log: &str, summary: &Summary, files: &mut F) -> Option<u64>
-    ensures reads { OnlyReads F.content F.read_faults F.write_faults files.old files.new ⊥ }
+    ensures reads { OnlyReads log.now F.content F.read_faults F.write_faults files.old files.new ⊥ }
 {
     let closed = closes_in(log, files)?;
     Some(
@@ -55,7 +55,7 @@ pub fn left_open<F: Files>(log: &str, summary: &Summary, files: &mut F) -> Optio
 
 /// How many lines of a log say that a session closed.
 fn closes_in<F: Files>(log: &str, files: &mut F) -> Option<u64>
-    ensures reads { OnlyReads F.content F.read_faults F.write_faults files.old files.new ⊥ }
+    ensures reads { OnlyReads log.now F.content F.read_faults F.write_faults files.old files.new ⊥ }
 {
     let mut closes = Closes {
         words: 0,

@@ -84,7 +84,7 @@ pub(crate) fn heard_in<F: Files>(
     files: &mut F,
 ) -> Option<Senders>
     requires within { IsWithin policy.now }
-    ensures reads { OnlyReads F.content F.read_faults F.write_faults files.old files.new ⊥ }
+    ensures reads { OnlyReads capture.now F.content F.read_faults F.write_faults files.old files.new ⊥ }
 {
     let flows = watch(alloc, policy, capture, files).ok()?;
     let mut senders = BTreeMap::new(alloc);

@@ -21,7 +21,7 @@ pub fn learned_text<F: Files>(
     files: &mut F,
 ) -> Result<String, AllocError>
     requires within { IsWithin policy.now }
-    ensures reads { OnlyReads F.content F.read_faults F.write_faults files.old files.new ⊥ }
+    ensures reads { OnlyReads capture.now F.content F.read_faults F.write_faults files.old files.new ⊥ }
 {
     let mut lines = Lines::new(alloc);
     let assets = policy.assets.as_slice();

@@ -52,8 +52,8 @@ pub fn look_again<F: Files, G: Files>(
     files: &mut F,
     others: &mut G,
 ) -> Option<Look>
-    ensures reads { OnlyReads F.content F.read_faults F.write_faults files.old files.new ⊥ }
-    ensures reads_others { OnlyReads G.content G.read_faults G.write_faults others.old others.new ⊥ }
+    ensures reads { OnlyReads names.now.capture.now F.content F.read_faults F.write_faults files.old files.new ⊥ }
+    ensures reads_others { OnlyReads names.now.out.now G.content G.read_faults G.write_faults others.old others.new ⊥ }
 {
     let mut captured = RecordReader::open(alloc, names.capture, files).ok()?;
     let mut sent = RecordReader::open(alloc, names.out, others).ok()?;
@@ -85,8 +85,8 @@ fn see_all<F: Files, G: Files>(
 ) -> bool
     requires captured { captured.old.place ≤ 2 ^ 40 }
     requires sent { sent.old.place ≤ 2 ^ 40 }
-    ensures reads { OnlyReads F.content F.read_faults F.write_faults files.old files.new ⊥ }
-    ensures reads_others { OnlyReads G.content G.read_faults G.write_faults others.old others.new ⊥ }
+    ensures reads { OnlyReads names.now.capture.now F.content F.read_faults F.write_faults files.old files.new ⊥ }
+    ensures reads_others { OnlyReads names.now.out.now G.content G.read_faults G.write_faults others.old others.new ⊥ }
 {
     let mut next = sent.next(names.out, others);
     let mut least = 2u64;
@@ -125,7 +125,7 @@ fn see_sent<F: Files>(
 ) -> Option<NextRecord>
     requires near { sent.old.place ≤ 2 ^ 40 }
     ensures near { sent.new.place ≤ 2 ^ 40 }
-    ensures reads { OnlyReads F.content F.read_faults F.write_faults files.old files.new ⊥ }
+    ensures reads { OnlyReads name.now F.content F.read_faults F.write_faults files.old files.new ⊥ }
 {
     let NextRecord::Whole(mut stamp) = first else {
         return behind(first);

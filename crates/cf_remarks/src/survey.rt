@@ -57,7 +57,7 @@ pub fn survey_capture<F: Files>(
     reading: Reading,
     files: &mut F,
 ) -> Option<Survey>
-    ensures reads { OnlyReads F.content F.read_faults F.write_faults files.old files.new ⊥ }
+    ensures reads { OnlyReads capture.now F.content F.read_faults F.write_faults files.old files.new ⊥ }
 {
     let kinds = match reading {
         Reading::FromSyn => LinkSet::Plain,
@@ -107,7 +107,7 @@ impl Seen {
         files: &mut F,
     ) -> bool
         requires near { reader.old.place ≤ 2 ^ 40 }
-        ensures reads { OnlyReads F.content F.read_faults F.write_faults files.old files.new ⊥ }
+        ensures reads { OnlyReads capture.now F.content F.read_faults F.write_faults files.old files.new ⊥ }
     {
         'records: loop {
             match reader.next(capture, files) {

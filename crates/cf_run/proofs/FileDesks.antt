@@ -13,7 +13,7 @@ use Rattle.cf_run.specs.OutputFile.{IsRecord, file_packets, packet_part, record_
 use Rattle.cf_run.specs.FileDesk.{are_whole, file_desk}
 use Rattle.cf_run.proofs.OutputFiles.{file_packets-part, recorded}
 
-module _ (l : GName) (failed : Bool) (f f' r r' : ℕ) (out log : List ℕ) (old new : List ℕ → Content)
+module _ (l : GName) (failed : Bool) (f f' : ℕ) (r r' : List ℕ → ℕ) (out log : List ℕ) (old new : List ℕ → Content)
     (whole : (not failed && not (bytes_eq out log) && ends_with_record (old out) && ends_with_line (old log)) ≡ true) (reads : r' ≡ r) where
   ends_log : ends_with_line (old log) ≡ true
   ends_log = (and_parts _ _ whole).1

@@ -9,7 +9,7 @@ use Rattle.cf_run.specs.OutputFile.{file_packets, packet_part, record_octets, en
 
 -- a desk that writes packets to one file and lines to another, through lent files: it tells the packets of the one and the
 -- lines of the other, and is whole where no call failed, the two names differ, and the next record and line stand alone
-abbrev pub file_desk : (failed : Bool) → (lender : GName) → (faults reads : ℕ) → (out log : List ℕ) → (List ℕ → Content) → DeskValue
+abbrev pub file_desk : (failed : Bool) → (lender : GName) → (faults : ℕ) → (reads : List ℕ → ℕ) → (out log : List ℕ) → (List ℕ → Content) → DeskValue
 file_desk failed lender faults reads out log content = record {
   packets = file_packets (content out);
   lines = file_lines (content log);
@@ -39,7 +39,7 @@ files_desk out log content = record {
   whole = true;
   faults = 0;
   lender = None;
-  reads = 0;
+  reads = λ _. 0;
   names = out ∷ log ∷ [];
   content = content;
 }

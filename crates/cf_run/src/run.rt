@@ -1,7 +1,7 @@
 //! A run over a capture file.
 ghost use Rattle.std.specs.Prelude.{◌≡◌, ◌≢◌, ◌+◌, ◌^◌, ◌<◌, ◌≤◌, ◌∷◌, [], List, IsErrOf, OnOk, true};
 ghost use Rattle.cf_lane.specs.declared.limit.TheConstants.{LETTER_LIMIT};
-ghost use Rattle.cf_outside.specs.Faults.{HasCause};
+ghost use Rattle.cf_outside.specs.Faults.{HasCause, HasCauseIn};
 ghost use Rattle.cf_outside.specs.Frames.{KeepsOtherFiles};
 ghost use Rattle.cf_outside.specs.Files.{IsWhole, content_after_create, content_after_write};
 ghost use Rattle.cf_packet.specs.Packet.{read_record};
@@ -108,7 +108,8 @@ pub fn run_capture<F: Files>(
     requires apart { AreApart (run_names_value names.now) }
     ensures runs { RunsAs policy.now.assets LETTER_LIMIT (run_names_value names.now) (F.content files.old) (F.content files.new) result }
     ensures others { KeepsOtherFiles (names.now.out.now ∷ names.now.log.now ∷ []) (F.content files.old) (F.content files.new) }
-    ensures read { HasCause (F.read_faults files.old) (F.read_faults files.new) (IsErrOf result RunFault.Read) }
+    ensures read { HasCauseIn names.now.capture.now (F.read_faults files.old) (F.read_faults files.new)
+        (IsErrOf result RunFault.Read) }
     ensures write { HasCause (F.write_faults files.old) (F.write_faults files.new) (IsErrOf result RunFault.Write) }
 {
     let mut reader = RecordReader::open(alloc, names.capture, files)?;
@@ -173,7 +174,8 @@ fn run_records<F: Files>(
     ensures runs { RunsRecords policy.now.assets engine.old.limit (run_names_value names.now)
         (F.content files.old) (F.content files.new) result }
     ensures others { KeepsOtherFiles (names.now.out.now ∷ names.now.log.now ∷ []) (F.content files.old) (F.content files.new) }
-    ensures read { HasCause (F.read_faults files.old) (F.read_faults files.new) (IsErrOf result RunFault.Read) }
+    ensures read { HasCauseIn names.now.capture.now (F.read_faults files.old) (F.read_faults files.new)
+        (IsErrOf result RunFault.Read) }
     ensures write { HasCause (F.write_faults files.old) (F.write_faults files.new) (IsErrOf result RunFault.Write) }
 {
     let mut least = 2;

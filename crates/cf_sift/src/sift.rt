@@ -1,7 +1,7 @@
 //! The filter of a stored stream of one client.
 ghost use Rattle.std.specs.Prelude.{◌≡◌, ◌∷◌, [], Some, true, IfOk, IsErr, IsErrOf, IsSome, OnErr, OnOk, vec_len};
 ghost use Rattle.cf_lane.specs.Handled.{MayHaveMore};
-ghost use Rattle.cf_outside.specs.Faults.{HasCause};
+ghost use Rattle.cf_outside.specs.Faults.{HasCause, HasCauseIn};
 ghost use Rattle.cf_outside.specs.Frames.{OnlyWrites};
 ghost use Rattle.cf_outside.specs.Lines.{ends_with_line, file_lines, file_part};
 ghost use Rattle.cf_lane.specs.Log.{with_lines};
@@ -86,7 +86,8 @@ pub fn sift_stream<F: Files>(
     requires within { IsAssetWithin asset.now }
     requires apart { AreApart (sift_names_value names.now) }
     ensures ends { SiftEnds asset.now client (sift_names_value names.now) (F.content files.old) (F.content files.new) result }
-    ensures read { HasCause (F.read_faults files.old) (F.read_faults files.new) (IsErrOf result SiftFault.Read) }
+    ensures read { HasCauseIn names.now.stream.now (F.read_faults files.old) (F.read_faults files.new)
+        (IsErrOf result SiftFault.Read) }
     ensures write { HasCause (F.write_faults files.old) (F.write_faults files.new) (IsErrOf result SiftFault.Write) }
 {
     let client = Endpoint {

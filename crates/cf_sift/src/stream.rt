@@ -1,7 +1,7 @@
 //! A stored stream, taken element by element.
 ghost use Rattle.std.specs.Prelude.{◌≡◌, ◌+◌, ◌≤◌, None, true, IfOk, OnOk, OnErr, IsErr, IsErrOf, length};
 ghost use Rattle.cf_lane.specs.History.{bytes_at, end_at};
-ghost use Rattle.cf_outside.specs.Faults.{HasCause};
+ghost use Rattle.cf_outside.specs.Faults.{HasCause, HasCauseIn};
 ghost use Rattle.cf_outside.specs.Frames.{KeepsOtherFiles, OnlyWrites};
 ghost use Rattle.cf_outside.specs.Lines.{ends_with_line};
 ghost use Rattle.cf_policy.specs.Within.{IsAssetWithin};
@@ -47,7 +47,8 @@ pub(crate) fn take_stream<F: Files>(
     ensures memory { IsErrOf result SiftFault.NoMemory → ⊥ }
     ensures log { OnOk result (ends_with_line (F.content files.new names.now.log.now) ≡ true) }
     ensures others { KeepsOtherFiles (sift_output_names (sift_names_value names.now)) (F.content files.old) (F.content files.new) }
-    ensures read_cause { HasCause (F.read_faults files.old) (F.read_faults files.new) (IsErrOf result SiftFault.Read) }
+    ensures read_cause { HasCauseIn names.now.stream.now (F.read_faults files.old) (F.read_faults files.new)
+        (IsErrOf result SiftFault.Read) }
     ensures write_cause { HasCause (F.write_faults files.old) (F.write_faults files.new) (IsErrOf result SiftFault.Write) }
 {
     has_one_judgement();

@@ -35,7 +35,7 @@ pub fn watch<F: Files>(
         (Ok (map flow_value flows.items))) }
     ensures for_assets { IfOk result (λ flows. All (IsForAsset policy.now.assets) (map flow_value flows.items)) }
     ensures fault { IfErr result (λ fault. WatchesAs policy.now.assets (F.content files.old capture.now) (Err fault)) }
-    ensures reads { OnlyReads F.content F.read_faults F.write_faults files.old files.new (IsErrOf result WatchFault.Read) }
+    ensures reads { OnlyReads capture.now F.content F.read_faults F.write_faults files.old files.new (IsErrOf result WatchFault.Read) }
 {
     match watch_for(alloc, Scope::Connections, policy, capture, files) {
         Ok(recording) => Ok(recording.flows),
@@ -60,7 +60,7 @@ pub fn watch_recording<F: Files>(
         r.stamps.items) }
     ensures for_assets { IfOk result (λ r. All (IsForAsset policy.now.assets) (map flow_value r.flows.items)) }
     ensures fault { IfErr result (λ fault. FailsAs set.Recorded (F.content files.old capture.now) fault) }
-    ensures reads { OnlyReads F.content F.read_faults F.write_faults files.old files.new (IsErrOf result WatchFault.Read) }
+    ensures reads { OnlyReads capture.now F.content F.read_faults F.write_faults files.old files.new (IsErrOf result WatchFault.Read) }
 {
     watch_for(alloc, Scope::Recording, policy, capture, files)
 }
@@ -78,7 +78,7 @@ fn watch_for<F: Files>(
         (map flow_value r.flows.items) all × (scope ≡ Scope.Recording → r.stamps.items ≡ all)) }
     ensures for_assets { IfOk result (λ r. All (IsForAsset policy.now.assets) (map flow_value r.flows.items)) }
     ensures fault { IfErr result (λ fault. FailsAs (kinds_by scope) (F.content files.old capture.now) fault) }
-    ensures reads { OnlyReads F.content F.read_faults F.write_faults files.old files.new (IsErrOf result WatchFault.Read) }
+    ensures reads { OnlyReads capture.now F.content F.read_faults F.write_faults files.old files.new (IsErrOf result WatchFault.Read) }
 {
     match is_long(capture, files) {
         Some(false) => {}
@@ -98,7 +98,7 @@ fn watch_for<F: Files>(
 fn is_long<F: Files>(name: &str, files: &mut F) -> Option<bool>
     ensures long { result ≡ Some true → IsLongerThan (F.content files.old name.now) CAPTURE_LIMIT }
     ensures short { result ≡ Some false → IsAtEnd (F.content files.old name.now) CAPTURE_LIMIT }
-    ensures reads { OnlyReads F.content F.read_faults F.write_faults files.old files.new (result ≡ None) }
+    ensures reads { OnlyReads name.now F.content F.read_faults F.write_faults files.old files.new (result ≡ None) }
 {
     let mut octet = [0u8; 1];
     match files.read_at(name, CAPTURE_LIMIT, &mut octet) {
@@ -149,7 +149,7 @@ fn watch_records<F: Files>(
         × (scope ≡ Scope.Recording → r.stamps.items ≡ all)) }
     ensures for_assets { IfOk result (λ r. All (IsForAsset assets.now) (map flow_value r.flows.items)) }
     ensures fault { IfErr result (λ fault. FailsAs (kinds_by scope) (F.content files.old name.now) fault) }
-    ensures reads { OnlyReads F.content F.read_faults F.write_faults files.old files.new (IsErrOf result WatchFault.Read) }
+    ensures reads { OnlyReads name.now F.content F.read_faults F.write_faults files.old files.new (IsErrOf result WatchFault.Read) }
 {
     let mut watch = Watch::new(alloc);
     let mut kept = Vec::new(alloc);

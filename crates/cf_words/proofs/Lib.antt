@@ -1,2 +1,2 @@
 pub mod FileNames
-pub mod Numerals
+mod Numerals

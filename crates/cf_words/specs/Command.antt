@@ -64,6 +64,20 @@ capture_file (Relay policy asset port idles log) = None
 capture_file (World seed sessions policy names) = None
 capture_file (Sift policy asset client names) = None
 
+-- the files that it reads: POLICY, the second policy, CAPTURE and STREAM
+abbrev pub input_files : Command → List (List ℕ)
+input_files (Check policy) = policy ∷ []
+input_files (Compare policy other) = policy ∷ other ∷ []
+input_files (Judge policy capture) = policy ∷ capture ∷ []
+input_files (Learn policy capture out) = policy ∷ capture ∷ []
+input_files (Migrate policy out) = policy ∷ []
+input_files (Packets capture) = capture ∷ []
+input_files (Review policy capture log) = policy ∷ capture ∷ []
+input_files (Run policy names) = policy ∷ names.capture ∷ []
+input_files (Relay policy asset port idles log) = policy ∷ []
+input_files (World seed sessions policy names) = policy ∷ names.capture ∷ []
+input_files (Sift policy asset client names) = policy ∷ names.stream ∷ []
+
 -- the files that it may write
 abbrev pub output_files : Command → List (List ℕ)
 output_files (Check policy) = []

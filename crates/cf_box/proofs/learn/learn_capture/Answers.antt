@@ -1,4 +1,4 @@
-use Rattle.std.proofs.Common.{Err, ap, arith, map, refl, subst, sym, ◌∙◌}
+use Rattle.std.proofs.Common.{Err, ap, map, refl, subst, sym, ◌∙◌}
 use Rattle.cf_watch.specs.FlowValue.{flow_value}
 use Rattle.cf_words.specs.Command.{Learn}
 use Rattle.cf_box.specs.Ends.{Meets}
@@ -6,6 +6,7 @@ use Rattle.cf_box.specs.Learn.{IsLearned, LearnLeaves, LearnsAs}
 use Rattle.cf_ending.specs.Outside.{files_value, outside}
 use Rattle.cf_box.proofs.Learning.{has_watched, unlearned_meets, unwatched_meets, written_meets}
 use Rattle.cf_box.proofs.Passing.{unread_leaves}
+use Rattle.cf_box.proofs.Reading.{rises_both}
 use Rattle.cf_box.proofs.learn.learn_capture.Goals as goal
 
 pub returns-in-Err-clause-meets : goal.returns-in-Err-clause-meets
@@ -43,10 +44,10 @@ returns-in-Ok-learned-clause-meets g c = λ sink pair.
     let watched = outside (files_value g.F.Files c.watch.new.files) sink pair in
     let after = outside (files_value g.F.Files c.write_policy.new.files) sink pair in
     let flows = map flow_value c.in-Ok-watch.flows.items in
-    let reads = c.watch.ensures.reads.cause.later in
-    let earlier = c.load_policy.ensures.only.reads in
+    let reads = rises_both c.args.policy_file.now c.args.capture.now (g.F.Files.read_faults c.args.files.now) (g.F.Files.read_faults c.load_policy.new.files) (g.F.Files.read_faults c.watch.new.files)
+    c.load_policy.ensures.only.reads c.watch.ensures.reads.cause in
     written_meets c.args.policy_file.now c.args.capture.now c.args.out.now before c.in-Ok.policy c.in-Ok.ensures.has flows
     (has_watched c.args.policy_file.now c.args.capture.now c.args.out.now before c.in-Ok.policy c.in-Ok.ensures.has middle flows c.load_policy.ensures.only c.in-Ok-watch.ensures.watched)
     watched after c.in-Ok-learned.policy (subst (λ l. IsLearned c.in-Ok.policy (map flow_value l) c.in-Ok-learned.policy) c.as_slice.ensures.value c.in-Ok-learned.ensures.0)
-    (record { content = c.watch.ensures.reads.same ∙ c.load_policy.ensures.only.content; reads = omega (arith, reads, earlier); writes = c.watch.ensures.reads.writes ∙ c.load_policy.ensures.only.writes })
+    (record { content = c.watch.ensures.reads.same ∙ c.load_policy.ensures.only.content; reads = reads; writes = c.watch.ensures.reads.writes ∙ c.load_policy.ensures.only.writes })
     c.write_policy.ensures.only.others refl refl c.write_policy.result c.write_policy.ensures.writes c.write_policy.ensures.only.cause.rose c.write_policy.ensures.unwritten

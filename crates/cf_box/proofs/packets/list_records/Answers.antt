@@ -23,7 +23,7 @@ records-init g c = record {
   listed = none_listed c.requires.form c.requires.place c.new-lines.ensures;
   near = first_near c.args.reader.now.form c.args.reader.now.place c.requires.place;
   few = omega arith;
-  reads = reads_none g.F.Files.content g.F.Files.read_faults g.F.Files.write_faults c.args.files.now;
+  reads = reads_none c.args.name.now g.F.Files.content g.F.Files.read_faults g.F.Files.write_faults c.args.files.now;
   puts = omega arith;
 }
 

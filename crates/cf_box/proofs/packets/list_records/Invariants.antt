@@ -10,7 +10,7 @@ invariant-records g l =
       listed : AreListed (content l.fn.files l.name) l.fn.reader.form l.reader l.number (g.O.Sink.text l.fn.out) (g.O.Sink.text l.out) l.lines.items;
       near : l.reader.place ≤ 2 ^ 40;
       few : l.number ≤ l.reader.place + 1;
-      reads : OnlyReads content g.F.Files.read_faults g.F.Files.write_faults l.fn.files l.files ⊥;
+      reads : OnlyReads l.name content g.F.Files.read_faults g.F.Files.write_faults l.fn.files l.files ⊥;
       puts : g.O.Sink.faults l.fn.out ≤ g.O.Sink.faults l.out;
     }
 

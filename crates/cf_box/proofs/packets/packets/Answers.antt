@@ -20,7 +20,7 @@ returns-in-Ok-clause-meets g c = λ pair.
     let done = c.list_records.ensures in
     listing_meets c.args.name.now before after (done.reads.same ∙ c.in-Ok.ensures.reads.same) refl c.list_records.result
     (λ is.
-    let rose : Rose (g.F.Files.read_faults c.open.new.files) (g.F.Files.read_faults c.list_records.new.files) = done.reads.cause.rose is in
+    let rose : Rose (g.F.Files.read_faults c.open.new.files c.args.name.now) (g.F.Files.read_faults c.list_records.new.files c.args.name.now) = done.reads.cause.rose is in
     omega (arith, c.in-Ok.ensures.reads.cause.later, rose))
     (subst (λ (content : List ℕ → Content). ListsFile (content c.args.name.now) (sink_value g.O.Sink c.args.out.now) (sink_value g.O.Sink c.list_records.new.out) c.list_records.result)
     c.in-Ok.ensures.reads.same done.lists)

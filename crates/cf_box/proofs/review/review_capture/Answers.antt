@@ -1,4 +1,4 @@
-use Rattle.std.proofs.Common.{Err, List, ap, arith, map, refl, subst, sym, ℕ, ◌∙◌, ◌≡◌}
+use Rattle.std.proofs.Common.{Err, List, ap, map, refl, subst, sym, ℕ, ◌∙◌, ◌≡◌}
 use Rattle.cf_outside.specs.Files.{Content, IsPartly, content_after_write}
 use Rattle.cf_review.specs.Lines.{review_text}
 use Rattle.cf_review.specs.Remark.{remark_value}
@@ -10,6 +10,7 @@ use Rattle.cf_box.specs.Ends.{Meets}
 use Rattle.cf_ending.specs.Outside.{files_value, outside}
 use Rattle.cf_box.specs.Review.{ReviewLeaves}
 use Rattle.cf_box.proofs.Passing.{unread_leaves}
+use Rattle.cf_box.proofs.Reading.{rises_both}
 use Rattle.cf_box.proofs.Recorded.{answered_meets, failed_meets, unwatched_meets}
 use Rattle.cf_box.proofs.review.review_capture.Goals as goal
 
@@ -38,8 +39,8 @@ returns-in-Ok-write_lines-clause-meets g c = λ sink pair.
     let p = c.in-Ok.policy in
     let recording = c.in-Ok-watch_recording.recording in
     let flows = map flow_value recording.flows.items in
-    let reads = c.watch_recording.ensures.reads.cause.later in
-    let earlier = c.load_policy.ensures.only.reads in
+    let reads = rises_both c.args.policy_file.now c.args.capture.now (g.F.Files.read_faults c.args.files.now) (g.F.Files.read_faults c.load_policy.new.files) (g.F.Files.read_faults c.watch_recording.new.files)
+    c.load_policy.ensures.only.reads c.watch_recording.ensures.reads.cause in
     let recorded = subst (λ (content : List ℕ → Content). IsRecordingOf p.assets (content c.args.capture.now) flows recording.stamps.items) (sym c.watch_recording.ensures.reads.same)
     c.in-Ok-watch_recording.ensures.watched in
     let is = subst (λ l. IsReviewOf p.assets (map flow_value l) c.in-Ok-review.reviewed) c.as_slice.ensures.value c.in-Ok-review.ensures.reviewed in
@@ -47,7 +48,7 @@ returns-in-Ok-write_lines-clause-meets g c = λ sink pair.
     ap (λ s. review_text p.assets s (map remark_value c.as_slice-3.result.now)) c.as_slice-2.ensures.value
     ∙ ap (λ l. review_text p.assets recording.stamps.items (map remark_value l)) c.as_slice-3.ensures.value in
     answered_meets c.args.policy_file.now c.args.capture.now c.args.log.now before p c.in-Ok.ensures.has middle after recording.stamps.items c.in-Ok-review.reviewed flows recorded is
-    (record { content = c.watch_recording.ensures.reads.same ∙ c.load_policy.ensures.only.content; reads = omega (arith, reads, earlier); writes = c.watch_recording.ensures.reads.writes ∙ c.load_policy.ensures.only.writes })
+    (record { content = c.watch_recording.ensures.reads.same ∙ c.load_policy.ensures.only.content; reads = reads; writes = c.watch_recording.ensures.reads.writes ∙ c.load_policy.ensures.only.writes })
     refl refl c.write_lines.ensures.writes.others
     (c.in-Ok-write_lines.ensures.done ∙ ap (content_after_write (g.F.Files.content c.watch_recording.new.files c.args.log.now)) text) c.answer.result c.answer.ensures
 
@@ -59,8 +60,8 @@ returns-clause-meets g c = λ sink pair.
     let p = c.in-Ok.policy in
     let recording = c.in-Ok-watch_recording.recording in
     let flows = map flow_value recording.flows.items in
-    let reads = c.watch_recording.ensures.reads.cause.later in
-    let earlier = c.load_policy.ensures.only.reads in
+    let reads = rises_both c.args.policy_file.now c.args.capture.now (g.F.Files.read_faults c.args.files.now) (g.F.Files.read_faults c.load_policy.new.files) (g.F.Files.read_faults c.watch_recording.new.files)
+    c.load_policy.ensures.only.reads c.watch_recording.ensures.reads.cause in
     let recorded = subst (λ (content : List ℕ → Content). IsRecordingOf p.assets (content c.args.capture.now) flows recording.stamps.items) (sym c.watch_recording.ensures.reads.same)
     c.in-Ok-watch_recording.ensures.watched in
     let is = subst (λ l. IsReviewOf p.assets (map flow_value l) c.in-Ok-review.reviewed) c.as_slice.ensures.value c.in-Ok-review.ensures.reviewed in
@@ -68,7 +69,7 @@ returns-clause-meets g c = λ sink pair.
     ap (λ s. review_text p.assets s (map remark_value c.as_slice-3.result.now)) c.as_slice-2.ensures.value
     ∙ ap (λ l. review_text p.assets recording.stamps.items (map remark_value l)) c.as_slice-3.ensures.value in
     failed_meets c.args.policy_file.now c.args.capture.now c.args.log.now before p c.in-Ok.ensures.has middle after recording.stamps.items c.in-Ok-review.reviewed flows recorded is
-    (record { content = c.watch_recording.ensures.reads.same ∙ c.load_policy.ensures.only.content; reads = omega (arith, reads, earlier); writes = c.watch_recording.ensures.reads.writes ∙ c.load_policy.ensures.only.writes })
+    (record { content = c.watch_recording.ensures.reads.same ∙ c.load_policy.ensures.only.content; reads = reads; writes = c.watch_recording.ensures.reads.writes ∙ c.load_policy.ensures.only.writes })
     refl refl c.write_lines.ensures.writes.others
     (c.in-Err-write_lines.ensures.writes.cause.rose refl)
     (subst (λ t. IsPartly t (g.F.Files.content c.watch_recording.new.files c.args.log.now) (g.F.Files.content c.write_lines.new.files c.args.log.now)) text c.in-Err-write_lines.ensures.partly)

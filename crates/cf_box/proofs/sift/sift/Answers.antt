@@ -4,7 +4,8 @@ use Rattle.cf_ending.specs.Outside.{FilesValue, files_value, outside}
 use Rattle.cf_box.specs.PolicyFile.{FindsAsset}
 use Rattle.cf_box.specs.Sift.{SiftLeaves}
 use Rattle.cf_box.proofs.Passing.{unread_leaves}
-use Rattle.cf_box.proofs.Sifting.{since, sift_cuts, sift_ends, sift_fails}
+use Rattle.cf_box.proofs.Reading.{since_read}
+use Rattle.cf_box.proofs.Sifting.{sift_cuts, sift_ends, sift_fails}
 use Rattle.cf_policy.specs.declared.Asset.{Asset}
 use Rattle.cf_sift.specs.Names.{SiftNamesValue, sift_names_value}
 use Rattle.cf_sift.specs.Sifted.{IsSifted, SiftEnds}
@@ -46,7 +47,7 @@ returns-in-Err-sift_stream-clause-meets g c = λ sink pair.
     let ends = subst (λ k. SiftEnds (asset g at) c.args.client (names g at) k (after g at).content (Err fault)) only.content stream.ends in
     sift_fails c.args.policy_file.now c.args.asset_name.now c.args.client (names g at) (outside (before g at) sink pair) (outside (after g at) sink pair) (asset g at) (finds g at) refl refl
     fault c.sift_stop.result c.sift_stop.ensures
-    (λ is. since (before g at).read_faults (g.F.Files.read_faults c.load_policy.new.files) (after g at).read_faults only.reads (stream.read.rose is))
+    (λ is. since_read (before g at) (files_value g.F.Files c.load_policy.new.files) (after g at) only c.args.names.now.stream.now (stream.read.rose is))
     (λ is. subst (λ n. Rose n (after g at).write_faults) only.writes (stream.write.rose is))
     ends
 

@@ -1,8 +1,8 @@
 use Rattle.std.proofs.Common.{◌≡◌, ◌⊎◌, refl, subst}
 use Rattle.cf_words.specs.Command.{Command, World}
 use Rattle.cf_box.specs.Ends.{Ends}
-use Rattle.cf_ending.specs.Outside.{Outside, outside_value}
-use Rattle.cf_box.specs.Status.{AsksItsPair, CutsItsCapture, CutsItsStream, DeniesWhatItAsks, EndsItsIdles, ExceedsItsCells, ExceedsItsRules, LacksItsAsset, RefusesItsCapture, RefusesItsPolicy, outputs_of}
+use Rattle.cf_ending.specs.Outside.{Outside, RisesIn, RoseIn, outside_value}
+use Rattle.cf_box.specs.Status.{AsksItsPair, CutsItsCapture, CutsItsStream, DeniesWhatItAsks, EndsItsIdles, ExceedsItsCells, ExceedsItsRules, LacksItsAsset, RefusesItsCapture, RefusesItsPolicy, inputs_of, outputs_of}
 use Rattle.cf_words.specs.Words.{command_value}
 use Rattle.cf_box.proofs.Complete.{complete_told}
 use Rattle.cf_box.proofs.Exact.{exact_told}
@@ -44,7 +44,12 @@ returns-in-Some-clause-ends g c =
     subst (λ words. Ends words (before g c) (after g c) c.report.result) c.in-Some.ensures.command (e.r, e.middle, e.meets, e.reports)
 
 pub returns-in-Some-clause-read : goal.returns-in-Some-clause-read
-returns-in-Some-clause-read g c = read_told (explains g c)
+returns-in-Some-clause-read g c = λ is.
+    subst (λ words. RoseIn (inputs_of words) (before g c).files.read_faults (after g c).files.read_faults) c.in-Some.ensures.command (read_told (explains g c) is)
+
+pub returns-in-Some-clause-reads : goal.returns-in-Some-clause-reads
+returns-in-Some-clause-reads g c =
+    subst (λ words. RisesIn (inputs_of words) (before g c).files.read_faults (after g c).files.read_faults) c.in-Some.ensures.command c.perform-ended.ensures.later.reads
 
 pub returns-in-Some-clause-write : goal.returns-in-Some-clause-write
 returns-in-Some-clause-write g c = write_told (explains g c)

@@ -2,6 +2,7 @@ use Rattle.std.proofs.Common.{ℕ, List, subst, ◌≡◌, ◌+◌, ◌-◌, ◌
 use Rattle.std.proofs.lemmas.List.{length-take, length-drop}
 use Rattle.std.proofs.lemmas.Slice.{drop-put_mid, take-put_mid_below}
 use Rattle.cf_outside.specs.Files.{Content, HasAt}
+use Rattle.cf_outside.proofs.Frames.{cause_on}
 use Rattle.cf_outside.proofs.Pieces.{filled_length, filled_piece}
 use Rattle.cf_outside.proofs.part.fill.Goals as goal
 
@@ -24,7 +25,7 @@ pieces-preserved g c =
       there = filled_piece (content c.args.files.now c.args.name.now) c.args.place c.pieces.have (c.args.size - c.pieces.have) c.in-Got.n
           c.pieces.buffer c.read_at.new.buf inside short inv.there read;
       same = c.in-Got.ensures.same ∙ inv.same;
-      reads = omega (arith, inv.reads, c.in-Got.ensures.cause.later);
+      reads = cause_on inv.reads c.in-Got.ensures.cause (λ failed. absurd failed);
       writes = c.in-Got.ensures.writes ∙ inv.writes;
     }
 

@@ -1,4 +1,5 @@
 use Rattle.std.proofs.Common.{◌≡◌, ◌-◌, ◌≤◌, drop, length, take}
+use Rattle.cf_outside.specs.Faults.{HasCauseIn}
 use Rattle.cf_outside.specs.Part.{HasRead}
 use Rattle.cf_outside.proofs.part.fill.Given as goal
 
@@ -13,7 +14,7 @@ invariant-pieces g l =
       behind : drop l.size l.buffer ≡ drop l.size l.fn.buffer;
       there : HasRead (content l.fn.files l.name) l.place (take l.have l.buffer);
       same : content l.files ≡ content l.fn.files;
-      reads : g.F.Files.read_faults l.fn.files ≤ g.F.Files.read_faults l.files;
+      reads : HasCauseIn l.name (g.F.Files.read_faults l.fn.files) (g.F.Files.read_faults l.files) ⊥;
       writes : g.F.Files.write_faults l.files ≡ g.F.Files.write_faults l.fn.files;
     }
 

@@ -14,7 +14,7 @@ pieces-init g c = record {
   long = refl;
   form = refl;
   passes = passes_none (g.F.Files.content c.args.files.now c.args.name.now) c.args.form.now c.args.place.now;
-  reads = reads_none g.F.Files.content g.F.Files.read_faults g.F.Files.write_faults c.args.files.now;
+  reads = reads_none c.args.name.now g.F.Files.content g.F.Files.read_faults g.F.Files.write_faults c.args.files.now;
 }
 
 pub pieces-preserved : goal.pieces-preserved

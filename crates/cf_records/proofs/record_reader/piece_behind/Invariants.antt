@@ -15,7 +15,7 @@ invariant-pieces g l =
       long : length l.buffer ≡ length l.fn.buffer;
       form : room_of l.form ≡ room_of l.fn.form;
       passes : PassesSome (content l.fn.files l.name) l.fn.form l.fn.place l.form l.place;
-      reads : OnlyReads content g.F.Files.read_faults g.F.Files.write_faults l.fn.files l.files ⊥;
+      reads : OnlyReads l.name content g.F.Files.read_faults g.F.Files.write_faults l.fn.files l.files ⊥;
     }
 
 abbrev pub decreases-pieces : goal.decreases-pieces

@@ -1,4 +1,5 @@
 use Rattle.std.proofs.Common.{◌≡◌, ◌-◌, ◌^◌, ◌≤◌}
+use Rattle.cf_outside.specs.Faults.{HasCauseIn}
 use Rattle.cf_remarks.proofs.look.see_sent.Given as goal
 
 abbrev pub invariant-packets : goal.invariant-packets
@@ -6,7 +7,7 @@ invariant-packets g l =
     record {
       near : l.sent.place ≤ 2 ^ 40;
       same : g.F.Files.content l.files ≡ g.F.Files.content l.fn.files;
-      later : g.F.Files.read_faults l.fn.files ≤ g.F.Files.read_faults l.files;
+      cause : HasCauseIn l.name (g.F.Files.read_faults l.fn.files) (g.F.Files.read_faults l.files) ⊥;
       writes : g.F.Files.write_faults l.files ≡ g.F.Files.write_faults l.fn.files;
     }
 

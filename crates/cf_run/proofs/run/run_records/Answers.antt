@@ -1,4 +1,5 @@
 use Rattle.std.proofs.Common.{List, ℕ, ◌≡◌, ◌<◌, true, Err, refl, sym, ap, ◌∙◌, subst, arith}
+use Rattle.cf_outside.proofs.Frames.{cause_none, cause_on, cause_still}
 use Rattle.cf_outside.specs.Files.{Content}
 use Rattle.cf_records.specs.Capture.{Cut, FileEnd, Large, Refused, TooLong}
 use Rattle.cf_packet.specs.Packet.{read_record}
@@ -29,7 +30,7 @@ records-init g c = record {
   sound = c.requires.sound;
   whole = whole_first c.args.names.now.out.now c.args.names.now.log.now (g.F.Files.content c.args.files.now) c.requires.out c.requires.log;
   others = λ other none. refl;
-  reads = omega arith;
+  reads = cause_none c.args.names.now.capture.now (g.F.Files.read_faults c.args.files.now);
   writes = omega arith;
 }
 
@@ -43,19 +44,20 @@ records-preserved g c =
     let names : RunNamesValue = run_names_value c.args.names.now in
     let so = next_so_far before.so_far c.in-Whole.stamp (found_as _ _ _ _ _ c.in-Whole.is before.found) refl c.max-moment.ensures (omega (arith, c.if-moment-ge-MOMENT_LIMIT.false)) done.steps done.limit
     (done.others names.capture (apart.capture_out, (apart.capture_log, tt))) read.reads.same in
+    let cause = cause_on before.reads (cause_on (cause_still names.capture done.reads (λ never. never)) read.reads.cause (λ e. e)) (λ e. e) in
     record {
       start = before.start;
       prior = c.records.reader;
       so_far = so.0;
       found = subst (λ (f : List ℕ → Content). FindsRecord (f names.capture) c.records.reader c.next-read.new.self c.next-read.result) (sym read.reads.same) read.found;
       some = λ e. so.1;
-      failed = λ e. let rose = read.reads.cause.rose e in omega (arith, rose, before.reads, done.reads);
+      failed = cause.rose;
       near = read.near;
       later = omega (arith, done.last);
       sound = done.sound;
       whole = subst (λ (f : List ℕ → Content). are_whole names.out names.log f ≡ true) (sym read.reads.same) done.whole;
       others = λ other none. ap (λ (f : List ℕ → Content). f other) read.reads.same ∙ done.others other none ∙ before.others other none;
-      reads = omega (arith, before.reads, read.reads.cause.later, done.reads);
+      reads = record { later = cause.later; rose = λ never. absurd never; others = cause.others };
       writes = omega (arith, before.writes, read.reads.writes, done.cause.later);
     }
 
@@ -102,7 +104,7 @@ returns-in-Failed-clause-runs g c =
     runs_partly before.so_far before.whole refl (before.some c.in-Failed.is)
 
 pub returns-in-Failed-clause-read : goal.returns-in-Failed-clause-read
-returns-in-Failed-clause-read g c = record { later = c.records.invariant.reads; rose = λ e. c.records.invariant.failed c.in-Failed.is }
+returns-in-Failed-clause-read g c = record { later = c.records.invariant.reads.later; rose = λ e. c.records.invariant.failed c.in-Failed.is; others = c.records.invariant.reads.others }
 
 pub returns-in_err-run_record-in-Whole-clause-runs : goal.returns-in_err-run_record-in-Whole-clause-runs
 returns-in_err-run_record-in-Whole-clause-runs g c =

@@ -3,6 +3,7 @@ use Rattle.std.proofs.lemmas.List.{length-take-le}
 use Rattle.cf_audit.specs.declared.line.CutReason.{CutReason}
 use Rattle.cf_lane.specs.History.{Element, bytes_at, end_at}
 use Rattle.cf_lane.specs.Laws.{HasOneJudgement}
+use Rattle.cf_outside.proofs.Frames.{cause_on, cause_still}
 use Rattle.cf_outside.proofs.Pieces.{none_read}
 use Rattle.cf_outside.specs.Files.{Content}
 use Rattle.cf_outside.specs.Part.{IsFilled}
@@ -147,6 +148,6 @@ pieces-preserved g c =
       others = λ other none. f.writes.others other none ∙ ap (λ (k : List ℕ → Content). k other) c.fill.ensures.reads.same ∙ inv.others other none;
       piece = c.fill.ensures.length ∙ inv.piece;
       buffer = f.buffer;
-      reads = omega (arith, inv.reads, c.fill.ensures.reads.cause.later, f.writes.reads);
+      reads = cause_on inv.reads (cause_on c.fill.ensures.reads.cause (cause_still c.args.names.now.stream.now f.writes.reads (λ never. never)) (λ never. never)) (λ never. never);
       writes = omega (arith, inv.writes, c.fill.ensures.reads.writes, f.writes.cause.later);
     }

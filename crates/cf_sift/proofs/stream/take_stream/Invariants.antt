@@ -1,4 +1,5 @@
 use Rattle.std.proofs.Common.{◌≡◌, ◌-◌, ◌^◌, ◌≤◌, ℕ, List, [], None, true, length}
+use Rattle.cf_outside.specs.Faults.{HasCauseIn}
 use Rattle.cf_outside.specs.Files.{Content}
 use Rattle.cf_outside.specs.Frames.{KeepsOtherFiles}
 use Rattle.cf_outside.specs.Lines.{ends_with_line}
@@ -20,7 +21,7 @@ invariant-pieces g l =
       others : KeepsOtherFiles (sift_output_names (sift_names_value l.names)) (content l.fn.files) (content l.files);
       piece : length l.piece ≡ 4096;
       buffer : length l.buffer ≡ 4096;
-      reads : g.F.Files.read_faults l.fn.files ≤ g.F.Files.read_faults l.files;
+      reads : HasCauseIn l.names.stream.now (g.F.Files.read_faults l.fn.files) (g.F.Files.read_faults l.files) ⊥;
       writes : g.F.Files.write_faults l.fn.files ≤ g.F.Files.write_faults l.files;
     }
 

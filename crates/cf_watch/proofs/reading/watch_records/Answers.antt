@@ -21,7 +21,7 @@ records-init g c = record {
   kept = λ _. c.new-kept.ensures.items;
   near = first_low c.args.reader.now.form c.args.reader.now.place c.requires.place;
   few = omega arith;
-  reads = reads_none g.F.Files.content g.F.Files.read_faults g.F.Files.write_faults c.args.files.now;
+  reads = reads_none c.args.name.now g.F.Files.content g.F.Files.read_faults g.F.Files.write_faults c.args.files.now;
 }
 
 pub records-preserved : goal.records-preserved

@@ -13,7 +13,7 @@ invariant-records g l =
       kept : l.scope ≡ scope.Recording → l.kept.items ≡ all;
       near : l.reader.place ≤ 67108864;
       few : l.number ≤ l.reader.place;
-      reads : OnlyReads content g.F.Files.read_faults g.F.Files.write_faults l.fn.files l.files ⊥;
+      reads : OnlyReads l.name content g.F.Files.read_faults g.F.Files.write_faults l.fn.files l.files ⊥;
     }
 
 abbrev pub decreases-records : goal.decreases-records
