@@ -1,20 +1,11 @@
 //! The units that rows name: what reads their lines, or plays them one after the other.
 
-use crate::blocks;
-use crate::captures;
-use crate::desks;
-use crate::files;
-use crate::frames;
-use crate::numbers;
-use crate::packets;
-use crate::pairs;
 use crate::parts::tell_parted;
-use crate::printed;
-use crate::queues;
-use crate::segments;
 use crate::sheet::{Sheet, call_in};
-use crate::stations;
-use crate::windows;
+use crate::{
+    blocks, captures, desks, files, frames, numbers, packets, pairs, printed, queues, segments,
+    stations, windows,
+};
 
 /// Plays the lines of a row: those of an object one after the other over a new one, each of the others by itself.
 pub fn tell_each(sheet: &mut Sheet, unit: &str, lines: &str) {

@@ -60,6 +60,9 @@ fn tell(sheet: &mut Sheet, desk: &mut MemoryDesk, call: &str, rest: &str)
             let (moment, spelled) = parted(rest);
             let moment = sheet.number(moment);
             let octets = sheet.octets(spelled);
+            if moment >= 4_294_967_296_000_000 || octets.len() > 1500 {
+                return sheet.put("no moment and packet");
+            }
             sheet.put(write_word(desk.emit(moment, octets.as_slice())));
         }
         "open" => sheet.put(write_word(put_line(desk, "open\n"))),
@@ -108,12 +111,24 @@ pub fn tell_line_desk(sheet: &mut Sheet, given: &str) {
     };
     sheet.put(write_word(desk.emit(0, b"pq")));
     let mut answer = put_line(&mut desk, "open\n");
-    sheet.put(if answer == WriteAnswer::Done { ", done" } else { ", failed" });
+    sheet.put(if answer == WriteAnswer::Done {
+        ", done"
+    } else {
+        ", failed"
+    });
     if answer == WriteAnswer::Done {
         answer = put_line(&mut desk, "close\n");
-        sheet.put(if answer == WriteAnswer::Done { ", done" } else { ", failed" });
+        sheet.put(if answer == WriteAnswer::Done {
+            ", done"
+        } else {
+            ", failed"
+        });
     }
-    sheet.put(if desk.failed { ", no longer whole: " } else { ", whole: " });
+    sheet.put(if desk.failed {
+        ", no longer whole: "
+    } else {
+        ", whole: "
+    });
     put_log(sheet, &files);
 }
 

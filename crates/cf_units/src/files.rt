@@ -1,9 +1,7 @@
 //! Files in memory by their script, and what is read and written through them.
 
 use crate::sheet::{Sheet, call_in, parted};
-use cf_outside::{
-    Fail, Files, MemoryFiles, ReadAnswer, WriteAnswer, append_all, fill, read_whole,
-};
+use cf_outside::{Fail, Files, MemoryFiles, ReadAnswer, WriteAnswer, append_all, fill, read_whole};
 use cf_view::View;
 
 /// Plays calls over new files, with a buffer of seven octets that holds `......-`.
@@ -99,7 +97,13 @@ fn tell_whole(sheet: &mut Sheet, files: &mut MemoryFiles, name: &str, limit: &st
 
 /// How many octets stand in a buffer of seven, and what it holds, where so many are wanted of a file from a place on.
 #[tactic(auto, using(cf_outside::proofs::Pieces::none_read))]
-fn tell_fill(sheet: &mut Sheet, files: &mut MemoryFiles, name: &str, rest: &str, buf: &mut [u8; 7]) {
+fn tell_fill(
+    sheet: &mut Sheet,
+    files: &mut MemoryFiles,
+    name: &str,
+    rest: &str,
+    buf: &mut [u8; 7],
+) {
     let (place, size) = parted(rest);
     let place = sheet.number(place);
     let size = sheet.size(size);

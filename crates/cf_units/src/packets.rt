@@ -9,15 +9,15 @@ use cf_view::{Endpoint, LinkKind, View, push_endpoint};
 /// each as `PLACE:OCTET`. Told are the flags, the maximum segment size and the length of the text, or the first test that it fails.
 pub fn play(sheet: &mut Sheet, lines: &str) {
     let mut link = LinkKind::RawIp;
-    let mut base = "";
+    let mut base = Vec::new(sheet.alloc());
     for line in lines.lines() {
         let (given, _) = call_in(line);
         if let Some(record) = given.strip_prefix("of ") {
             let (word, spelled) = parted(record);
             link = link_of(word);
-            base = spelled;
+            base = sheet.octets(spelled);
         } else {
-            let octets = changed(sheet, base, given);
+            let octets = changed(sheet, base.as_slice(), given);
             put_answer(sheet, &link, octets.as_slice());
         }
         sheet.see(line);
@@ -25,8 +25,11 @@ pub fn play(sheet: &mut Sheet, lines: &str) {
 }
 
 /// Octets with changes, one after the other.
-fn changed(sheet: &mut Sheet, spelled: &str, changes: &str) -> Vec<u8> {
-    let mut octets = sheet.octets(spelled);
+fn changed(sheet: &mut Sheet, base: &[u8], changes: &str) -> Vec<u8> {
+    let mut octets = Vec::new(sheet.alloc());
+    if octets.extend_from_slice(base).is_err() {
+        sheet.refuse("memory ran out");
+    }
     for change in changes.split_whitespace() {
         match change.split_once(':') {
             None => octets.truncate(sheet.size(change)),

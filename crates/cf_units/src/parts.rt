@@ -1,10 +1,7 @@
 //! Octets, wherever they lie in two parts.
 
-use crate::fragments;
-use crate::frames;
-use crate::requests;
 use crate::sheet::Sheet;
-use crate::stations;
+use crate::{fragments, frames, requests, stations};
 
 /// The most octets that are parted at each place.
 const PARTED: usize = 300;

@@ -6,8 +6,8 @@ use crate::pairs::endpoint;
 use crate::sheet::{Sheet, parted};
 use arrayvec::{ArrayString, ArrayVec};
 use cf_view::{
-    View, push_bytes, push_endpoint, push_hex, push_moment, push_number, push_signed,
-    push_u16, push_u24_le, push_u32_be, push_u32_le, push_view,
+    View, push_bytes, push_endpoint, push_hex, push_moment, push_number, push_signed, push_u16,
+    push_u24_le, push_u32_be, push_u32_le, push_view,
 };
 
 /// Of six octets in two parts: their split; whether they are those octets and no others; the numbers of two octets at place 1, of three and

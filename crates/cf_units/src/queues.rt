@@ -143,7 +143,9 @@ fn tell_round(sheet: &mut Sheet, queue: &mut Outq, rest: &str) {
     let (mss, step) = parted(rest);
     let mss = sheet.size(mss);
     let step = sheet.place(step);
-    let bytes: Result<Vec<u8>, _> = (0..400_000_u32).map(|i| (i % 251) as u8).collect(sheet.alloc());
+    let bytes: Result<Vec<u8>, _> = (0..400_000_u32)
+        .map(|i| (i % 251) as u8)
+        .collect(sheet.alloc());
     let Ok(bytes) = bytes else {
         return sheet.refuse("memory ran out");
     };

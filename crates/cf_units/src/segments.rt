@@ -9,12 +9,12 @@ pub fn tell(sheet: &mut Sheet, given: &str) {
     let Ok(mut assembly) = Assembly::new(sheet.alloc()) else {
         return sheet.refuse("memory ran out");
     };
-    let mut between = "";
+    let mut is_first = true;
     for spelled in given.split(", ") {
-        sheet.put(between);
+        sheet.put(if is_first { "" } else { ", " });
+        is_first = false;
         let segment = sheet.octets(spelled);
         put_answer(sheet, &mut assembly, segment.as_slice());
-        between = ", ";
     }
     if assembly.unfinished() {
         sheet.put(", unfinished");

@@ -16,7 +16,10 @@ pub fn tell_apdu(sheet: &mut Sheet, first: &[u8], second: &[u8]) -> usize {
             sheet.put_number(", ", used as u64);
             let mut written = ArrayVec::new();
             write_apdu(&unit, &mut written);
-            if !View::two(first, second).sub(0, used).equals(written.as_slice()) {
+            if !View::two(first, second)
+                .sub(0, used)
+                .equals(written.as_slice())
+            {
                 sheet.put(", written otherwise");
             }
             used

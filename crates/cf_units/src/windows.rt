@@ -25,7 +25,11 @@ pub fn play(sheet: &mut Sheet, lines: &str) {
 fn open(sheet: &mut Sheet, window: &mut Rebuild, rest: &str) {
     let edge = sheet.place(rest);
     let limit = window.base() + 16_384;
-    if edge < window.edge() || edge > limit || edge > 0x8000_0000 || window.pending().len() >= 16_384 {
+    if edge < window.edge()
+        || edge > limit
+        || edge > 0x8000_0000
+        || window.pending().len() >= 16_384
+    {
         return sheet.put("no edge");
     }
     window.open_to(edge);
