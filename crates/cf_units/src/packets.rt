@@ -2,7 +2,10 @@
 
 use crate::sheet::{Sheet, call_in, parted};
 use arrayvec::{ArrayString, ArrayVec};
-use cf_packet::{Packet, PacketRefusal, position, read_packet, sequence_number, write_packet};
+use cf_packet::{
+    ACK, FIN, PSH, Packet, PacketRefusal, RST, SYN, URG, position, read_packet, sequence_number,
+    write_packet,
+};
 use cf_view::{Endpoint, LinkKind, View, push_endpoint};
 
 /// Plays lines of records: one `of LINK OCTETS` names one, and each other line says how many of its octets are there and which are changed,
@@ -87,7 +90,7 @@ fn refusal_words(refusal: PacketRefusal) -> &'static str {
     }
 }
 
-/// The packet of a record `LINK OCTETS`: its ends, its numbers, its flags, its window, its maximum segment size and its text.
+/// The packet of a record `LINK OCTETS`: its ends, its numbers, its flags by their letters, its window, its maximum segment size and its text.
 pub fn tell_whole(sheet: &mut Sheet, given: &str) {
     let (word, spelled) = parted(given);
     let octets = sheet.octets(spelled);
@@ -100,15 +103,26 @@ pub fn tell_whole(sheet: &mut Sheet, given: &str) {
             sheet.put(ends.as_str());
             sheet.put_number(" ", u64::from(packet.seq));
             sheet.put_number(" ", u64::from(packet.ack));
-            sheet.put(" ");
-            sheet.put_octets(&[packet.flags]);
+            put_letters(sheet, packet.flags);
             sheet.put_number(" ", u64::from(packet.window));
             put_mss(sheet, packet.mss);
-            sheet.put(" ");
+            sheet.put(" [");
             sheet.put_octets(packet.text);
+            sheet.put("]");
         }
         Err(refusal) => sheet.put(refusal_words(refusal)),
     }
+}
+
+/// Puts the letters of the flags that are set, `-` where none is.
+fn put_letters(sheet: &mut Sheet, flags: u8) {
+    sheet.put(if flags & 63 == 0 { " -" } else { " " });
+    sheet.put(if flags & FIN == 0 { "" } else { "F" });
+    sheet.put(if flags & SYN == 0 { "" } else { "S" });
+    sheet.put(if flags & RST == 0 { "" } else { "R" });
+    sheet.put(if flags & PSH == 0 { "" } else { "P" });
+    sheet.put(if flags & ACK == 0 { "" } else { "A" });
+    sheet.put(if flags & URG == 0 { "" } else { "U" });
 }
 
 /// The octets of a packet, given the address and port of the source and of the destination, the sequence number, the acknowledgment number,
