@@ -32,6 +32,8 @@ enum Subject {
     Outputs,
     /// What is meant by the name of no asset.
     Asset,
+    /// What is said of a place that is a controller.
+    Place,
     /// What decides about an act.
     Verdict,
     /// The index of a client.
@@ -64,6 +66,7 @@ fn found(alloc: Global, subject: Subject, given: &str) -> Result<String, Fail> {
         Subject::Capture => told::capture(alloc, given),
         Subject::Outputs => told::outputs(alloc, given),
         Subject::Asset => told::asset(alloc, given),
+        Subject::Place => told::place(alloc, given),
         Subject::Verdict => verdicts::decided(alloc, given),
         Subject::Index => verdicts::indexed(alloc, given),
         Subject::Line => lines::line(alloc, given),
@@ -177,5 +180,6 @@ fn messages_say_what_is_wrong(rt: HostRuntime) -> Result<(), Fail> {
 fn messages_say_what_stands_and_what_is_meant(rt: HostRuntime) -> Result<(), Fail> {
     let alloc = rt.alloc();
     play_blocks(&rt, alloc, Subject::Outputs, told::OUTPUTS)?;
-    play_blocks(&rt, alloc, Subject::Asset, told::ASSETS)
+    play_blocks(&rt, alloc, Subject::Asset, told::ASSETS)?;
+    play_blocks(&rt, alloc, Subject::Place, told::PLACES)
 }

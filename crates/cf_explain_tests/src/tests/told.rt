@@ -1,5 +1,7 @@
 //! What is said of words, captures, outputs and assets.
-use cf_explain::{asset_message, capture_message, outputs_message, words_message};
+use cf_explain::{
+    asset_message, capture_message, outputs_message, own_endpoint_message, words_message,
+};
 use cf_outside::MemoryFiles;
 use cf_policylang::read_policy;
 use cf_samples::rows::octets;
@@ -233,6 +235,19 @@ p: it has no asset "bay3"; did you mean bay-3?
 Kessel/
 p: it has no asset "Kessel\n"
   it has pump bay-3"#;
+
+/// A row: a place, and what is said where it is the controller of the first asset.
+pub(super) const PLACES: &str = r#"bay-3=10.0.0.9:502
+p: the place "bay-3=10.0.0.9:502" is the address and port of the controller of asset pump: the service would connect to itself"#;
+
+/// What is said of such a place.
+pub(super) fn place(alloc: Global, place: &str) -> Result<String, Fail> {
+    let policy = read_policy(alloc, POLICY)?;
+    match policy.assets.as_slice().first() {
+        Some(asset) => Ok(own_endpoint_message(alloc, "p", asset, place)?),
+        None => Ok(String::new(alloc)),
+    }
+}
 
 /// What is meant by the name of no asset.
 pub(super) fn asset(alloc: Global, name: &str) -> Result<String, Fail> {
