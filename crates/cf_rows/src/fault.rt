@@ -1,6 +1,7 @@
 //! Why a row cannot be played.
 
 use arrayvec::ArrayString;
+use cf_samples::expand::ExpandFault;
 use std::alloc::{AllocError, AllocFailed};
 use std::fmt;
 
@@ -63,6 +64,16 @@ impl From<AllocError> for Fault {
 impl<T: Drop> From<AllocFailed<T>> for Fault {
     fn from(_error: AllocFailed<T>) -> Fault {
         Fault::NoMemory
+    }
+}
+
+impl From<ExpandFault> for Fault {
+    fn from(fault: ExpandFault) -> Fault {
+        match fault {
+            ExpandFault::NoMemory => Fault::NoMemory,
+            ExpandFault::Repeat => Fault::Wanted(Wanted::Repeat),
+            ExpandFault::Number => Fault::Wanted(Wanted::Number),
+        }
     }
 }
 

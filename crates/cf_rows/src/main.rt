@@ -4,24 +4,22 @@
 
 mod book;
 mod compare;
-mod expand;
 mod fault;
 mod left;
 mod octets;
 mod packets;
 mod row;
 mod service;
-mod source;
 mod sweep;
 
 use crate::book::Book;
 use crate::compare::difference;
-use crate::expand::expanded;
-use crate::fault::Fault;
+use crate::fault::{Fault, Wanted};
 use crate::left::play;
 use crate::row::{Row, field, row_of};
-use crate::source::behind_source;
 use crate::sweep::{sweep, sweep_of};
+use cf_samples::expand::expanded;
+use cf_samples::source::behind_source;
 use std::process::ExitCode;
 use std::rt::Files;
 use std::{env, fs, io};
@@ -60,7 +58,8 @@ fn played(book: &mut Book, block: &str) -> Result<Option<String>, Fault> {
         book.take(&block)?;
         return Ok(None);
     }
-    let row = row_of(book, behind_source(&block)?)?;
+    let lines = behind_source(&block).ok_or(Fault::Wanted(Wanted::Source))?;
+    let row = row_of(book, lines)?;
     let said = match differs(book, &row)? {
         Some(said) => said,
         None => String::from_str(book.alloc, "same")?,

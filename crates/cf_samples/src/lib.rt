@@ -6,7 +6,9 @@ ghost use Rattle.std.specs.Prelude.{◌≡◌, ◌∷◌, [], IfOk};
 ghost use Rattle.cf_policy.specs.Within.{IsAssetWithin};
 ghost use Rattle.cf_samples.specs.Assets.{pump_asset, rtu_asset};
 
+pub mod expand;
 pub mod rows;
+pub mod source;
 
 use cf_policy::{Action, Asset, Items, Name, Protocol, Rule, Span};
 use cf_view::Endpoint;

@@ -4,6 +4,7 @@ use Rattle.std.proofs.Common.{◌++◌, ◌<◌, ◌∙◌, ◌∷◌, ◌≡◌
 use Rattle.std.specs.Prelude.{IfErr, IsTrue, OnOk, ◌↔◌}
 use Rattle.std.proofs.lemmas.Option.{same_Some}
 use Rattle.cf_audit.specs.Line.{Lost, Silent, WhatValue}
+use Rattle.cf_lane.specs.Judged.{Judged}
 use Rattle.cf_lane.specs.Log.{line_about, with_lines}
 use Rattle.cf_links.specs.LinkValue.{LinkValue}
 use Rattle.cf_outside.specs.Desk.{DeskValue}
@@ -13,7 +14,8 @@ use Rattle.cf_relay.proofs.Turned.{stopped_cut, stopped_idle, stopped_link, turn
 use Rattle.cf_relay.specs.Closing.{done_by}
 use Rattle.cf_relay.specs.Relaying.{AreClosed, IsSound, RelayingValue}
 use Rattle.cf_relay.specs.Scene.{DoesBetween, StopsBetween, scene}
-use Rattle.cf_relay.specs.Turn.{turn}
+use Rattle.cf_relay.specs.Stands.{IsCounted}
+use Rattle.cf_relay.specs.Turn.{AreItemsOf, turn}
 use Rattle.cf_relay.specs.Turned.{HasStopped, HasTurned, begun_list}
 use Rattle.cf_relay.specs.declared.directions.Directions.TheVariants as both
 use Rattle.cf_relay.specs.declared.done.RelayEnd.TheVariants as ends
@@ -23,7 +25,7 @@ use Rattle.cf_view.specs.declared.Endpoint.{Endpoint}
 use Rattle.cf_serve.proofs.Missing.{write_fails}
 use Rattle.cf_serve.specs.Broken.{FailsSo}
 use Rattle.cf_serve.specs.Failing.{EndsTurn, MissesTurn}
-use Rattle.cf_serve.specs.Phase.{LinkedValue, StandsLinked, TurnDoes, end_of, last_value}
+use Rattle.cf_serve.specs.Phase.{IsCountedAs, LinkedValue, StandsLinked, TurnDoes, end_of, last_value}
 use Rattle.cf_serve.specs.Session.{EndsSo, Listening, lost_line, with_last}
 use Rattle.cf_serve.specs.declared.debt.Debt.{Debt}
 use Rattle.cf_serve.specs.declared.end.SessionEnd.{SessionEnd}
@@ -71,22 +73,30 @@ module _ (at : Listening) (most : ℕ) (client met : Endpoint) (old new : Relayi
 
   -- a turn ends the session, but for its last line
   abbrev pub Ends : SessionEnd → Type 0
-  Ends e = EndsTurn at most client link.told link'.told d.lines d'.lines (last_line e) (Some (linked met old debt)) e
+  Ends e = EndsTurn at most client link.told link'.told d.lines d'.lines (last_line e) (Some (linked met old debt)) (Some (linked met new debt)) e
+
+  -- with the numbers of the items
+  abbrev Counted : List Entry → Type 0
+  Counted es = IsCountedAs at es (Some (linked met new debt))
+
+  counted_by : (es : List Entry) (js : List Judged) → AreItemsOf at.asset es js → IsCounted js new.lane.admitted new.lane.refused → Counted es
+  counted_by es js items counts = ((js, (items, counts.admitted)), (js, (items, counts.refused)))
 
   -- the last one, after which both sides are closed
   closing : DoesBetween at.asset most (turn both.Separate) (scene old link d) (scene new link' d') → new.idle < most → AreClosed new → Ends end.Closed
   closing does fewer closed = record {
     answers = does.answers;
     tells = does.adds.tells;
-    ends = turned_so does fewer (λ es own. EndsSo at most client es (own ++ last_line end.Closed ∷ []) end.Closed) (λ m answers own t.
-        (done_by new ends.Done, turned_done both.Separate at.asset at.port most met m (Some []) answers new (Some own) t _ closed (λ ls e. same_Some _ _ e)));
+    ends = turned_so does fewer (λ es own. EndsSo at most client es (own ++ last_line end.Closed ∷ []) end.Closed × Counted es) (λ m answers own t.
+        let x = turned_done both.Separate at.asset at.port most met m (Some []) answers new (Some own) t _ closed (λ ls e. same_Some _ _ e) in
+        ((done_by new ends.Done, x), counted_by (begun_list at.asset at.port met m answers) x.goes.judged x.goes.are_items x.counts));
   }
 
   -- one that stopped
   stopping : (why : Stop) → StopsBetween at.asset most (turn both.Separate) why (scene old link d) (scene new link' d') → (e : SessionEnd) →
       ((m : ℕ) (answers : List Entry) (own : List (List ℕ)) → HasStopped both.Separate at.asset at.port most met m (Some []) answers why new (Some own) d'.line_part →
-      EndsSo at most client (begun_list at.asset at.port met m answers) (own ++ last_line e ∷ []) e) → Ends e
-  stopping why stops e f = record { answers = stops.answers; tells = stops.adds.tells; ends = stopped_so why stops (λ es own. EndsSo at most client es (own ++ last_line e ∷ []) e) f }
+      EndsSo at most client (begun_list at.asset at.port met m answers) (own ++ last_line e ∷ []) e × Counted (begun_list at.asset at.port met m answers)) → Ends e
+  stopping why stops e f = record { answers = stops.answers; tells = stops.adds.tells; ends = stopped_so why stops (λ es own. EndsSo at most client es (own ++ last_line e ∷ []) e × Counted es) f }
 
   -- its last line says the greatest moment told
   behind : (w : WhatValue) (own ls : List (List ℕ)) (k : ℕ) → Some own ≡ Some ls → new.moment ≡ k → own ++ line_about at.asset met new.moment w ∷ [] ≡ ls ++ line_about at.asset met k w ∷ []
@@ -94,18 +104,18 @@ module _ (at : Listening) (most : ℕ) (client met : Endpoint) (old new : Relayi
 
   stops_so : (why : Stop) (closed : Bool) (e : SessionEnd) → StopsBetween at.asset most (turn both.Separate) why (scene old link d) (scene new link' d') → end_of (Err why) closed ≡ Some e → Ends e
   stops_so stop.Write closed e stops is = cc
-  stops_so stop.Idle closed e stops is = subst Ends (same_Some _ _ is) (stopping stop.Idle stops end.Silent (λ m answers own h. (
-    done_by new ends.IdleEnd,
-    stopped_idle both.Separate at.asset at.port most met m (Some []) answers new (Some own) d'.line_part _ h
-        (λ ls same. behind (Silent new.lane.admitted new.lane.refused) own ls _ same h.stands.0.moment),
-  )))
+  stops_so stop.Idle closed e stops is = subst Ends (same_Some _ _ is) (stopping stop.Idle stops end.Silent (λ m answers own h.
+      let x = stopped_idle both.Separate at.asset at.port most met m (Some []) answers new (Some own) d'.line_part _ h
+      (λ ls same. behind (Silent new.lane.admitted new.lane.refused) own ls _ same h.stands.0.moment) in
+      ((done_by new ends.IdleEnd, x), counted_by (begun_list at.asset at.port met m answers) x.judged x.are_items x.counts)))
   stops_so stop.Link closed e stops is = subst Ends (same_Some _ _ is) (stopping stop.Link stops end.Lost (λ m answers own h.
       let t = stopped_link both.Separate at.asset at.port most met m (Some []) answers new (Some own) d'.line_part
       (with_last (own ++ last_line end.Lost ∷ []) (lost_line at.asset (begun_list at.asset at.port met m answers) new.lane.admitted new.lane.refused)) h
       (λ ls same. behind (Lost new.lane.admitted new.lane.refused) own ls _ same h.stands.0.moment) in
-      record { admitted = new.lane.admitted; refused = new.lane.refused; ended = t.0; counts = t.1 }))
+      (record { admitted = new.lane.admitted; refused = new.lane.refused; ended = t.0; counts = t.1 }, counted_by (begun_list at.asset at.port met m answers) t.0.goes.judged t.0.goes.are_items t.1)))
   stops_so (stop.Cut reason) closed e stops is = subst Ends (same_Some _ _ is) (stopping (stop.Cut reason) stops (end.Cut reason) (λ m answers own h.
-      (done_by new (ends.Cut reason), stopped_cut both.Separate at.asset at.port most met m (Some []) answers new (Some own) d'.line_part _ reason h (λ ls same. same_Some _ _ same))))
+      let x = stopped_cut both.Separate at.asset at.port most met m (Some []) answers new (Some own) d'.line_part _ reason h (λ ls same. same_Some _ _ same) in
+      ((done_by new (ends.Cut reason), x), counted_by (begun_list at.asset at.port met m answers) x.judged x.are_items x.counts)))
 
   -- the turn that is the last, by what the relay answered
   pub ending : (r : Result Unit Stop) (closed : Bool) (e : SessionEnd) →

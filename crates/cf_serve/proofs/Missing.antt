@@ -44,16 +44,16 @@ last_fails : (at : Listening) (most : ℕ) (client : Endpoint) (es : List Entry)
 last_fails at most client es before line whole part e ends begins =
     inl (record { end = e; before = before; line = line; ends = ends; whole = whole; own_is = refl; begins = begins })
 
-module _ {at : Listening} {most : ℕ} {client : Endpoint} {told after : SessionTold} {log mid log' : Option (List (List ℕ))} {line : List ℕ} {old : Option LinkedValue} {e : SessionEnd}
-    (t : EndsTurn at most client told after log mid line old e) where
+module _ {at : Listening} {most : ℕ} {client : Endpoint} {told after : SessionTold} {log mid log' : Option (List (List ℕ))} {line : List ℕ} {old new : Option LinkedValue} {e : SessionEnd}
+    (t : EndsTurn at most client told after log mid line old new e) where
   -- the last line was put
-  pub last_put : (new : Option LinkedValue) → log' ≡ with_lines mid (line ∷ []) → TurnDoes at most client told after log log' old new (Some e)
-  last_put new put = record {
+  pub last_put : log' ≡ with_lines mid (line ∷ []) → TurnDoes at most client told after log log' old new (Some e)
+  last_put put = record {
     answers = t.answers;
     tells = t.tells;
     leaves = λ es own stands.
         let x = t.ends es own stands in
-        (x.0 ++ line ∷ [], (simp (put, x.1.0, lines_both), subst (λ (ls : List (List ℕ)). EndsSo at most client (es ++ t.answers) ls e) (append_assoc own x.0 (line ∷ [])) x.1.1));
+        (x.0 ++ line ∷ [], (simp (put, x.1.0, lines_both), (subst (λ (ls : List (List ℕ)). EndsSo at most client (es ++ t.answers) ls e) (append_assoc own x.0 (line ∷ [])) x.1.1.0, x.1.1.1)));
   }
 
   -- it failed
@@ -69,7 +69,7 @@ module _ {at : Listening} {most : ℕ} {client : Endpoint} {told after : Session
               (
                 simp (w.1.0, x.1.0, lines_both),
                 subst (λ (ls : List (List ℕ)). FailsSo at most client (es ++ t.answers) ls part) (append_assoc own x.0 w.0)
-                    (last_fails at most client (es ++ t.answers) (own ++ x.0) line w.0 part e x.1.1 w.1.1),
+                    (last_fails at most client (es ++ t.answers) (own ++ x.0) line w.0 part e x.1.1.0 w.1.1),
               ),
             );
       }
