@@ -23,6 +23,9 @@ const SESSIONS: usize = 256;
 /// How many microseconds a second has.
 const SECOND_MICROS: u64 = 1_000_000;
 
+/// How many milliseconds pass at most without a round, so that the lines of a minute do not wait for news.
+const LONGEST_WAIT: u64 = 5_000;
+
 /// How many sessions that were left are read away at once at most.
 const LEAVING: usize = 256;
 
@@ -156,12 +159,12 @@ impl<'a, R: Net + Clock> Sockets<'a, R> {
         Ok(self.moment)
     }
 
-    /// How many milliseconds may pass before the next round; nothing where the system says when.
+    /// How many milliseconds may pass before the next round, where the system has no news before.
     fn longest_wait(&self) -> Option<u64> {
-        let mut wait = match &self.supervisor {
-            Some(supervisor) => supervisor.longest_wait(self.now),
-            None => None,
-        };
+        let mut wait = Some(LONGEST_WAIT);
+        if let Some(supervisor) = &self.supervisor {
+            wait = sooner(wait, supervisor.longest_wait(self.now));
+        }
         for place in self.places.iter() {
             wait = sooner(wait, place.longest_wait(self.now));
         }
