@@ -27,8 +27,8 @@ use Rattle.cf_box.specs.Packets.{HasListedRecords}
 use Rattle.cf_box.specs.PolicyFile.{HasPolicy, IsRefusedBy, TellsAsset}
 use Rattle.cf_box.specs.Run.{RunCuts, RunRefuses}
 use Rattle.cf_watch.specs.declared.fault.TheConstants.{CAPTURE_LIMIT}
-use Rattle.cf_box.specs.Watching.{WatchCutsIn, WatchRefusesIn, WatchCuts, WatchRefuses}
-use Rattle.cf_box.specs.Status.{HasRecordsIn, EndsWell, HasInput, HasRecordsToItsEnd, HasTimedRecords, HoldsWhatItAsks, NothingFails, TellsMade}
+use Rattle.cf_box.specs.Watching.{WatchCutsIn, WatchRefusesIn}
+use Rattle.cf_box.specs.Status.{HasRecordsIn, EndsWell, HasInput, HasTimedRecords, HoldsWhatItAsks, NothingFails, TellsMade}
 use Rattle.cf_ending.specs.declared.Denial.{Denial}
 use Rattle.cf_ending.specs.declared.Denial.TheVariants as denial
 use Rattle.cf_ending.specs.declared.CaptureRefusal.{CaptureRefusal}

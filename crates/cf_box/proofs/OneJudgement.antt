@@ -100,5 +100,6 @@ module _ (law : RecordsHaveOneJudgement) (policy capture : List ℕ) (before : O
 pub judgement_told : RecordsHaveOneJudgement → {c : Command} {before after : Outside} {status : ℕ} (e : Explains c before after status) → (policy capture : List ℕ) →
     c ≡ Judge policy capture → TellsInForm set.Plain policy capture before → (p : Policy) (j : Judgement) → HasJudgement policy capture before p j → SaysOfJudgement c p j before after status
 judgement_told law {c = c} {before = before} {after = after} {status = status} e policy capture is t p j h =
-    said_from law policy capture before t (Unprinted e) status e.middle after (read_failed e) (λ rose. write_failed e (inr rose)) p j h e.r
-    (subst (λ k. Meets k before e.middle e.r) is e.meets) e.reports (explained e)
+    subst (λ k. SaysOfJudgement k p j before after status) (sym is)
+    (said_from law policy capture before t (Unprinted e) status e.middle after (subst (λ k. ReadFailed k before e.middle → ReadFailed k before after) is (read_failed e))
+    (λ rose. write_failed e (inr rose)) p j h e.r (subst (λ k. Meets k before e.middle e.r) is e.meets) e.reports (explained e))

@@ -1,5 +1,5 @@
 -- Failed reads of the files of a command.
-use Rattle.std.proofs.Common.{◌≡◌, ℕ, List, [], ◌∷◌, Some, ap, arith, inl, inr, subst, sym, ◌∙◌}
+use Rattle.std.proofs.Common.{◌≡◌, ℕ, List, [], ◌∷◌, Some, ap, arith, inl, subst, sym, ◌∙◌}
 use Rattle.cf_outside.proofs.Frames.{later_all}
 use Rattle.cf_outside.specs.Faults.{HasCauseIn, Rose}
 use Rattle.cf_words.specs.Command.{Command, Check, Compare, Judge, Learn, Migrate, Packets, Relay, Review, Run, Sift, World, input_files, policy_file}

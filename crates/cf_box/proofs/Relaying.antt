@@ -1,5 +1,5 @@
 -- An answer about a relay, as the answer of the command; and what an answer says of the pair's list.
-use Rattle.std.proofs.Common.{◌≡◌, ◌<◌, ◌⊎◌, ◌*◌, ℕ, List, None, Result, Ok, Err, refl, sym, subst, ap, ◌∙◌, inl, inr}
+use Rattle.std.proofs.Common.{◌≡◌, ◌<◌, ◌⊎◌, ◌*◌, ℕ, List, None, Result, Ok, Err, refl, sym, subst, ap, ◌∙◌, inl, inr, [], ◌∷◌}
 use Rattle.cf_lane.specs.Judged.{Judged}
 use Rattle.cf_outside.specs.Faults.{HasCause, Rose}
 use Rattle.cf_outside.specs.Files.{KeepsOthers}

@@ -18,7 +18,7 @@ use Rattle.cf_serve.specs.Table.{IfWhole}
 use Rattle.cf_serve.specs.declared.ServeFault.{ServeFault}
 use Rattle.cf_serve.specs.declared.ServeFault.TheVariants as fault
 use Rattle.cf_serve.specs.declared.table.Place.{Place}
-use Rattle.cf_box.proofs.Sifting.{since}
+use Rattle.cf_box.proofs.Reading.{since_read}
 use Rattle.cf_words.specs.Command.{Check}
 use Rattle.cf_box.specs.Ends.{RefusesPolicy, StopsFor}
 use Rattle.cf_ending.specs.Outside.{FilesValue, ReadsOnly, SinkValue, outside}

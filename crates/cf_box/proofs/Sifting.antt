@@ -1,5 +1,5 @@
 -- An answer about a stored stream, as the answer of the command.
-use Rattle.std.proofs.Common.{◌≡◌, ◌≤◌, ℕ, List, None, Option, Some, Ok, Err, refl, sym, subst, arith, inl, inr}
+use Rattle.std.proofs.Common.{◌≡◌, ℕ, List, None, Option, Some, Ok, Err, refl, sym, subst, inl, inr}
 use Rattle.std.specs.Prelude.{IsErrOf}
 use Rattle.cf_audit.specs.declared.line.CutReason.{CutReason}
 use Rattle.cf_outside.specs.Faults.{Rose}
@@ -19,10 +19,6 @@ use Rattle.cf_ending.specs.declared.Done.TheVariants as done
 use Rattle.cf_ending.specs.declared.Stop.{Stop}
 use Rattle.cf_ending.specs.declared.Stop.TheVariants as stop
 use Rattle.cf_box.proofs.Passing.{found_passes}
-
--- what has risen since late has risen since early
-pub since : (early late now : ℕ) → early ≤ late → Rose late now → Rose early now
-since early late now later rose = omega (arith, later, rose)
 
 module _ (policy name : List ℕ) (client : ℕ) (names : SiftNamesValue) (before after : Outside) (asset : Asset)
     (finds : FindsAsset (before.files.content policy) name asset) where

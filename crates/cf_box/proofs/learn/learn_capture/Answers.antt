@@ -1,4 +1,4 @@
-use Rattle.std.proofs.Common.{Err, ap, map, refl, subst, sym, ◌∙◌}
+use Rattle.std.proofs.Common.{Err, [], ◌∷◌, ap, arith, map, refl, subst, sym, ◌∙◌}
 use Rattle.cf_watch.specs.FlowValue.{flow_value}
 use Rattle.cf_words.specs.Command.{Learn}
 use Rattle.cf_box.specs.Ends.{Meets}
@@ -6,7 +6,7 @@ use Rattle.cf_box.specs.Learn.{IsLearned, LearnLeaves, LearnsAs}
 use Rattle.cf_ending.specs.Outside.{files_value, outside}
 use Rattle.cf_box.proofs.Learning.{has_watched, unlearned_meets, unwatched_meets, written_meets}
 use Rattle.cf_box.proofs.Passing.{unread_leaves}
-use Rattle.cf_box.proofs.Reading.{rises_both}
+use Rattle.cf_box.proofs.Reading.{rises_both, rises_still}
 use Rattle.cf_box.proofs.learn.learn_capture.Goals as goal
 
 pub returns-in-Err-clause-meets : goal.returns-in-Err-clause-meets
@@ -36,6 +36,17 @@ returns-clause-meets g c = λ sink pair.
     (has_watched c.args.policy_file.now c.args.capture.now c.args.out.now before c.in-Ok.policy c.in-Ok.ensures.has middle flows c.load_policy.ensures.only c.in-Ok-watch.ensures.watched)
     after (record { content = c.watch.ensures.reads.same ∙ c.load_policy.ensures.only.content; sink = refl; pair = refl }) c.in-Err-learned.stop
     (subst (λ l. LearnsAs c.in-Ok.policy (map flow_value l) (Err c.in-Err-learned.stop)) c.as_slice.ensures.value c.in-Err-learned.ensures)
+
+pub returns-in-Ok-learned-clause-later : goal.returns-in-Ok-learned-clause-later
+returns-in-Ok-learned-clause-later g c =
+    let faults = g.F.Files.read_faults in
+    let names = c.args.policy_file.now ∷ c.args.capture.now ∷ [] in
+    let reads = rises_both c.args.policy_file.now c.args.capture.now (faults c.args.files.now) (faults c.load_policy.new.files) (faults c.watch.new.files)
+    c.load_policy.ensures.only.reads c.watch.ensures.reads.cause in
+    record {
+      reads = rises_still names (faults c.args.files.now) (faults c.watch.new.files) (faults c.write_policy.new.files) reads c.write_policy.ensures.only.reads;
+      writes = omega (arith, c.load_policy.ensures.only.writes, c.watch.ensures.reads.writes, c.write_policy.ensures.only.cause.later);
+    }
 
 pub returns-in-Ok-learned-clause-meets : goal.returns-in-Ok-learned-clause-meets
 returns-in-Ok-learned-clause-meets g c = λ sink pair.

@@ -1,10 +1,10 @@
-use Rattle.std.proofs.Common.{refl, subst, Err, sym, inl}
+use Rattle.std.proofs.Common.{arith, refl, subst, Err, sym, inl}
 use Rattle.cf_words.specs.Command.{Sift}
 use Rattle.cf_ending.specs.Outside.{FilesValue, files_value, outside}
 use Rattle.cf_box.specs.PolicyFile.{FindsAsset}
 use Rattle.cf_box.specs.Sift.{SiftLeaves}
 use Rattle.cf_box.proofs.Passing.{unread_leaves}
-use Rattle.cf_box.proofs.Reading.{since_read}
+use Rattle.cf_box.proofs.Reading.{rises_both, since_read}
 use Rattle.cf_box.proofs.Sifting.{sift_cuts, sift_ends, sift_fails}
 use Rattle.cf_policy.specs.declared.Asset.{Asset}
 use Rattle.cf_sift.specs.Names.{SiftNamesValue, sift_names_value}
@@ -50,6 +50,15 @@ returns-in-Err-sift_stream-clause-meets g c = λ sink pair.
     (λ is. since_read (before g at) (files_value g.F.Files c.load_policy.new.files) (after g at) only c.args.names.now.stream.now (stream.read.rose is))
     (λ is. subst (λ n. Rose n (after g at).write_faults) only.writes (stream.write.rose is))
     ends
+
+pub returns-in-Some-cut-clause-later : goal.returns-in-Some-cut-clause-later
+returns-in-Some-cut-clause-later g c =
+    let faults = g.F.Files.read_faults in
+    record {
+      reads = rises_both c.args.policy_file.now c.args.names.now.stream.now (faults c.args.files.now) (faults c.load_policy.new.files) (faults c.sift_stream.new.files)
+          c.load_policy.ensures.only.reads c.in-Ok-sift_stream.ensures.read;
+      writes = omega (arith, c.load_policy.ensures.only.writes, c.in-Ok-sift_stream.ensures.write.later);
+    }
 
 pub returns-in-Some-cut-clause-meets : goal.returns-in-Some-cut-clause-meets
 returns-in-Some-cut-clause-meets g c = λ sink pair.
