@@ -220,12 +220,15 @@ class Taken:
 
 
 class Controller:
-    """Answers on each connection by its protocol. What is no unit of it is kept, and answered by nothing."""
+    """Answers on each connection by its protocol, in the order of what came, and reads no more until it could write. What is no unit of
+    it is kept, and answered by nothing."""
 
-    def __init__(self, port, protocol, is_deaf=False):
+    def __init__(self, port, protocol, is_deaf=False, options=()):
         self.protocol, self.port, self.taken = protocol, port, []
         self.listener = socket.socket()
         self.listener.setsockopt(socket.SOL_SOCKET, socket.SO_REUSEADDR, 1)
+        for option in options:
+            self.listener.setsockopt(*option)
         self.listener.bind(('127.0.0.1', port))
         self.listener.listen(0 if is_deaf else 256)
         if not is_deaf:

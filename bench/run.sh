@@ -1,9 +1,9 @@
 #!/usr/bin/env bash
 # The processor time of `cmdwall run` on a capture of Modbus round trips, beside that of `tcpdump -n -r` and of `suricata -r` on the
 # same file in the same run (each left out where it is missing), each the median of five in turn; its memory; its time on the same number
-# of round trips spread over 200 open sessions; and that where the session never closes, so that CAPTURE and OUT are read again for the
-# note that says so. Two kinds of Suricata are measured: `suricata` is that of its own configuration, with Modbus read and all of its
-# outputs; `lean` has one rule, which tells of writes, no EVE log, one thread, and reads a stream to its end (a depth of 0 is no limit).
+# of round trips spread over 200 open sessions; and that where the session never closes, of which a note says so. Two kinds of Suricata are
+# measured: `suricata` is that of its own configuration, with Modbus read and all of its outputs; `lean` has one rule, which tells of
+# writes, no EVE log, one thread, and reads a stream to its end (a depth of 0 is no limit).
 # Ratios, and no promise. Word: the number of round trips (300,000). CMDWALL in the environment: the program (the one that is built).
 set -eu
 top=$(cd "$(dirname "$0")/.." && pwd)
@@ -119,5 +119,5 @@ print(f"         for {trips:,} round trips, {os.path.getsize(one):,} octets, {me
 for name, times in others.items():
     print(f"         run takes {middle / said(name, times):.2f} times the processor time of {name}")
 print(f"         with 200 open sessions {said('run', spread) / middle:.2f} times that of one session, {memory(many)}")
-print(f"         of a session that never closes, of which CAPTURE and OUT are read again, {said('run', again) / middle:.2f} times")
+print(f"         of a session that never closes {said('run', again) / middle:.2f} times")
 PY

@@ -9,7 +9,7 @@ use Rattle.cf_review.specs.Lines.{review_text}
 use Rattle.cf_review.specs.Review.{IsReviewOf}
 use Rattle.cf_review.specs.declared.Counts.{Counts}
 use Rattle.cf_review.specs.declared.Reviewed.{Reviewed}
-use Rattle.cf_watch.specs.FlowValue.{FlowValue}
+use Rattle.cf_watch.specs.FlowValue.{FlowValue, StretchValue}
 use Rattle.cf_view.specs.declared.LinkSet.TheVariants as set
 use Rattle.cf_watch.specs.Watch.{FailsAs, IsRecordingOf}
 use Rattle.cf_watch.specs.declared.WatchFault.{WatchFault}
@@ -47,10 +47,16 @@ module _ (policy capture log : List ℕ) (before : Outside) (p : Policy) (has : 
     unwatched_leaves after f (record { content = same ∙ only.content; sink = sink; pair = pair }),
   )
 
-  module _ (middle after : Outside) (stamps : List ℕ) (r : Reviewed) (flows : List FlowValue) (recorded : IsRecordingOf p.assets (middle.files.content capture) flows stamps)
-      (is : IsReviewOf p.assets flows r) (only : ReadsOnly (policy ∷ capture ∷ []) before.files middle.files) (sink : after.sink ≡ before.sink) (pair : after.pair ≡ before.pair) where
+  module _ (middle after : Outside) (stamps : List ℕ) (r : Reviewed) (flows : List FlowValue) (stretches : List StretchValue)
+      (recorded : IsRecordingOf p.assets (middle.files.content capture) flows stretches stamps) (is : IsReviewOf p.assets flows stretches r) (only : ReadsOnly (policy ∷ capture ∷ []) before.files middle.files) (sink : after.sink ≡ before.sink) (pair : after.pair ≡ before.pair) where
     has_review : HasReview policy capture before p stamps r
-    has_review = record { has_policy = has; flows = flows; recorded = subst (λ c. IsRecordingOf p.assets (c capture) flows stamps) only.content recorded; reviews = is }
+    has_review = record {
+      has_policy = has;
+      flows = flows;
+      stretches = stretches;
+      recorded = subst (λ c. IsRecordingOf p.assets (c capture) flows stretches stamps) only.content recorded;
+      reviews = is;
+    }
 
     module _ (others : KeepsOtherFiles (log ∷ []) middle.files.content after.files.content) where
       kept : KeepsOtherFiles (log ∷ []) before.files.content after.files.content

@@ -1,7 +1,7 @@
 -- The places of a service, and why it stops.
 use Rattle.std.proofs.Common.{◌≡◌, ◌≤◌, ◌*◌, ◌++◌, ◌-◌, ◌<◌, ◌^◌, ◌⊎◌, ℕ, Option, Some, None, Result, Ok, Err, List, [], ◌∷◌, ap, inl, inr, length, map, refl, subst, suc, sym, ◌∙◌}
-use Rattle.std.specs.Prelude.{IfErr, OnOk}
-use Rattle.std.specs.List.{AllByRecursion}
+use Rattle.std.specs.Prelude.{Bool, IfErr, OnOk, false, ◌||◌}
+use Rattle.std.specs.List.{AllByRecursion, list_any}
 use Rattle.std.proofs.lemmas.Option.{same_Some}
 use Rattle.cf_links.specs.Links.{LinksEntry}
 use Rattle.cf_outside.specs.Faults.{HasCause, Rose}
@@ -9,6 +9,7 @@ use Rattle.cf_outside.specs.Files.{content_gone_on}
 use Rattle.cf_outside.specs.Lines.{file_lines}
 use Rattle.cf_outside.specs.Pair.{FaultsBy}
 use Rattle.cf_outside.specs.PairValue.{PairValue}
+use Rattle.cf_policy.specs.AtEndpoint.{has_asset_at}
 use Rattle.cf_policy.specs.Within.{IsAssetWithin}
 use Rattle.cf_policy.specs.declared.Policy.{Policy}
 use Rattle.cf_policylang.specs.declared.PolicyRefusal.{PolicyRefusal}
@@ -23,10 +24,12 @@ use Rattle.cf_words.specs.Command.{Check}
 use Rattle.cf_box.specs.Ends.{RefusesPolicy, StopsFor}
 use Rattle.cf_ending.specs.Outside.{FilesValue, ReadsOnly, SinkValue, outside}
 use Rattle.cf_box.specs.PolicyFile.{HasPolicy, IsRefusedBy, StopsPolicy}
-use Rattle.cf_box.specs.Service.{ArePlaces, HasBroken, HasServed, NothingServed, StopsService, service_stop}
+use Rattle.cf_box.specs.Service.{ArePlaces, EndsService, HasBroken, HasServed, NothingServed, StopsService, service_stop, takes_endpoint}
 use Rattle.cf_box.specs.ServiceWords.{PlaceWord, ServiceWords, place_word_value}
 use Rattle.cf_ending.specs.declared.Stop.{Stop}
 use Rattle.cf_ending.specs.declared.Stop.TheVariants as stop
+use Rattle.cf_box.specs.declared.serve.Unserved.{Unserved}
+use Rattle.cf_box.specs.declared.serve.Unserved.TheVariants as unserved
 use Rattle.cf_box.specs.declared.service.PlaceWord.{PlaceWord as PlaceFields}
 
 -- as many places as words
@@ -61,25 +64,27 @@ few_places policy words all few are =
 module _ (w : ServiceWords) (told told' : Option (List LinksEntry)) (waits waits' : ℕ) where
   -- how a service stops by its fault
   pub stops_of : (before after : FilesValue) (policy : Policy) (places : List Place) → HasPolicy (before.content w.policy) policy
+      → takes_endpoint policy w.places ≡ false
       → ArePlaces policy w.places places → (f : ServeFault) → (r : Result Unit ServeFault) → r ≡ Err f
       → IfWhole r (Serves places (2 * w.seconds) (HasMade r) told told' (file_lines (content_gone_on (before.content w.log))) (file_lines (after.content w.log)))
       → (r ≡ Err fault.Write → BreaksLog places (2 * w.seconds) told told' (before.content w.log) (after.content w.log))
       → HasCause before.write_faults after.write_faults (r ≡ Err fault.Write) → FaultsBy waits waits' (r ≡ Err fault.Loop)
       → (r ≡ Err fault.NoMemory → (told' ≡ told) × (after.content w.log ≡ content_gone_on (before.content w.log)))
       → StopsService w before after told told' waits waits' (service_stop f)
-  stops_of before after policy places has found fault.Write r is serves breaks cause loops memory =
-      (record { policy = policy; has = has; places = places; found = found; breaks = breaks is }, cause.rose is)
-  stops_of before after policy places has found fault.Loop r is serves breaks cause loops memory = (
+  stops_of before after policy places has apart found fault.Write r is serves breaks cause loops memory =
+      (record { policy = policy; has = has; apart = apart; places = places; found = found; breaks = breaks is }, cause.rose is)
+  stops_of before after policy places has apart found fault.Loop r is serves breaks cause loops memory = (
     record {
       policy = policy;
       has = has;
+      apart = apart;
       places = places;
       found = found;
       serves = subst (λ q. IfWhole q (Serves places (2 * w.seconds) (HasMade q) told told' (file_lines (content_gone_on (before.content w.log))) (file_lines (after.content w.log)))) is serves;
     },
     loops.rose is,
   )
-  stops_of before after policy places has found fault.NoMemory r is serves breaks cause loops memory = let m = memory is in record { log = inr m.1; same = m.0 }
+  stops_of before after policy places has apart found fault.NoMemory r is serves breaks cause loops memory = let m = memory is in record { log = inr m.1; same = m.0 }
 
   module _ (old middle after : FilesValue) (only : ReadsOnly (w.policy ∷ []) old middle) where
     -- what was served after a file was read
@@ -87,6 +92,7 @@ module _ (w : ServiceWords) (told told' : Option (List LinksEntry)) (waits waits
     served_after Made h = record {
       policy = h.policy;
       has = subst (λ content. HasPolicy (content w.policy) h.policy) only.content h.has;
+      apart = h.apart;
       places = h.places;
       found = h.found;
       serves = subst (λ content. Serves h.places (2 * w.seconds) Made told told' (file_lines (content_gone_on (content w.log))) (file_lines (after.content w.log))) only.content h.serves;
@@ -96,6 +102,7 @@ module _ (w : ServiceWords) (told told' : Option (List LinksEntry)) (waits waits
     broken_after h = record {
       policy = h.policy;
       has = subst (λ content. HasPolicy (content w.policy) h.policy) only.content h.has;
+      apart = h.apart;
       places = h.places;
       found = h.found;
       breaks = subst (λ content. BreaksLog h.places (2 * w.seconds) told told' (content w.log) (after.content w.log)) only.content h.breaks;
@@ -107,7 +114,7 @@ module _ (w : ServiceWords) (told told' : Option (List LinksEntry)) (waits waits
     stops_after (stop.PolicyRefused r) h =
         (subst (λ content. IsRefusedBy (content w.policy) r) only.content h.0, record { content = h.1.content ∙ only.content; same = h.1.same })
     stops_after stop.UnknownAsset h = (
-      record { policy = h.0.policy; has = subst (λ content. HasPolicy (content w.policy) h.0.policy) only.content h.0.has; lacks = h.0.lacks },
+      record { policy = h.0.policy; has = subst (λ content. HasPolicy (content w.policy) h.0.policy) only.content h.0.has; apart = h.0.apart; lacks = h.0.lacks },
       record { content = h.1.content ∙ only.content; same = h.1.same },
     )
     stops_after stop.WriteFault h = (broken_after h.0, subst (λ n. Rose n after.write_faults) only.writes h.1)
@@ -118,14 +125,30 @@ module _ (w : ServiceWords) (told told' : Option (List LinksEntry)) (waits waits
     }
     stops_after s h = absurd h
 
-    pub all_served : (Made : ℕ → Type 0) (r : Result Unit Stop) → OnOk r (HasServed w middle after told told' waits waits' Made) → OnOk r (HasServed w old after told told' waits waits' Made)
+    ends_after : (u : Unserved) → EndsService w middle after told told' waits waits' u → EndsService w old after told told' waits waits' u
+    ends_after unserved.OwnEndpoint h = (
+      record { policy = h.0.policy; has = subst (λ content. HasPolicy (content w.policy) h.0.policy) only.content h.0.has; takes = h.0.takes },
+      record { content = h.1.content ∙ only.content; same = h.1.same },
+    )
+    ends_after (unserved.Stopped s) h = stops_after s h
+
+    pub all_served : (Made : ℕ → Type 0) (r : Result Unit Unserved) → OnOk r (HasServed w middle after told told' waits waits' Made) → OnOk r (HasServed w old after told told' waits waits' Made)
     all_served Made (Ok done) h = served_after Made h
     all_served Made (Err s) h = h
 
-    pub all_stopped : (r : Result Unit Stop) → IfErr r (λ s. StopsService w middle after told told' waits waits' s)
-        → IfErr r (λ s. StopsService w old after told told' waits waits' s)
+    pub all_stopped : (r : Result Unit Unserved) → IfErr r (λ u. EndsService w middle after told told' waits waits' u)
+        → IfErr r (λ u. EndsService w old after told told' waits waits' u)
     all_stopped (Ok done) h = h
-    all_stopped (Err s) h = stops_after s h
+    all_stopped (Err u) h = ends_after u h
+
+-- whether a place is an endpoint, by the words as they are kept
+pub takes_by : (policy : Policy) (words there : List PlaceFields) (b : Bool) → there ≡ words → b ≡ list_any (λ word. has_asset_at policy.assets (place_word_value word).at) there
+    → takes_endpoint policy (map place_word_value words) ≡ b
+takes_by policy words there b same is =
+    of_all words ∙ ap (λ (ws : List PlaceFields). list_any (λ word. has_asset_at policy.assets (place_word_value word).at) ws) (sym same) ∙ sym is where
+      of_all : (ws : List PlaceFields) → takes_endpoint policy (map place_word_value ws) ≡ list_any (λ word. has_asset_at policy.assets (place_word_value word).at) ws
+      of_all [] = refl
+      of_all (x ∷ ws) = ap (λ (b : Bool). has_asset_at policy.assets (place_word_value x).at || b) (of_all ws)
 
 -- a policy that was not read stops the service
 module _ (w : ServiceWords) (told : Option (List LinksEntry)) (waits : ℕ) (before after : FilesValue) (sink : SinkValue) (pair : PairValue)

@@ -13,6 +13,8 @@ use Rattle.cf_pcapng.specs.declared.block.TheConstants.{BYTE_ORDER, ENHANCED_PAC
 use Rattle.cf_pcapng.specs.declared.block.TheConstants.{REFUSED_BLOCK, REFUSED_INTERFACE, REFUSED_LENGTH, REFUSED_RESOLUTION}
 use Rattle.cf_pcapng.specs.declared.block.TheConstants.{REFUSED_SECTION}
 use Rattle.cf_policy.specs.declared.Asset.{Asset}
+use Rattle.cf_relay.specs.Reading.{most_back}
+use Rattle.cf_relay.specs.declared.directions.Directions.TheVariants as both
 use Rattle.cf_relay.specs.declared.limit.TheConstants.{MOST_BYTES}
 use Rattle.cf_review.specs.declared.remark.TheConstants.{SHOWN}
 
@@ -60,6 +62,8 @@ pub record HasNumbers : Type 0 where
   pub learned : HasLearnedNumbers
   -- octets that one call of a relay gives or takes at most
   pub bytes : MOST_BYTES ≡ 4096
+  -- letters that may wait for a side of a service as it is read, of the 131,072 bytes for which a queue has room
+  pub back : most_back both.Separate ≡ 98304
   -- octets of a refused command that its line of a review shows at most, and those of a name in a line of the log
   pub shown : SHOWN ≡ 16
   pub name : NAME_LIMIT ≡ 32

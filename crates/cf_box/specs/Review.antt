@@ -10,7 +10,7 @@ use Rattle.cf_review.specs.Remark.{RemarkValue, remark_value}
 use Rattle.cf_review.specs.Review.{IsReviewOf}
 use Rattle.cf_review.specs.declared.Counts.{Counts}
 use Rattle.cf_review.specs.declared.Reviewed.{Reviewed}
-use Rattle.cf_watch.specs.FlowValue.{FlowValue}
+use Rattle.cf_watch.specs.FlowValue.{FlowValue, StretchValue}
 use Rattle.cf_watch.specs.Watch.{IsRecordingOf}
 use Rattle.cf_box.specs.Check.{ChangesNothing}
 use Rattle.cf_ending.specs.Outside.{Outside}
@@ -39,8 +39,9 @@ module _ (policy capture : List ℕ) (before : Outside) where
   pub record HasReview (p : Policy) (stamps : List ℕ) (r : Reviewed) : Type 0 where
     pub has_policy : HasPolicy (before.files.content policy) p
     pub flows : List FlowValue
-    pub recorded : IsRecordingOf p.assets (before.files.content capture) flows stamps
-    pub reviews : IsReviewOf p.assets flows r
+    pub stretches : List StretchValue
+    pub recorded : IsRecordingOf p.assets (before.files.content capture) flows stretches stamps
+    pub reviews : IsReviewOf p.assets flows stretches r
 
   -- there is a remark, and so much was counted
   abbrev pub Remarks : Denial → Type 0

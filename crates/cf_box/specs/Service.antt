@@ -1,6 +1,7 @@
 -- `serve POLICY SECONDS LOG NAME=A.B.C.D:PORT..`: what a service leaves, and how it ends. The main definition is `ServiceEnds`. This
 -- project's own.
-use Rattle.std.specs.Prelude.{◌≡◌, ◌⊎◌, ◌*◌, ◌-◌, ◌<◌, ◌^◌, ℕ, List, [], ◌∷◌, Option, None, Some, codes}
+use Rattle.std.specs.List.{list_any}
+use Rattle.std.specs.Prelude.{◌≡◌, ◌⊎◌, ◌*◌, ◌-◌, ◌<◌, ◌^◌, ℕ, Bool, false, true, List, [], ◌∷◌, Option, None, Some, codes}
 use Rattle.cf_links.specs.Links.{LinksEntry, LinksPlace}
 use Rattle.cf_links.specs.declared.Links.{Ghosts as LinksOf}
 use Rattle.cf_outside.specs.declared.Files.{Ghosts as FilesOf}
@@ -8,6 +9,7 @@ use Rattle.cf_outside.specs.declared.Sink.{Ghosts as SinkOf}
 use Rattle.cf_outside.specs.Faults.{Rose}
 use Rattle.cf_outside.specs.Files.{KeepsOthers, content_gone_on}
 use Rattle.cf_outside.specs.Lines.{file_lines}
+use Rattle.cf_policy.specs.AtEndpoint.{has_asset_at}
 use Rattle.cf_policy.specs.Within.{IsAssetWithin}
 use Rattle.cf_policy.specs.declared.Policy.{Policy}
 use Rattle.cf_serve.specs.Broken.{BreaksLog}
@@ -21,6 +23,8 @@ use Rattle.cf_box.specs.PolicyFile.{HasPolicy, IsRefusedBy, asset_named}
 use Rattle.cf_box.specs.ServiceWords.{PlaceWord, ServiceWords}
 use Rattle.cf_ending.specs.declared.Stop.{Stop}
 use Rattle.cf_ending.specs.declared.Stop.TheVariants as stop
+use Rattle.cf_box.specs.declared.serve.Unserved.{Unserved}
+use Rattle.cf_box.specs.declared.serve.Unserved.TheVariants as unserved
 
 -- each place has the policy's asset of its name, at its endpoint
 abbrev pub ArePlaces : Policy → List PlaceWord → List Place → Type 0
@@ -35,12 +39,17 @@ abbrev pub LacksPlace : Policy → List PlaceWord → Type 0
 LacksPlace policy [] = ⊥
 LacksPlace policy (word ∷ words) = (asset_named word.asset policy ≡ None) ⊎ LacksPlace policy words
 
+-- one of the places is the endpoint of an asset of the policy, so that the service would ask itself for that controller
+abbrev pub takes_endpoint : Policy → List PlaceWord → Bool
+takes_endpoint policy words = list_any (λ word. has_asset_at policy.assets word.at) words
+
 module _ (w : ServiceWords) (before after : FilesValue) (told told' : Option (List LinksEntry)) (waits waits' : ℕ) where
-  -- the policy was read, the asset of each place was found, and what the links told and the log got are the rounds of a service of
-  -- these places, so many of them, each session by itself; the log was gone on with
+  -- the policy was read, no place is one of its endpoints, the asset of each place was found, and what the links told and the log got are
+  -- the rounds of a service of these places, so many of them, each session by itself; the log was gone on with
   pub record HasServed (Made : ℕ → Type 0) : Type 0 where
     pub policy : Policy
     pub has : HasPolicy (before.content w.policy) policy
+    pub apart : takes_endpoint policy w.places ≡ false
     pub places : List Place
     pub found : ArePlaces policy w.places places
     pub serves : Serves places (2 * w.seconds) Made told told' (file_lines (content_gone_on (before.content w.log)))
@@ -50,15 +59,23 @@ module _ (w : ServiceWords) (before after : FilesValue) (told told' : Option (Li
   pub record HasBroken : Type 0 where
     pub policy : Policy
     pub has : HasPolicy (before.content w.policy) policy
+    pub apart : takes_endpoint policy w.places ≡ false
     pub places : List Place
     pub found : ArePlaces policy w.places places
     pub breaks : BreaksLog places (2 * w.seconds) told told' (before.content w.log) (after.content w.log)
 
-  -- the policy was read, and has no asset of the name of one of the places
+  -- the policy was read, no place is one of its endpoints, and it has no asset of the name of one of the places
   pub record LacksAPlace : Type 0 where
     pub policy : Policy
     pub has : HasPolicy (before.content w.policy) policy
+    pub apart : takes_endpoint policy w.places ≡ false
     pub lacks : LacksPlace policy w.places
+
+  -- the policy was read, and a place is one of its endpoints
+  pub record TakesAnEndpoint : Type 0 where
+    pub policy : Policy
+    pub has : HasPolicy (before.content w.policy) policy
+    pub takes : takes_endpoint policy w.places ≡ true
 
   -- no file changed, and nothing was asked of the links
   pub record NothingServed : Type 0 where
@@ -79,6 +96,11 @@ module _ (w : ServiceWords) (before after : FilesValue) (told told' : Option (Li
   StopsService stop.LinkFault = HasServed (λ made. made < 2 ^ 64 - 1) × Rose waits waits'
   StopsService stop.NoMemory = NothingAsked
   StopsService _ = ⊥
+
+  -- why a service is not begun, or stops
+  abbrev pub EndsService : Unserved → Type 0
+  EndsService unserved.OwnEndpoint = TakesAnEndpoint × NothingServed
+  EndsService (unserved.Stopped s) = StopsService s
 
 -- what the objects outside tell of a service
 pub record ServiceOutside : Type 0 where
@@ -116,6 +138,13 @@ module _ (before after : ServiceOutside) (status : ℕ) where
     pub is_status : status ≡ stop_status s
     pub prints : Prints (stop_text s) (stop_status s) (stop_status s) before.sink after.sink status
 
+  -- a place is an endpoint of the policy: `usage` is printed, and nothing else happened
+  pub record OwnEndpoint (w : ServiceWords) : Type 0 where
+    pub two : status ≡ 2
+    pub cause : TakesAnEndpoint w before.files after.files before.told after.told before.waits after.waits
+    pub usage : Puts (codes "usage\n") 2 2 before.sink after.sink status
+    pub same : NothingServed w before.files after.files before.told after.told before.waits after.waits
+
   -- memory was wanting as the words were read, and nothing happened
   pub record NoWords : Type 0 where
     pub thirteen : status ≡ 13
@@ -134,4 +163,4 @@ module _ (before after : ServiceOutside) (status : ℕ) where
   ServiceEnds None = NoWords ⊎ NoService
   ServiceEnds (Some w) =
       NoWords ⊎ (KeepsOthers w.log before.files.content after.files.content
-      × RisesIn (w.policy ∷ []) before.files.read_faults after.files.read_faults × (ServesOn w ⊎ ((s : Stop) × Stopped w s)))
+      × RisesIn (w.policy ∷ []) before.files.read_faults after.files.read_faults × (ServesOn w ⊎ (OwnEndpoint w ⊎ ((s : Stop) × Stopped w s))))

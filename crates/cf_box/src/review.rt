@@ -14,7 +14,7 @@ use cf_review::{Reviewed, count, review, write_lines};
 use cf_watch::watch_recording;
 use std::alloc::Global;
 
-/// Reads the policy and the capture, reviews its flows, and writes the lines of all remarks into the log, which is created last.
+/// Reads the policy and the capture, reviews its flows and their other stretches, and writes the lines of all remarks into the log, which is created last.
 #[tactic(auto, using(crate::proofs::Reading::rises_one))]
 pub(crate) fn review_capture<F: Files>(
     alloc: Global,
@@ -36,7 +36,8 @@ pub(crate) fn review_capture<F: Files>(
         Ok(recording) => recording,
         Err(fault) => return Err(fault_stop(fault)),
     };
-    let reviewed = match review(alloc, &policy, recording.flows.as_slice()) {
+    let flows = recording.flows.as_slice();
+    let reviewed = match review(alloc, &policy, flows, recording.stretches.as_slice()) {
         Ok(reviewed) => reviewed,
         Err(_) => return Err(Stop::NoMemory),
     };

@@ -1,11 +1,14 @@
 //! `serve POLICY SECONDS LOG NAME=A.B.C.D:PORT..`: a policy between many clients and their controllers.
+ghost use Rattle.std.specs.List.{list_any};
 ghost use Rattle.std.specs.Prelude.{◌≡◌, ◌⊎◌, ◌++◌, ◌-◌, ◌^◌, Err, IfErr, List, OnOk, Some, false, map, string_bytes, ℕ, ◌∷◌, []};
 ghost use Rattle.cf_ending.specs.Outside.{RisesIn, files_value};
 ghost use Rattle.cf_box.specs.PolicyFile.{HasPolicy};
-ghost use Rattle.cf_box.specs.Service.{ArePlaces, HasServed, LacksPlace, ServiceEnds, StopsService, service_outside, service_stop};
+ghost use Rattle.cf_box.specs.Service.{ArePlaces, EndsService, HasServed, LacksPlace, ServiceEnds, StopsService, service_outside, service_stop};
+ghost use Rattle.cf_box.specs.Service.{takes_endpoint};
 ghost use Rattle.cf_box.specs.ServiceWords.{IsFitService, place_word_value, service_of, service_value};
 ghost use Rattle.cf_links.specs.Links.{LinksPlace};
 ghost use Rattle.cf_outside.specs.Files.{KeepsOthers};
+ghost use Rattle.cf_policy.specs.AtEndpoint.{has_asset_at};
 ghost use Rattle.cf_policy.specs.Within.{IsWithin};
 ghost use Rattle.cf_serve.specs.Laws.{EachIsAlone, FloodsAreBounded, IsolatesSessions, StrangersAreRefused};
 ghost use Rattle.cf_serve.specs.declared.table.Place.{Place as PlaceOf};
@@ -15,12 +18,39 @@ use crate::service::{PlaceWord, Service, read_service};
 use cf_ending::{Stop, put_text, report};
 use cf_links::Service as Links;
 use cf_outside::{Files, Sink};
-use cf_policy::Policy;
+use cf_policy::{Asset, Policy};
 use cf_serve::{
     Place, ServeFault, floods_are_bounded, sessions_are_isolated, strangers_are_refused,
 };
+use cf_view::{Endpoint, same_endpoint};
 use cf_words::status::{DONE, NO_MEMORY, USAGE};
 use std::alloc::Global;
+
+/// Why a service is not begun, or stops.
+#[derive(Clone, Copy)]
+pub(crate) enum Unserved {
+    /// A place is an endpoint of the policy: the service would be a client of itself.
+    OwnEndpoint,
+    Stopped(Stop),
+}
+
+/// Whether an asset has the endpoint.
+fn has_asset_at(assets: &[Asset], at: Endpoint) -> bool
+    ensures { result ≡ has_asset_at assets.now at }
+{
+    assets
+        .iter()
+        .any(|asset| same_endpoint(&asset.endpoint, &at))
+}
+
+/// Whether one of the places is the endpoint of an asset.
+fn takes_endpoint(policy: &Policy, words: &[PlaceWord<'_>]) -> bool
+    ensures { result ≡ list_any (λ word. has_asset_at policy.now.assets (place_word_value word).at) words.now }
+{
+    words
+        .iter()
+        .any(|word| has_asset_at(policy.assets.as_slice(), word.at))
+}
 
 /// Adds the asset of each place, and where its clients come.
 fn find_places<'a>(
@@ -67,6 +97,7 @@ fn serve_places<F: Files, L: Links>(
 ) -> Result<(), Stop>
     requires within { IsWithin policy.now }
     requires has { HasPolicy (F.content files.old (service.now.policy).now) policy.now }
+    requires apart { takes_endpoint policy.now (map place_word_value service.now.places.items) ≡ false }
     requires fit { IsFitService service.now }
     requires free { (session : ℕ) → LinksPlace.serves (L.place links.old) session ≡ false }
     ensures serves { OnOk result (HasServed (service_value service.now) (files_value F.Files files.old) (files_value F.Files files.new)
@@ -94,19 +125,50 @@ fn serve_places<F: Files, L: Links>(
     }
 }
 
+/// Serves the clients of the places of a policy that was read, none of which is an endpoint of it.
+fn serve_read<F: Files, L: Links>(
+    alloc: Global,
+    policy: &Policy,
+    service: &Service<'_>,
+    files: &mut F,
+    links: &mut L,
+) -> Result<(), Unserved>
+    requires within { IsWithin policy.now }
+    requires has { HasPolicy (F.content files.old (service.now.policy).now) policy.now }
+    requires fit { IsFitService service.now }
+    requires free { (session : ℕ) → LinksPlace.serves (L.place links.old) session ≡ false }
+    ensures serves { OnOk result (HasServed (service_value service.now) (files_value F.Files files.old) (files_value F.Files files.new)
+        (L.told links.old) (L.told links.new) (LinksPlace.round_faults (L.place links.old)) (LinksPlace.round_faults (L.place links.new))
+        (λ made. made ≡ 2 ^ 64 - 1)) }
+    ensures stops { IfErr result (λ s. EndsService (service_value service.now) (files_value F.Files files.old)
+        (files_value F.Files files.new)
+        (L.told links.old) (L.told links.new) (LinksPlace.round_faults (L.place links.old)) (LinksPlace.round_faults (L.place links.new))
+        s) }
+    ensures others { KeepsOthers (service.now.log).now (F.content files.old) (F.content files.new) }
+    ensures reads { F.read_faults files.new ≡ F.read_faults files.old }
+{
+    if takes_endpoint(policy, service.places.as_slice()) {
+        return Err(Unserved::OwnEndpoint);
+    }
+    match serve_places(alloc, policy, service, files, links) {
+        Ok(()) => Ok(()),
+        Err(stop) => Err(Unserved::Stopped(stop)),
+    }
+}
+
 /// Reads the policy, and serves the clients of its places.
 fn serve_policy<F: Files, L: Links>(
     alloc: Global,
     service: &Service<'_>,
     files: &mut F,
     links: &mut L,
-) -> Result<(), Stop>
+) -> Result<(), Unserved>
     requires fit { IsFitService service.now }
     requires free { (session : ℕ) → LinksPlace.serves (L.place links.old) session ≡ false }
     ensures serves { OnOk result (HasServed (service_value service.now) (files_value F.Files files.old) (files_value F.Files files.new)
         (L.told links.old) (L.told links.new) (LinksPlace.round_faults (L.place links.old)) (LinksPlace.round_faults (L.place links.new))
         (λ made. made ≡ 2 ^ 64 - 1)) }
-    ensures stops { IfErr result (λ s. StopsService (service_value service.now) (files_value F.Files files.old)
+    ensures stops { IfErr result (λ s. EndsService (service_value service.now) (files_value F.Files files.old)
         (files_value F.Files files.new)
         (L.told links.old) (L.told links.new) (LinksPlace.round_faults (L.place links.old)) (LinksPlace.round_faults (L.place links.new))
         s) }
@@ -114,8 +176,8 @@ fn serve_policy<F: Files, L: Links>(
     ensures reads { RisesIn ((service.now.policy).now ∷ []) (F.read_faults files.old) (F.read_faults files.new) }
 {
     match load_policy(alloc, service.policy, files) {
-        Ok(policy) => serve_places(alloc, &policy, service, files, links),
-        Err(stop) => Err(stop),
+        Ok(policy) => serve_read(alloc, &policy, service, files, links),
+        Err(stop) => Err(Unserved::Stopped(stop)),
     }
 }
 
@@ -134,7 +196,8 @@ fn serve_words<F: Files, O: Sink, L: Links>(
 {
     match serve_policy(alloc, service, files, links) {
         Ok(()) => DONE,
-        Err(stop) => report(&Err(stop), out),
+        Err(Unserved::OwnEndpoint) => put_text("usage\n", USAGE, USAGE, out),
+        Err(Unserved::Stopped(stop)) => report(&Err(stop), out),
     }
 }
 
@@ -142,7 +205,7 @@ fn serve_words<F: Files, O: Sink, L: Links>(
 /// place cannot be listened at, or the wait fails; after every line of the log that could be appended. The links have no session
 /// before. This project's own.
 ///
-/// Statuses: 0 after 2^64 - 1 rounds; 2 the words have no form; 3 a read failed; 4 a write failed; 5 the policy's text means none; 8 a
+/// Statuses: 0 after 2^64 - 1 rounds; 2 the words have no form, or a place is an endpoint of the policy; 3 a read failed; 4 a write failed; 5 the policy's text means none; 8 a
 /// place cannot be listened at, or the wait failed; 10 the policy has no asset of a name; 13 memory ran out.
 pub fn serve_main<F: Files, O: Sink, L: Links>(
     alloc: Global,

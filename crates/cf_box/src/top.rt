@@ -1,7 +1,7 @@
 //! The top call.
 ghost use Rattle.std.specs.Prelude.{◌≡◌, ◌≤◌, ◌⊎◌, ◌↔◌, IsNone, List, Some, map, string_bytes, ℕ};
 ghost use Rattle.cf_words.specs.Command.{AsksPair, input_files, Compare, Judge, Migrate, Packets, Review, Run, Sift, World, Learn};
-ghost use Rattle.cf_box.specs.Ends.{Ends, Meets};
+ghost use Rattle.cf_box.specs.Ends.{Ends, Meets, TellsCounts};
 ghost use Rattle.cf_box.specs.Laws.{HasLaws};
 ghost use Rattle.cf_box.specs.Learn.{HoldsLearned};
 ghost use Rattle.cf_box.specs.Limits.{HasLimits};
@@ -36,10 +36,10 @@ use crate::review::review_capture;
 use crate::run::run;
 use crate::sift::sift;
 use crate::world::world;
-use cf_ending::{Done, Stop, put_text, report};
+use cf_ending::{Done, Stop, counted, put_text, report};
 use cf_lane::{has_one_judgement, lane_passes_allowed, rates_hold};
 use cf_outside::{Files, Pair, Sink};
-use cf_run::{runs_are_logged, runs_have_headline};
+use cf_run::{Summary, runs_are_logged, runs_have_headline};
 use cf_sift::has_one_cut;
 use cf_words::status::USAGE;
 use cf_words::{Command, read_words};
@@ -112,11 +112,17 @@ pub fn box_main<F: Files, O: Sink, P: Pair>(
     files: &mut F,
     out: &mut O,
     pair: &mut P,
+    told: &mut Option<Summary>,
 ) -> u8
     // The answer of the command explains the files, the status, and all that was printed.
     ensures ends { Ends (command_of (map string_bytes words.now)) (outside_value F.Files O.Sink P.Pair files.old out.old pair.old)
         (outside_value F.Files O.Sink P.Pair files.new out.new pair.new) result }
     ensures statuses { IsStatus result }
+
+    // What was counted over a run is told beside the text that is printed.
+    ensures counted { TellsCounts (command_of (map string_bytes words.now))
+        (outside_value F.Files O.Sink P.Pair files.old out.old pair.old)
+        (outside_value F.Files O.Sink P.Pair files.new out.new pair.new) result told.new }
 
     // Each status by itself.
     ensures usage { (result ≡ 2) ↔ IsNone (command_of (map string_bytes words.now)) }
@@ -232,9 +238,13 @@ pub fn box_main<F: Files, O: Sink, P: Pair>(
     runs_have_headline();
     runs_are_logged();
     match read_words(words) {
-        None => put_text("usage\n", USAGE, USAGE, out),
+        None => {
+            *told = None;
+            put_text("usage\n", USAGE, USAGE, out)
+        }
         Some(command) => {
             let ended = perform(alloc, command, files, out, pair);
+            *told = counted(&ended);
             report(&ended, out)
         }
     }

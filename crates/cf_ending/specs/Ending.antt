@@ -41,6 +41,12 @@ abbrev pub unprinted_status : Result Done Stop → ℕ
 unprinted_status (Ok d) = 4
 unprinted_status (Err s) = stop_status s
 
+-- what was counted over a run that came to its end, or whose capture ends inside a record; nothing of other work
+abbrev pub counted_in : Result Done Stop → Option Summary
+counted_in (Ok (done.Ran summary)) = Some summary
+counted_in (Err (stop.RunCut place summary)) = Some summary
+counted_in _ = None
+
 -- the number of each refusal of a capture
 abbrev pub capture_number : CaptureRefusal → ℕ
 capture_number refusal.Short = 1

@@ -42,6 +42,24 @@ pub fn asset_message(
     out.finish()
 }
 
+/// That the place of these words is the endpoint of an asset, at which a service would be its own client.
+pub fn own_endpoint_message(
+    alloc: Global,
+    file: &str,
+    asset: &Asset,
+    place: &str,
+) -> Result<String, AllocError> {
+    let mut out = Page::new(alloc);
+    out.push_all(&[file, ": the place "]);
+    push_quoted(&mut out, place);
+    out.push_all(&[
+        " is the address and port of the controller of asset ",
+        asset.name.as_str(),
+        ": the service would connect to itself",
+    ]);
+    out.finish()
+}
+
 /// Asks whether the first asset of a name near to this one was meant, if there is one.
 fn push_meant_asset(out: &mut Page, assets: &[Asset], name: &str) {
     for asset in assets {

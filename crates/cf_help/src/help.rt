@@ -235,6 +235,8 @@ with which the thing was whole, the client, the asset, and one of
   conflict POSITION     two packets carry different bytes at one position of the flow
   begins midstream      the SYN of the flow is not in the capture; it is read from the first place
                         on at which a unit of the protocol begins
+  gap POSITION          the flow's first bytes end here, as where a packet was not recorded, and
+                        it has others, which are read so too; one line a flow
 
 Standard output has the numbers of flows, of commands, of those that POLICY allows and refuses,
 by what refuses them, of strays and conflicts, and of flows that are broken. The status is 0

@@ -3,78 +3,41 @@
 use crate::say::say_lines;
 use crate::why::policy_again;
 use cf_explain::{PolicyFile, kept_text};
-use cf_machine::{Gather, RealFiles};
+use cf_machine::RealFiles;
 use cf_policy::Asset;
-use cf_remarks::{
-    Look, Reading, has_gaps, learned_text, left_open, look_again, read_summary, run_text,
-    survey_capture, survey_text,
-};
-use cf_run::{RunNames, Summary};
+use cf_remarks::{Reading, learned_text, run_text, survey_capture, survey_text};
+use cf_run::Summary;
 use std::rt::Files as FileSystem;
 use std::{fs, io};
 
-/// Says what a run cannot know of its capture, by what it printed. CAPTURE and OUT are read again only where something was dropped,
-/// outside, full, refused or cut, or a session never closed.
+/// Says what a run cannot know of its capture, by what it counted. CAPTURE is read again only where records were dropped, for why they
+/// were.
 pub(crate) fn remark_on_run<R: FileSystem + Eprint + AllocGlobal>(
     rt: &R,
-    policy: &str,
-    names: &RunNames<'_>,
-    printed: &str,
+    capture: &str,
+    told: Option<&Summary>,
     files: &mut RealFiles<'_, R>,
 ) -> io::Result<()> {
-    let summary = read_summary(printed);
-    let all = [policy, names.capture, names.out, names.log];
-    match all.iter().find(|name| !is_file(rt, name)) {
-        Some(name) if has_gaps(&summary) => say_unread(rt, name),
-        Some(_) => Ok(()),
-        None => remark_on_files(rt, policy, names, &summary, files),
+    let Some(summary) = told else {
+        return Ok(());
+    };
+    if summary.dropped > 0 {
+        remark_on_dropped(rt, capture, files)?;
     }
+    say_lines(rt, run_text(rt.alloc(), summary))
 }
 
-/// The same, where all names are those of files.
-fn remark_on_files<R: FileSystem + Eprint + AllocGlobal>(
+/// Says why records of a capture were dropped.
+fn remark_on_dropped<R: FileSystem + Eprint + AllocGlobal>(
     rt: &R,
-    policy: &str,
-    names: &RunNames<'_>,
-    summary: &Summary,
+    capture: &str,
     files: &mut RealFiles<'_, R>,
 ) -> io::Result<()> {
-    match left_open(names.log, summary, files) {
-        None => say_unread(rt, names.log),
-        Some(0) if !has_gaps(summary) => Ok(()),
-        Some(left) => remark_on_gaps(rt, policy, names, summary, left, files),
+    if is_file(rt, capture) {
+        remark_on_unread(rt, &[], capture, Reading::FromSyn, files)
+    } else {
+        say_unread(rt, capture)
     }
-}
-
-/// The same, where something was left out; `left` sessions never closed.
-fn remark_on_gaps<R: FileSystem + Eprint + AllocGlobal>(
-    rt: &R,
-    policy: &str,
-    names: &RunNames<'_>,
-    summary: &Summary,
-    left: u64,
-    files: &mut RealFiles<'_, R>,
-) -> io::Result<()> {
-    match policy_again(rt, policy, files) {
-        Some((read, _)) => {
-            match look_beside(rt, read.assets.as_slice(), names, files) {
-                Some(look) => say_lines(rt, run_text(rt.alloc(), summary, &look, left)),
-                None => say_unread(rt, names.capture),
-            }
-        }
-        None => say_unread(rt, policy),
-    }
-}
-
-/// Looks at CAPTURE and OUT again, each through files of its own.
-fn look_beside<R: FileSystem + AllocGlobal>(
-    rt: &R,
-    assets: &[Asset],
-    names: &RunNames<'_>,
-    files: &mut RealFiles<'_, R>,
-) -> Option<Look> {
-    let mut others = RealFiles::new(rt, rt.alloc(), Gather::Nothing);
-    look_again(rt.alloc(), assets, names, files, &mut others)
 }
 
 /// Says why records were dropped, where the end of a listing has one.
@@ -233,6 +196,6 @@ fn is_file<R: FileSystem>(rt: &R, name: &str) -> bool {
 
 fn say_unread<R: Eprint>(rt: &R, name: &str) -> io::Result<()> {
     eprintln!(rt;
-        "cmdwall: note: {name}: it cannot be read again, so no more is said of what was counted"
+        "cmdwall: note: {name}: it cannot be read again, so it is not said why records were dropped"
     )
 }

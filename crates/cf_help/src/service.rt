@@ -3,9 +3,11 @@
 use crate::help::version_text;
 use crate::say::say;
 use crate::why::{explain_fault, explain_policy, explain_words, policy_again};
-use cf_explain::asset_message;
+use cf_explain::{asset_message, own_endpoint_message};
 use cf_machine::{Announcement, RealFiles};
 use cf_policy::{Action, Asset, Policy};
+use cf_policylang::address;
+use cf_words::printed_number_in;
 use cf_words::status::{NO_MEMORY, POLICY_REFUSED, READ_FAULT, UNKNOWN_ASSET, USAGE, WRITE_FAULT};
 use std::alloc::Global;
 use std::net::Ipv4Addr;
@@ -137,13 +139,42 @@ pub fn explain_service<R: FileSystem + Eprint + AllocGlobal>(
         return explain_words(rt, words);
     };
     match status {
-        USAGE => explain_words(rt, words),
+        USAGE => explain_unfit(rt, words, policy.as_str(), places, files),
         READ_FAULT | WRITE_FAULT => explain_fault(rt, files),
         POLICY_REFUSED => explain_policy(rt, policy.as_str(), files).map(|_| ()),
         UNKNOWN_ASSET => explain_places(rt, policy.as_str(), places, files),
         NO_MEMORY => eprintln!(rt; "cmdwall: memory ran out"),
         _ => Ok(()),
     }
+}
+
+/// The first place that is an endpoint of the policy; where there is none the words themselves are wrong.
+fn explain_unfit<R: FileSystem + Eprint + AllocGlobal>(
+    rt: &R,
+    words: &[String],
+    name: &str,
+    places: &[String],
+    files: &mut RealFiles<'_, R>,
+) -> io::Result<()> {
+    if let Some(policy) = policy_before(rt, name, files) {
+        for place in places {
+            if let Some(asset) = asset_at(&policy, place.as_str()) {
+                let alloc = rt.alloc();
+                return say(rt, own_endpoint_message(alloc, name, asset, place.as_str()));
+            }
+        }
+    }
+    explain_words(rt, words)
+}
+
+/// The asset whose controller is at a place.
+fn asset_at<'a>(policy: &'a Policy, place: &str) -> Option<&'a Asset> {
+    let (_, at) = place.split_once("=")?;
+    let (host, port) = at.split_once(":")?;
+    let (host, port) = (address(host)?, printed_number_in(1, 65_535, port)?);
+    policy.assets.as_slice().iter().find(|asset| {
+        asset.endpoint.address == host && u64::from(asset.endpoint.port) == port
+    })
 }
 
 /// The first place whose asset the policy does not have.

@@ -15,6 +15,7 @@ use cf_machine::{LinkFault, Part, RealFiles, Withheld};
 use cf_outside::{Files, ReadAnswer, WholeFault, read_whole};
 use cf_policy::Policy;
 use cf_policylang::{Cause, Key, LONGEST_TEXT, PolicyFault, PolicyRefusal, read_policy};
+use cf_run::Summary;
 use cf_view::LinkSet;
 use cf_watch::CAPTURE_LIMIT;
 use cf_words::status::{
@@ -92,20 +93,21 @@ pub fn expect_files<R: FileSystem>(
     Ok(())
 }
 
-/// Says why the work ended with this status, of a policy that was checked what is to be warned of, and what a run cannot know;
-/// `printed` is the end of what standard output has.
+/// Says why the work ended with this status, of a policy that was checked what is to be warned of, and what a run cannot know, which
+/// told these counts; `printed` is the end of what standard output has.
 pub fn explain<R: FileSystem + Eprint + AllocGlobal>(
     rt: &R,
     words: &[String],
     status: u8,
     printed: &str,
+    told: Option<&Summary>,
     files: &mut RealFiles<'_, R>,
     link: Option<&LinkFault>,
 ) {
     let _ = match read_words(words) {
         Some(_) if status == LINK_FAULT => explain_link(rt, link),
         Some(command) if status == DONE || is_objection(&command, status) => {
-            remark(rt, &command, printed, files)
+            remark(rt, &command, printed, told, files)
         }
         Some(command) => explain_command(rt, &command, status, files),
         None => explain_words(rt, words),
@@ -127,6 +129,7 @@ fn remark<R: FileSystem + Eprint + AllocGlobal>(
     rt: &R,
     command: &Command<'_>,
     printed: &str,
+    told: Option<&Summary>,
     files: &mut RealFiles<'_, R>,
 ) -> io::Result<()> {
     match command {
@@ -149,7 +152,7 @@ fn remark<R: FileSystem + Eprint + AllocGlobal>(
             ..
         } => remark_on_reviewed(rt, policy, capture, printed, files),
         Command::Packets { capture } => remark_on_listed(rt, capture, printed, files),
-        Command::Run { policy, names } => remark_on_run(rt, policy, names, printed, files),
+        Command::Run { names, .. } => remark_on_run(rt, names.capture, told, files),
         _ => Ok(()),
     }
 }

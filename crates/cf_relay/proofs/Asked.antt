@@ -30,6 +30,7 @@ use Rattle.cf_relay.specs.Scene.{DoesBetween, RoseBy, StopsBetween, scene}
 use Rattle.cf_relay.specs.Sides.{of_side, with_side}
 use Rattle.cf_relay.specs.Taken.{LimitBy, TakeState, TakesBy, letters_brought, take_state}
 use Rattle.cf_relay.specs.Turn.{Taking}
+use Rattle.cf_relay.specs.declared.directions.Directions.{Directions}
 use Rattle.cf_relay.specs.declared.relaying.Relaying.{Relaying}
 use Rattle.cf_relay.specs.declared.sides.Sides.{Sides}
 use Rattle.cf_relay.specs.declared.stop.Stop.{Stop}
@@ -50,24 +51,24 @@ takes_side s old lane c k heard n = record {
   closed = by_side (λ t. is_closed t (taken_of s old lane c k heard n) ≡ is_closed t (relaying_value old)) refl refl;
 }
 
-module _ (law : StreamsGoOn) (quiet : QuietBehindEnd) (asset : Asset) (most : ℕ) (s : Side) (old new : RelayingValue) (links links' : LinkValue) (desk desk' : DeskValue) (few : old.idle < most) (to : TakesTo s old new)
+module _ (law : StreamsGoOn) (quiet : QuietBehindEnd) (dirs : Directions) (asset : Asset) (most : ℕ) (s : Side) (old new : RelayingValue) (links links' : LinkValue) (desk desk' : DeskValue) (few : old.idle < most) (to : TakesTo s old new)
     (idles : (start : ℕ) → RoseBy old.idle start links.idles → RoseBy new.idle start links'.idles) (log : WritesLog desk desk')
     (r : Result (Unit {0}) Stop) (link : FaultsBy links.faults links'.faults (r ≡ Err stop.Link)) (write : HasCause desk.faults desk'.faults (r ≡ Err stop.Write)) where
-  ask_breaks : (why : Stop) → r ≡ Err why → TakesBy asset old.moment most s (take_state_of s old desk.lines links.told) (take_state_of s new desk'.lines links'.told) desk' (Err why) →
-      StopsBetween asset most (Taking s ∷ []) why (scene old links desk) (scene new links' desk')
+  ask_breaks : (why : Stop) → r ≡ Err why → TakesBy dirs asset old.moment most s (take_state_of s old desk.lines links.told) (take_state_of s new desk'.lines links'.told) desk' (Err why) →
+      StopsBetween asset most (Taking dirs s ∷ []) why (scene old links desk) (scene new links' desk')
   ask_breaks why was takes =
-      take_stops law quiet asset most s old new links links' desk desk' few to link.later idles log why takes
+      take_stops law quiet dirs asset most s old new links links' desk desk' few to link.later idles log why takes
       (stop_cause why (scene old links desk) (scene new links' desk') (faults_of links.faults links'.faults r why was link) (λ is. write.rose (was ∙ ap Err is)))
 
-  asks : (x : Unit {0}) → r ≡ Ok x → (full : Result (Unit {0}) Stop) → TakesBy asset old.moment most s (take_state_of s old desk.lines links.told) (take_state_of s new desk'.lines links'.told) desk' (Ok x) →
+  asks : (x : Unit {0}) → r ≡ Ok x → (full : Result (Unit {0}) Stop) → TakesBy dirs asset old.moment most s (take_state_of s old desk.lines links.told) (take_state_of s new desk'.lines links'.told) desk' (Ok x) →
       IsShort old → LimitBy new.client_letters new.controller_letters (queue_length new.to_client) (queue_length new.to_controller) full →
-      OnOk full (DoesBetween asset most (Taking s ∷ []) (scene old links desk) (scene new links' desk')) × IfErr full (λ why. StopsBetween asset most (Taking s ∷ []) why (scene old links desk) (scene new links' desk'))
-  asks x was full takes short limit = limit_goes law quiet asset most s old new links links' desk desk' few to link.later idles log (no_fault links.faults links'.faults r x was link) x full takes (short_none old short) limit
+      OnOk full (DoesBetween asset most (Taking dirs s ∷ []) (scene old links desk) (scene new links' desk')) × IfErr full (λ why. StopsBetween asset most (Taking dirs s ∷ []) why (scene old links desk) (scene new links' desk'))
+  asks x was full takes short limit = limit_goes law quiet dirs asset most s old new links links' desk desk' few to link.later idles log (no_fault links.faults links'.faults r x was link) x full takes (short_none old short) limit
 
-asked : (asset : Asset) (most : ℕ) (s : Side) (old new : RelayingValue) (log log' : Option (List (List ℕ))) (told told' : SessionTold) (desk : DeskValue) → old.idle < most → TakesTo s old new → (x : Unit {0}) (full : Result (Unit {0}) Stop) →
-    TakesBy asset old.moment most s (take_state_of s old log told) (take_state_of s new log' told') desk (Ok x) → OnOk full (AsksOrRests s most old new)
-asked asset most s old new log log' told told' desk few to x (Ok y) takes = ask_moves asset most s old new log log' told told' desk few to x takes
-asked asset most s old new log log' told told' desk few to x (Err e) takes = tt
+asked : (dirs : Directions) (asset : Asset) (most : ℕ) (s : Side) (old new : RelayingValue) (log log' : Option (List (List ℕ))) (told told' : SessionTold) (desk : DeskValue) → old.idle < most → TakesTo s old new → (x : Unit {0}) (full : Result (Unit {0}) Stop) →
+    TakesBy dirs asset old.moment most s (take_state_of s old log told) (take_state_of s new log' told') desk (Ok x) → OnOk full (AsksOrRests dirs s most old new)
+asked dirs asset most s old new log log' told told' desk few to x (Ok y) takes = ask_moves dirs asset most s old new log log' told told' desk few to x takes
+asked dirs asset most s old new log log' told told' desk few to x (Err e) takes = tt
 
 -- ---- the calls of a side that is asked
 
@@ -87,36 +88,36 @@ counts_with side.Client from h before after brought was now letters = omega (ari
 counts_with side.Controller from h before after brought was now letters = omega (arith, was, now, letters)
 
 -- what the calls of a side that is asked come to
-pub record Asked (asset : Asset) (most : ℕ) (s : Side) (r : Result (Unit {0}) Stop) (old : Relaying) (new : RelayingValue) (links links' : LinkValue) (desk desk' : DeskValue) : Type 0 where
-  pub goes : OnOk r (DoesBetween asset most (Taking s ∷ []) (scene (relaying_value old) links desk) (scene new links' desk'))
-  pub stops : IfErr r (λ why. StopsBetween asset most (Taking s ∷ []) why (scene (relaying_value old) links desk) (scene new links' desk'))
+pub record Asked (dirs : Directions) (asset : Asset) (most : ℕ) (s : Side) (r : Result (Unit {0}) Stop) (old : Relaying) (new : RelayingValue) (links links' : LinkValue) (desk desk' : DeskValue) : Type 0 where
+  pub goes : OnOk r (DoesBetween asset most (Taking dirs s ∷ []) (scene (relaying_value old) links desk) (scene new links' desk'))
+  pub stops : IfErr r (λ why. StopsBetween asset most (Taking dirs s ∷ []) why (scene (relaying_value old) links desk) (scene new links' desk'))
   pub sound : OnOk r (IsSound asset most new)
-  pub moves : OnOk r (AsksOrRests s most (relaying_value old) new)
+  pub moves : OnOk r (AsksOrRests dirs s most (relaying_value old) new)
 
-module _ (law : StreamsGoOn) (quiet : QuietBehindEnd) (asset : Asset) (most : ℕ) (s : Side) (old : Relaying) (heard heard' : Heard) (lane : LaneValue) (c k : Queue) (idle' : ℕ) (links links' : LinkValue) (desk desk' : DeskValue)
+module _ (law : StreamsGoOn) (quiet : QuietBehindEnd) (dirs : Directions) (asset : Asset) (most : ℕ) (s : Side) (old : Relaying) (heard heard' : Heard) (lane : LaneValue) (c k : Queue) (idle' : ℕ) (links links' : LinkValue) (desk desk' : DeskValue)
     (sound : IsSound asset most (relaying_value old)) (lent : heard ≡ of_side s old.from)
     (idles : (start : ℕ) → RoseBy old.idle start links.idles → RoseBy idle' start links'.idles) (log : WritesLog desk desk') (r : Result (Unit {0}) Stop)
     (link : FaultsBy links.faults links'.faults (r ≡ Err stop.Link)) (write : HasCause desk.faults desk'.faults (r ≡ Err stop.Write)) where
   abbrev Takes : Result (Unit {0}) Stop → Type 0
-  Takes r = TakesBy asset old.moment most s (take_state (state old.lane old.to.client old.to.controller desk.lines) heard.rest.items heard.letters old.idle links.told)
+  Takes r = TakesBy dirs asset old.moment most s (take_state (state old.lane old.to.client old.to.controller desk.lines) heard.rest.items heard.letters old.idle links.told)
       (take_state (state lane c k desk'.lines) heard'.rest.items heard'.letters idle' links'.told) desk' r
 
-  takes_at : (r : Result (Unit {0}) Stop) → Takes r → TakesBy asset old.moment most s (take_state_of s (relaying_value old) desk.lines links.told)
+  takes_at : (r : Result (Unit {0}) Stop) → Takes r → TakesBy dirs asset old.moment most s (take_state_of s (relaying_value old) desk.lines links.told)
       (take_state_of s (taken_of s old lane c k heard' idle') desk'.lines links'.told) desk' r
   takes_at r takes =
-      subst (λ x. TakesBy asset old.moment most s x (take_state_of s (taken_of s old lane c k heard' idle') desk'.lines links'.told) desk' r)
+      subst (λ x. TakesBy dirs asset old.moment most s x (take_state_of s (taken_of s old lane c k heard' idle') desk'.lines links'.told) desk' r)
       (ap (λ (h : Heard). take_state (state old.lane old.to.client old.to.controller desk.lines) h.rest.items h.letters old.idle links.told) lent
       ∙ by_side (λ s. take_state (state old.lane old.to.client old.to.controller desk.lines) (of_side s old.from).rest.items (of_side s old.from).letters old.idle links.told
       ≡ take_state_of s (relaying_value old) desk.lines links.told) refl refl s)
-      (subst (λ x. TakesBy asset old.moment most s (take_state (state old.lane old.to.client old.to.controller desk.lines) heard.rest.items heard.letters old.idle links.told) x desk' r)
+      (subst (λ x. TakesBy dirs asset old.moment most s (take_state (state old.lane old.to.client old.to.controller desk.lines) heard.rest.items heard.letters old.idle links.told) x desk' r)
       (by_side (λ s. take_state (state lane c k desk'.lines) heard'.rest.items heard'.letters idle' links'.told ≡ take_state_of s (taken_of s old lane c k heard' idle') desk'.lines links'.told) refl refl s) takes)
 
   -- what a `?` hands on
   pub take_broke : {T : Type 0} (answer : Result T Stop) (why : Stop) → IsErrAnd answer (λ e. e ≡ why) → r ≡ Err why → Takes (Err why) →
-      IfErr answer (λ e. StopsBetween asset most (Taking s ∷ []) e (scene (relaying_value old) links desk) (scene (taken_of s old lane c k heard' idle') links' desk'))
+      IfErr answer (λ e. StopsBetween asset most (Taking dirs s ∷ []) e (scene (relaying_value old) links desk) (scene (taken_of s old lane c k heard' idle') links' desk'))
   take_broke answer why is was takes =
-      handed_on answer why (λ e. StopsBetween asset most (Taking s ∷ []) e (scene (relaying_value old) links desk) (scene (taken_of s old lane c k heard' idle') links' desk')) is
-      (ask_breaks law quiet asset most s (relaying_value old) (taken_of s old lane c k heard' idle') links links' desk desk' sound.few (takes_side s old lane c k heard' idle') idles log r link write why was (takes_at (Err why) takes))
+      handed_on answer why (λ e. StopsBetween asset most (Taking dirs s ∷ []) e (scene (relaying_value old) links desk) (scene (taken_of s old lane c k heard' idle') links' desk')) is
+      (ask_breaks law quiet dirs asset most s (relaying_value old) (taken_of s old lane c k heard' idle') links links' desk desk' sound.few (takes_side s old lane c k heard' idle') idles log r link write why was (takes_at (Err why) takes))
 
   module _ (x : Unit {0}) (was : r ≡ Ok x) (takes : Takes (Ok x)) (full : Result (Unit {0}) Stop) where
     counts_at : (before after brought : ℕ) → before + (length old.from.client.rest.items + length old.from.controller.rest.items) ≤ old.from.client.letters + old.from.controller.letters →
@@ -165,13 +166,13 @@ module _ (law : StreamsGoOn) (quiet : QuietBehindEnd) (asset : Asset) (most : �
         }
 
     pub taken : LimitBy (with_side s old.from heard').client.letters (with_side s old.from heard').controller.letters (queue_length c) (queue_length k) full → OnOk full (IsShort (taken_of s old lane c k heard' idle')) → IsQueue c → IsQueue k →
-        Asked asset most s full old (taken_of s old lane c k heard' idle') links links' desk desk'
+        Asked dirs asset most s full old (taken_of s old lane c k heard' idle') links links' desk desk'
     taken limit short qc qk =
         let stage =
-        asks law quiet asset most s (relaying_value old) (taken_of s old lane c k heard' idle') links links' desk desk' sound.few (takes_side s old lane c k heard' idle') idles log r link write x was full (takes_at (Ok x) takes) sound.short limit in
+        asks law quiet dirs asset most s (relaying_value old) (taken_of s old lane c k heard' idle') links links' desk desk' sound.few (takes_side s old lane c k heard' idle') idles log r link write x was full (takes_at (Ok x) takes) sound.short limit in
         record {
           goes = stage.0;
           stops = stage.1;
           sound = on_ok full (IsShort (taken_of s old lane c k heard' idle')) (IsSound asset most (taken_of s old lane c k heard' idle')) (λ small. sound_by takes small qc qk) short;
-          moves = asked asset most s (relaying_value old) (taken_of s old lane c k heard' idle') desk.lines desk'.lines links.told links'.told desk' sound.few (takes_side s old lane c k heard' idle') x full (takes_at (Ok x) takes);
+          moves = asked dirs asset most s (relaying_value old) (taken_of s old lane c k heard' idle') desk.lines desk'.lines links.told links'.told desk' sound.few (takes_side s old lane c k heard' idle') x full (takes_at (Ok x) takes);
         }

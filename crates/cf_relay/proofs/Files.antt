@@ -14,6 +14,7 @@ use Rattle.cf_policy.specs.declared.Asset.{Asset}
 use Rattle.cf_relay.proofs.Starting.{empty_judged, relayed_none}
 use Rattle.cf_relay.specs.Closing.{BeginsLines}
 use Rattle.cf_relay.specs.Ends.{EndsAs, IsMemoryEnd, IsFileTold, IsWriteEnd, LogContents, RelayEnds, file_log}
+use Rattle.cf_relay.specs.declared.directions.Directions.TheVariants as both
 use Rattle.cf_relay.specs.declared.done.RelayDone.{RelayDone}
 use Rattle.cf_relay.specs.declared.done.RelayEnd.{RelayEnd}
 use Rattle.cf_relay.specs.declared.done.RelayEnd.TheVariants as ends
@@ -100,9 +101,9 @@ partly_empty : (first new : Content) → (new ≡ first) ⊎ (new ≡ content_af
 partly_empty first new (inl same) = inl same
 partly_empty first new (inr created) = inr (0, created ∙ created_empty first)
 
-pub write_first : (asset : Asset) (listen most : ℕ) (first new : Content) → 0 < most → (new ≡ first) ⊎ (new ≡ content_after_create first) → IsWriteEnd asset listen most (file_log first new) []
+pub write_first : (asset : Asset) (listen most : ℕ) (first new : Content) → 0 < most → (new ≡ first) ⊎ (new ≡ content_after_create first) → IsWriteEnd both.Together asset listen most (file_log first new) []
 write_first asset listen most first new few either = record {
-  relayed = relayed_none asset listen most few;
+  relayed = relayed_none asset listen most few both.Together;
   history = [];
   is_short = inl refl;
   judged = [];

@@ -6,10 +6,11 @@ use Rattle.cf_lane.specs.Follows.{AreJudged}
 use Rattle.cf_lane.specs.Handled.{IsOpen}
 use Rattle.cf_lane.specs.History.{ended_of}
 use Rattle.cf_lane.specs.Limit.{limit_cut}
-use Rattle.cf_lane.specs.Output.{outputs, stream_to}
+use Rattle.cf_lane.specs.Output.{other, outputs, stream_to}
 use Rattle.cf_lane.specs.declared.limit.TheConstants.{LETTER_LIMIT}
 use Rattle.cf_outside.specs.Pair.{Entry, Finished, Moment}
 use Rattle.cf_policy.specs.declared.Asset.{Asset}
+use Rattle.cf_stream.specs.Sizes.{window_size}
 use Rattle.cf_stream.specs.Stream.{letter_count}
 use Rattle.cf_view.specs.declared.Endpoint.{Endpoint}
 use Rattle.cf_view.specs.declared.Side.{Side}
@@ -18,8 +19,10 @@ use Rattle.cf_relay.specs.Answers.{history_of, is_finished}
 use Rattle.cf_relay.specs.Gave.{OnlyEndIsLeft}
 use Rattle.cf_relay.specs.Relaying.{AreClosed, RelayingValue, is_closed, queue_to}
 use Rattle.cf_relay.specs.Stands.{StandsFor}
-use Rattle.cf_relay.specs.Taken.{MayTakeNow}
+use Rattle.cf_relay.specs.Reading.{most_back}
+use Rattle.cf_relay.specs.Taken.{MayTakeNow, back_of, onward_of}
 use Rattle.cf_relay.specs.Turn.{BeginsStage, BeginsToGive, BeginsStages, IsUnstopped, DoesStages, Finishing, Giving, GivesQueued, IsStage, IsTakeAnswer, MayFinish, MayTake, Meeting, Stage, Taking, Telling, queue_of}
+use Rattle.cf_relay.specs.declared.directions.Directions.{Directions}
 
 not_both : (a b : Bool) → (a ≡ true → b ≡ true → ⊥) → (a && b) ≡ false
 not_both true true h = absurd (h refl refl)
@@ -81,27 +84,35 @@ module _ (asset : Asset) (most : ℕ) (first : Option (List (List ℕ))) (es : L
   ended_open side.Client is = st.ended side.Controller ∙ is
   ended_open side.Controller is = st.ended side.Client ∙ is
 
-  may_take : (s : Side) → MayTakeNow s now.to_client now.to_controller → MayTake asset s es st.follows.judged
-  may_take s may = record {
+  onward_letters : (s : Side) → letter_count (queue_of asset (other s) es st.follows.judged) ≡ length (onward_of s now.to_client now.to_controller).kept + cond (onward_of s now.to_client now.to_controller).ended 1 0
+  onward_letters side.Client = queue_letters side.Controller
+  onward_letters side.Controller = queue_letters side.Client
+
+  back_letters : (s : Side) → letter_count (queue_of asset s es st.follows.judged) ≡ length (back_of s now.to_client now.to_controller).kept + cond (back_of s now.to_client now.to_controller).ended 1 0
+  back_letters side.Client = queue_letters side.Client
+  back_letters side.Controller = queue_letters side.Controller
+
+  may_take : (dirs : Directions) (s : Side) → MayTakeNow dirs s now.to_client now.to_controller → MayTake dirs asset s es st.follows.judged
+  may_take dirs s may = record {
     open_still = open_ended s may.open_still;
-    client = subst (λ (n : ℕ). n ≤ 16384) (sym (queue_letters side.Client)) may.client;
-    controller = subst (λ (n : ℕ). n ≤ 16384) (sym (queue_letters side.Controller)) may.controller;
+    onward = subst (λ (n : ℕ). n ≤ window_size) (sym (onward_letters s)) may.onward;
+    back = subst (λ (n : ℕ). n ≤ most_back dirs) (sym (back_letters s)) may.back;
   }
 
-  may_take_now : (s : Side) → MayTake asset s es st.follows.judged → MayTakeNow s now.to_client now.to_controller
-  may_take_now s may = record {
+  may_take_now : (dirs : Directions) (s : Side) → MayTake dirs asset s es st.follows.judged → MayTakeNow dirs s now.to_client now.to_controller
+  may_take_now dirs s may = record {
     open_still = ended_open s may.open_still;
-    client = subst (λ (n : ℕ). n ≤ 16384) (queue_letters side.Client) may.client;
-    controller = subst (λ (n : ℕ). n ≤ 16384) (queue_letters side.Controller) may.controller;
+    onward = subst (λ (n : ℕ). n ≤ window_size) (onward_letters s) may.onward;
+    back = subst (λ (n : ℕ). n ≤ most_back dirs) (back_letters s) may.back;
   }
 
-  pub takes_stage : now.idle < most → (s : Side) (answer : Entry) → MayTakeNow s now.to_client now.to_controller → IsTakeAnswer s answer → IsStage asset most (Taking s) es (answer ∷ [])
+  pub takes_stage : now.idle < most → (dirs : Directions) (s : Side) (answer : Entry) → MayTakeNow dirs s now.to_client now.to_controller → IsTakeAnswer s answer → IsStage asset most (Taking dirs s) es (answer ∷ [])
   unfolding goes_on
-  takes_stage few s answer may taken = (goes_on few, inl (may_take s may, (answer, taken, refl)))
+  takes_stage few dirs s answer may taken = (goes_on few, inl (may_take dirs s may, (answer, taken, refl)))
 
-  pub no_take : now.idle < most → (s : Side) → (MayTakeNow s now.to_client now.to_controller → ⊥) → IsStage asset most (Taking s) es []
+  pub no_take : now.idle < most → (dirs : Directions) (s : Side) → (MayTakeNow dirs s now.to_client now.to_controller → ⊥) → IsStage asset most (Taking dirs s) es []
   unfolding goes_on
-  no_take few s never = (goes_on few, inr ((λ may. never (may_take_now s may)), refl))
+  no_take few dirs s never = (goes_on few, inr ((λ may. never (may_take_now dirs s may)), refl))
 
 -- ---- stages one after the other
 
@@ -138,7 +149,7 @@ does_broken asset most (p ∷ ps) qs a xs ys (now, next, e, whole, later) breaks
 begins_nothing : (asset : Asset) (most : ℕ) (p : Stage) (a : List Entry) → BeginsStage asset most p a []
 begins_nothing asset most (Meeting listen) a = refl
 begins_nothing asset most Telling a = refl
-begins_nothing asset most (Taking s) a = refl
+begins_nothing asset most (Taking dirs s) a = refl
 begins_nothing asset most (Giving s) a = inl refl
 begins_nothing asset most (Finishing s) a = refl
 

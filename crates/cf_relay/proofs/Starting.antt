@@ -26,6 +26,7 @@ use Rattle.cf_relay.specs.Ends.{LogContents, IsLinkEnd, IsWriteEnd}
 use Rattle.cf_relay.specs.Relaying.{IsSound, begun_value, is_closed, letters_from, queue_to}
 use Rattle.cf_relay.specs.Stands.{GivenPrefixes, IsNewLane, StandsFor}
 use Rattle.cf_relay.specs.Turn.{IsUnstopped, DoesStages, IsRelayed, Meeting, Telling, stages}
+use Rattle.cf_relay.specs.declared.directions.Directions.{Directions}
 
 -- ---- the lines of a log
 
@@ -54,36 +55,36 @@ module _ (asset : Asset) (listen most : ℕ) (few : 0 < most) where
   pub start_does : (client : Endpoint) (m : ℕ) → DoesStages asset most (Meeting listen ∷ Telling ∷ []) [] (met_at listen asset.endpoint client ∷ Moment m ∷ [])
   start_does client m = (met_at listen asset.endpoint client ∷ [], Moment m ∷ [], refl, (goes_first, (client, refl)), (Moment m ∷ [], [], refl, (goes_met client, (refl, (m, refl))), refl))
 
-  pub relayed_none : IsRelayed asset listen most []
-  relayed_none = (0, breaks_nothing asset most (stages listen 0) [])
+  pub relayed_none : (dirs : Directions) → IsRelayed dirs asset listen most []
+  relayed_none dirs = (0, breaks_nothing asset most (stages dirs listen 0) [])
 
-  pub relayed_met : (client : Endpoint) → IsRelayed asset listen most (met_at listen asset.endpoint client ∷ [])
-  relayed_met client = (0, inr (met_at listen asset.endpoint client ∷ [], [], refl, (goes_first, (client, refl)), breaks_nothing asset most (Telling ∷ []) (met_at listen asset.endpoint client ∷ [])))
+  pub relayed_met : (dirs : Directions) (client : Endpoint) → IsRelayed dirs asset listen most (met_at listen asset.endpoint client ∷ [])
+  relayed_met dirs client = (0, inr (met_at listen asset.endpoint client ∷ [], [], refl, (goes_first, (client, refl)), breaks_nothing asset most (Telling ∷ []) (met_at listen asset.endpoint client ∷ [])))
 
-  pub relayed_told : (client : Endpoint) (m : ℕ) → IsRelayed asset listen most (met_at listen asset.endpoint client ∷ Moment m ∷ [])
-  relayed_told client m = (0, does_broken asset most (Meeting listen ∷ Telling ∷ []) [] [] (met_at listen asset.endpoint client ∷ Moment m ∷ []) [] (start_does client m) refl)
+  pub relayed_told : (dirs : Directions) (client : Endpoint) (m : ℕ) → IsRelayed dirs asset listen most (met_at listen asset.endpoint client ∷ Moment m ∷ [])
+  relayed_told dirs client m = (0, does_broken asset most (Meeting listen ∷ Telling ∷ []) [] [] (met_at listen asset.endpoint client ∷ Moment m ∷ []) [] (start_does client m) refl)
 
 -- ---- the ends before the first turn
 
 no_prefixes : (asset : Asset) (es : List Entry) → ((s : Side) → given s es ≡ []) → GivenPrefixes asset es []
 no_prefixes asset es none s = ([], sym (append-nil (given s es) ∙ none s))
 
-module _ (asset : Asset) (listen most : ℕ) (few : 0 < most) (log : LogContents) where
+module _ (dirs : Directions) (asset : Asset) (listen most : ℕ) (few : 0 < most) (log : LogContents) where
   -- no client was met
-  pub link_first : log.Holds [] → IsLinkEnd asset listen most log []
+  pub link_first : log.Holds [] → IsLinkEnd dirs asset listen most log []
   unfolding goes_first
   link_first none = record {
-    relayed = relayed_none asset listen most few;
+    relayed = relayed_none asset listen most few dirs;
     goes = goes_first asset listen most few;
     prefixes = no_prefixes asset [] (λ s. refl);
     holds_log = none;
   }
 
   -- no moment was told
-  pub link_met : (client : Endpoint) → log.Holds [] → IsLinkEnd asset listen most log (met_at listen asset.endpoint client ∷ [])
+  pub link_met : (client : Endpoint) → log.Holds [] → IsLinkEnd dirs asset listen most log (met_at listen asset.endpoint client ∷ [])
   unfolding goes_met
   link_met client none = record {
-    relayed = relayed_met asset listen most few client;
+    relayed = relayed_met asset listen most few dirs client;
     goes = goes_met asset listen most few client;
     prefixes = no_prefixes asset (met_at listen asset.endpoint client ∷ []) (λ s. refl);
     holds_log = none;
@@ -91,9 +92,9 @@ module _ (asset : Asset) (listen most : ℕ) (few : 0 < most) (log : LogContents
 
   -- the line of the beginning failed
   pub write_told : (client : Endpoint) (m : ℕ) (base all : Option (List (List ℕ))) (part : List ℕ) → MayHaveMore (line_about asset client m Begun ∷ []) base all part →
-      ((ls : List (List ℕ)) → BeginsLines base all part ls → log.Begins ls) → IsWriteEnd asset listen most log (met_at listen asset.endpoint client ∷ Moment m ∷ [])
+      ((ls : List (List ℕ)) → BeginsLines base all part ls → log.Begins ls) → IsWriteEnd dirs asset listen most log (met_at listen asset.endpoint client ∷ Moment m ∷ [])
   write_told client m base all part may begins = record {
-    relayed = relayed_told asset listen most few client m;
+    relayed = relayed_told asset listen most few dirs client m;
     history = [];
     is_short = inl refl;
     judged = [];

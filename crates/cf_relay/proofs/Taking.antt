@@ -20,6 +20,7 @@ use Rattle.cf_relay.proofs.Lists.{own_bytes, own_end}
 use Rattle.cf_relay.specs.declared.limit.TheConstants.{MOST_BYTES}
 use Rattle.cf_relay.specs.Answers.{element_of}
 use Rattle.cf_relay.specs.Taken.{AnswersTo, MayTakeNow, TakeState, TakesAnswer, TakesBy, take_state}
+use Rattle.cf_relay.specs.declared.directions.Directions.{Directions}
 use Rattle.cf_relay.specs.declared.stop.Stop.{Stop}
 use Rattle.cf_relay.specs.declared.stop.Stop.TheVariants as stop
 
@@ -51,7 +52,7 @@ hears_idle asset s rest now short of_asset owed = record {
   counts = omega arith;
 }
 
-module _ (asset : Asset) (moment most : ℕ) (s : Side) (rest : List ℕ) (letters : ℕ) (told told' : SessionTold) (idle idle' : ℕ) (now : State) (desk : DeskValue) where
+module _ (dirs : Directions) (asset : Asset) (moment most : ℕ) (s : Side) (rest : List ℕ) (letters : ℕ) (told told' : SessionTold) (idle idle' : ℕ) (now : State) (desk : DeskValue) where
   idle_answer : length rest < 300 → IsLaneOf asset now.lane → debt now.lane ≤ 5300 → idle' ≡ idle + 1 → told' ≡ with_entry told (Idle s) →
       TakesAnswer asset moment s None (take_state now rest letters idle told) (take_state now rest letters idle' told')
   idle_answer short of_asset owed i e = record {
@@ -60,12 +61,12 @@ module _ (asset : Asset) (moment most : ℕ) (s : Side) (rest : List ℕ) (lette
     hears = hears_idle asset s rest now short of_asset owed;
   }
 
-  pub takes_idle : (r : Result Unit Stop) → MayTakeNow s now.to_client now.to_controller → length rest < 300 → IsLaneOf asset now.lane → debt now.lane ≤ 5300 →
+  pub takes_idle : (r : Result Unit Stop) → MayTakeNow dirs s now.to_client now.to_controller → length rest < 300 → IsLaneOf asset now.lane → debt now.lane ≤ 5300 →
       idle' ≡ idle + 1 → told' ≡ with_entry told (Idle s) → OnOk r (idle' < most) → OnErr r (idle' ≡ most) → OnErr r (r ≡ Err stop.Idle) →
-      TakesBy asset moment most s (take_state now rest letters idle told) (take_state now rest letters idle' told') desk r
+      TakesBy dirs asset moment most s (take_state now rest letters idle told) (take_state now rest letters idle' told') desk r
   takes_idle (Ok x) may short of_asset owed i e goes stops error = inr (may, goes, idle_answer short of_asset owed i e)
   takes_idle (Err x) may short of_asset owed i e goes stops error =
-      subst (λ r. TakesBy asset moment most s (take_state now rest letters idle told) (take_state now rest letters idle' told') desk r) (sym error)
+      subst (λ r. TakesBy dirs asset moment most s (take_state now rest letters idle told) (take_state now rest letters idle' told') desk r) (sym error)
       (may, stops, ap (λ n. take_state now rest letters n told') i ∙ ap (λ t. take_state now rest letters (idle + 1) t) e)
 
 module _ (moment : ℕ) (s : Side) (told told' : SessionTold) (idle letters letters' : ℕ) where

@@ -27,6 +27,7 @@ use Rattle.cf_relay.specs.Relaying.{AreClosed, RelayingValue, is_closed, queue_t
 use Rattle.cf_relay.specs.Scene.{DoesBetween, Scene, StopsBetween}
 use Rattle.cf_relay.specs.Stands.{Apart, GivenPrefixes, IsCounted, StandsFor, StandsStopped}
 use Rattle.cf_relay.specs.Turn.{AreItemsOf, BeginsStages, DoesStages, IsRelayed, IsUnstopped, Meeting, Telling, cut_at, stages, turn, turns}
+use Rattle.cf_relay.specs.declared.directions.Directions.{Directions}
 use Rattle.cf_relay.specs.declared.stop.Stop.{Stop}
 use Rattle.cf_relay.specs.declared.stop.Stop.TheVariants as stop
 use Rattle.cf_relay.proofs.Starting.{begins_last, some_idle, start_does}
@@ -35,15 +36,15 @@ use Rattle.cf_relay.specs.declared.done.RelayEnd.TheVariants as ends
 
 -- ---- from one turn to the next
 
-module _ (asset : Asset) (listen most : ℕ) (client : Endpoint) (m : ℕ) (base : Option (List (List ℕ))) where
+module _ (dirs : Directions) (asset : Asset) (listen most : ℕ) (client : Endpoint) (m : ℕ) (base : Option (List (List ℕ))) where
   -- before the first turn
   pub turned_first : (now : RelayingValue) (own : Option (List (List ℕ))) → StandsFor asset (begun_lines asset client m base) (begun_list asset listen client m []) now own → now.idle < most →
-      HasTurned asset listen most client m base [] now own
+      HasTurned dirs asset listen most client m base [] now own
   turned_first now own st few = record { count = 0; does = refl; stands = st; few = few }
 
   -- a turn was done
-  pub turned_more : (answers : List Entry) (old new : Scene) (own : Option (List (List ℕ))) → HasTurned asset listen most client m base answers old.relaying own → (d : DoesBetween asset most turn old new) →
-      new.relaying.idle < most → Apart own old.desk.lines new.desk.lines (λ log. HasTurned asset listen most client m base (answers ++ d.answers) new.relaying log)
+  pub turned_more : (answers : List Entry) (old new : Scene) (own : Option (List (List ℕ))) → HasTurned dirs asset listen most client m base answers old.relaying own → (d : DoesBetween asset most (turn dirs) old new) →
+      new.relaying.idle < most → Apart own old.desk.lines new.desk.lines (λ log. HasTurned dirs asset listen most client m base (answers ++ d.answers) new.relaying log)
   turned_more answers old new own t d few =
       let a = d.does (begun_lines asset client m base) own (begun_list asset listen client m answers) t.stands in
       record {
@@ -51,15 +52,15 @@ module _ (asset : Asset) (listen most : ℕ) (client : Endpoint) (m : ℕ) (base
         added = a.1.added;
         stands = record {
           count = suc t.count;
-          does = does_then asset most (turns t.count) turn (begun_list asset listen client m []) answers d.answers t.does a.0;
+          does = does_then asset most (turns dirs t.count) (turn dirs) (begun_list asset listen client m []) answers d.answers t.does a.0;
           stands = a.1.stands;
           few = few;
         };
       }
 
   -- a turn stopped
-  pub turned_stops : (answers : List Entry) (old new : Scene) (why : Stop) (own : Option (List (List ℕ))) → HasTurned asset listen most client m base answers old.relaying own → (d : StopsBetween asset most turn why old new) →
-      Apart own old.desk.lines new.desk.lines (λ log. HasStopped asset listen most client m base (answers ++ d.answers) why new.relaying log new.desk.line_part)
+  pub turned_stops : (answers : List Entry) (old new : Scene) (why : Stop) (own : Option (List (List ℕ))) → HasTurned dirs asset listen most client m base answers old.relaying own → (d : StopsBetween asset most (turn dirs) why old new) →
+      Apart own old.desk.lines new.desk.lines (λ log. HasStopped dirs asset listen most client m base (answers ++ d.answers) why new.relaying log new.desk.line_part)
   turned_stops answers old new why own t d =
       let a = d.does (begun_lines asset client m base) own (begun_list asset listen client m answers) t.stands in
       record {
@@ -67,7 +68,7 @@ module _ (asset : Asset) (listen most : ℕ) (client : Endpoint) (m : ℕ) (base
         added = a.1.added;
         stands = record {
           count = suc t.count;
-          breaks = does_broken asset most (turns t.count) turn (begun_list asset listen client m []) answers d.answers t.does a.0;
+          breaks = does_broken asset most (turns dirs t.count) (turn dirs) (begun_list asset listen client m []) answers d.answers t.does a.0;
           some = some_idle old.relaying.idle most t.few;
           stands = a.1.stands;
         };
@@ -75,13 +76,13 @@ module _ (asset : Asset) (listen most : ℕ) (client : Endpoint) (m : ℕ) (base
 
   -- so many turns from the first on, where its own lines are the whole log
   module _ (old new : Scene) (st : StandsFor asset (begun_lines asset client m base) (begun_list asset listen client m []) old.relaying old.desk.lines) where
-    pub turned_run : (n : ℕ) (d : DoesBetween asset most (turns n) old new) → new.relaying.idle < most → HasTurned asset listen most client m base d.answers new.relaying new.desk.lines
+    pub turned_run : (n : ℕ) (d : DoesBetween asset most (turns dirs n) old new) → new.relaying.idle < most → HasTurned dirs asset listen most client m base d.answers new.relaying new.desk.lines
     turned_run n d few =
         let a = d.does (begun_lines asset client m base) old.desk.lines (begun_list asset listen client m []) st in
         record { count = n; does = a.0; stands = apart_whole old.desk.lines new.desk.lines (λ log. StandsFor asset (begun_lines asset client m base) (begun_list asset listen client m d.answers) new.relaying log) a.1; few = few }
 
-    pub stopped_run : 0 < most → (n : ℕ) (why : Stop) (d : StopsBetween asset most (turns n) why old new) →
-        HasStopped asset listen most client m base d.answers why new.relaying new.desk.lines new.desk.line_part
+    pub stopped_run : 0 < most → (n : ℕ) (why : Stop) (d : StopsBetween asset most (turns dirs n) why old new) →
+        HasStopped dirs asset listen most client m base d.answers why new.relaying new.desk.lines new.desk.line_part
     stopped_run some n why d =
         let a = d.does (begun_lines asset client m base) old.desk.lines (begun_list asset listen client m []) st in
         record {
@@ -93,19 +94,19 @@ module _ (asset : Asset) (listen most : ℕ) (client : Endpoint) (m : ℕ) (base
 
 -- ---- what its list and its own lines are then
 
-module _ (asset : Asset) (listen most : ℕ) (client : Endpoint) (m : ℕ) (base : Option (List (List ℕ))) (answers : List Entry) where
-  does_all : 0 < most → (n : ℕ) → DoesStages asset most (turns n) (begun_list asset listen client m []) answers → DoesStages asset most (stages listen n) [] (begun_list asset listen client m answers)
-  does_all few n d = does_then asset most (Meeting listen ∷ Telling ∷ []) (turns n) [] (begun_list asset listen client m []) answers (start_does asset listen most few client m) d
+module _ (dirs : Directions) (asset : Asset) (listen most : ℕ) (client : Endpoint) (m : ℕ) (base : Option (List (List ℕ))) (answers : List Entry) where
+  does_all : 0 < most → (n : ℕ) → DoesStages asset most (turns dirs n) (begun_list asset listen client m []) answers → DoesStages asset most (stages dirs listen n) [] (begun_list asset listen client m answers)
+  does_all few n d = does_then asset most (Meeting listen ∷ Telling ∷ []) (turns dirs n) [] (begun_list asset listen client m []) answers (start_does asset listen most few client m) d
 
-  breaks_all : 0 < most → (n : ℕ) → BeginsStages asset most (turns n) (begun_list asset listen client m []) answers → IsRelayed asset listen most (begun_list asset listen client m answers)
-  breaks_all few n b = (n, does_broken asset most (Meeting listen ∷ Telling ∷ []) (turns n) [] (begun_list asset listen client m []) answers (start_does asset listen most few client m) b)
+  breaks_all : 0 < most → (n : ℕ) → BeginsStages asset most (turns dirs n) (begun_list asset listen client m []) answers → IsRelayed dirs asset listen most (begun_list asset listen client m answers)
+  breaks_all few n b = (n, does_broken asset most (Meeting listen ∷ Telling ∷ []) (turns dirs n) [] (begun_list asset listen client m []) answers (start_does asset listen most few client m) b)
 
   -- stages that are done break off after the last
-  breaks_of : (n : ℕ) → DoesStages asset most (turns n) (begun_list asset listen client m []) answers → BeginsStages asset most (turns n) (begun_list asset listen client m []) answers
+  breaks_of : (n : ℕ) → DoesStages asset most (turns dirs n) (begun_list asset listen client m []) answers → BeginsStages asset most (turns dirs n) (begun_list asset listen client m []) answers
   breaks_of n does =
-      subst (λ ps. BeginsStages asset most ps (begun_list asset listen client m []) answers) (append-nil (turns n))
-      (subst (λ (xs : List Entry). BeginsStages asset most (turns n ++ []) (begun_list asset listen client m []) xs) (append-nil answers)
-      (does_broken asset most (turns n) [] (begun_list asset listen client m []) answers [] does refl))
+      subst (λ ps. BeginsStages asset most ps (begun_list asset listen client m []) answers) (append-nil (turns dirs n))
+      (subst (λ (xs : List Entry). BeginsStages asset most (turns dirs n ++ []) (begun_list asset listen client m []) xs) (append-nil answers)
+      (does_broken asset most (turns dirs n) [] (begun_list asset listen client m []) answers [] does refl))
 
   -- the lines after the open line
   lines_all : (own : Option (List (List ℕ))) (js : List Judged) → own ≡ with_lines (begun_lines asset client m base) (lines asset client [] js) → own ≡ with_lines base (log_of asset (begun_list asset listen client m answers) js)
@@ -136,12 +137,12 @@ module _ (asset : Asset) (listen most : ℕ) (client : Endpoint) (m : ℕ) (base
 
   -- ---- how it ends
 
-  module _ (now : RelayingValue) (own : Option (List (List ℕ))) (t : HasTurned asset listen most client m base answers now own) where
+  module _ (now : RelayingValue) (own : Option (List (List ℕ))) (t : HasTurned dirs asset listen most client m base answers now own) where
     few_turned : 0 < most
     few_turned = some_idle now.idle most t.few
 
     -- it goes on: so many turns were made, and its own lines are those of its items
-    pub turned_stands : DoesStages asset most (stages listen t.count) [] (begun_list asset listen client m answers)
+    pub turned_stands : DoesStages asset most (stages dirs listen t.count) [] (begun_list asset listen client m answers)
         × ((goes : IsUnstopped asset most (begun_list asset listen client m answers)) × (own ≡ with_lines base (log_of asset (begun_list asset listen client m answers) goes.judged)))
     unfolding goes_on
     turned_stands = (
@@ -155,7 +156,7 @@ module _ (asset : Asset) (listen most : ℕ) (client : Endpoint) (m : ℕ) (base
 
       -- both sides are closed, and the close line was put
       pub turned_done : ((ls : List (List ℕ)) → with_lines own (line_about asset client now.moment (Close now.lane.admitted now.lane.refused) ∷ []) ≡ with_lines base ls → log.Holds ls) →
-          IsDone asset listen most log (begun_list asset listen client m answers) (done_by now ends.Done)
+          IsDone dirs asset listen most log (begun_list asset listen client m answers) (done_by now ends.Done)
       unfolding goes_on
       turned_done holds = record {
         turns = t.count;
@@ -171,7 +172,7 @@ module _ (asset : Asset) (listen most : ℕ) (client : Endpoint) (m : ℕ) (base
 
       -- it failed: its own lines may have a beginning of it
       pub turned_unlogged : (all : Option (List (List ℕ))) (part : List ℕ) → MayHaveMore (line_about asset client now.moment (Close now.lane.admitted now.lane.refused) ∷ []) own all part →
-          ((ls : List (List ℕ)) → BeginsLines base all part ls → log.Begins ls) → IsWriteEnd asset listen most log (begun_list asset listen client m answers)
+          ((ls : List (List ℕ)) → BeginsLines base all part ls → log.Begins ls) → IsWriteEnd dirs asset listen most log (begun_list asset listen client m answers)
       turned_unlogged all part may begins =
           let js = t.stands.follows.judged in
           let close = close_line asset (begun_list asset listen client m answers) now.lane.admitted now.lane.refused in
@@ -191,8 +192,8 @@ module _ (asset : Asset) (listen most : ℕ) (client : Endpoint) (m : ℕ) (base
 
   module _ (now : RelayingValue) (own : Option (List (List ℕ))) (part : List ℕ) (log : LogContents) where
     -- the last answer Idle, which completes their number
-    pub stopped_idle : HasStopped asset listen most client m base answers stop.Idle now own part → ((ls : List (List ℕ)) → own ≡ with_lines base ls → log.Holds ls) →
-        IsIdleEnd asset listen most log (begun_list asset listen client m answers) (done_by now ends.IdleEnd)
+    pub stopped_idle : HasStopped dirs asset listen most client m base answers stop.Idle now own part → ((ls : List (List ℕ)) → own ≡ with_lines base ls → log.Holds ls) →
+        IsIdleEnd dirs asset listen most log (begun_list asset listen client m answers) (done_by now ends.IdleEnd)
     stopped_idle h holds =
         let st = h.stands.0 in
         record {
@@ -207,8 +208,8 @@ module _ (asset : Asset) (listen most : ℕ) (client : Endpoint) (m : ℕ) (base
         }
 
     -- a call on the links failed
-    pub stopped_link : HasStopped asset listen most client m base answers stop.Link now own part → ((ls : List (List ℕ)) → own ≡ with_lines base ls → log.Holds ls) →
-        (ended : IsLinkEnd asset listen most log (begun_list asset listen client m answers)) × IsCounted ended.goes.judged now.lane.admitted now.lane.refused
+    pub stopped_link : HasStopped dirs asset listen most client m base answers stop.Link now own part → ((ls : List (List ℕ)) → own ≡ with_lines base ls → log.Holds ls) →
+        (ended : IsLinkEnd dirs asset listen most log (begun_list asset listen client m answers)) × IsCounted ended.goes.judged now.lane.admitted now.lane.refused
     unfolding goes_on
     stopped_link h holds =
         let st = h.stands.0 in (
@@ -222,8 +223,8 @@ module _ (asset : Asset) (listen most : ℕ) (client : Endpoint) (m : ℕ) (base
         )
 
     -- the line of an item failed
-    pub stopped_write : HasStopped asset listen most client m base answers stop.Write now own part → ((ls : List (List ℕ)) → BeginsLines base own part ls → log.Begins ls) →
-        IsWriteEnd asset listen most log (begun_list asset listen client m answers)
+    pub stopped_write : HasStopped dirs asset listen most client m base answers stop.Write now own part → ((ls : List (List ℕ)) → BeginsLines base own part ls → log.Begins ls) →
+        IsWriteEnd dirs asset listen most log (begun_list asset listen client m answers)
     stopped_write h begins =
         let missed = h.stands in
         record {
@@ -240,10 +241,10 @@ module _ (asset : Asset) (listen most : ℕ) (client : Endpoint) (m : ℕ) (base
               (suc missed.began.count, missed.began.some, missed.began.of_lines ∙ lines_both base (line_about asset client m Begun ∷ []) (take missed.began.count (lines asset client [] missed.began.judged)), missed.began.of_part));
         }
 
-    module _ (reason : CutReason) (h : HasStopped asset listen most client m base answers (stop.Cut reason) now own part) where
+    module _ (reason : CutReason) (h : HasStopped dirs asset listen most client m base answers (stop.Cut reason) now own part) where
       -- cut, and the cut line was put
       pub stopped_cut : ((ls : List (List ℕ)) → with_lines own (line_about asset client now.moment (Cut reason) ∷ []) ≡ with_lines base ls → log.Holds ls) →
-          IsCutEnd asset listen most log (begun_list asset listen client m answers) (done_by now (ends.Cut reason)) reason
+          IsCutEnd dirs asset listen most log (begun_list asset listen client m answers) (done_by now (ends.Cut reason)) reason
       stopped_cut holds =
           let st = h.stands in
           record {
@@ -261,7 +262,7 @@ module _ (asset : Asset) (listen most : ℕ) (client : Endpoint) (m : ℕ) (base
 
       -- it failed: its own lines may have a beginning of it
       pub stopped_unlogged : (all : Option (List (List ℕ))) (rest : List ℕ) → MayHaveMore (line_about asset client now.moment (Cut reason) ∷ []) own all rest →
-          ((ls : List (List ℕ)) → BeginsLines base all rest ls → log.Begins ls) → IsWriteEnd asset listen most log (begun_list asset listen client m answers)
+          ((ls : List (List ℕ)) → BeginsLines base all rest ls → log.Begins ls) → IsWriteEnd dirs asset listen most log (begun_list asset listen client m answers)
       stopped_unlogged all rest may begins =
           let st = h.stands in
           let line = cut_line asset (begun_list asset listen client m answers) reason in

@@ -17,6 +17,8 @@ use Rattle.cf_relay.specs.Answers.{client_of, given, history_of, idle_run, is_fi
 use Rattle.cf_relay.specs.Scene.{RoseBy}
 use Rattle.cf_relay.specs.Stands.{GivenPrefixes, IsCounted, IsCutShort}
 use Rattle.cf_relay.specs.Turn.{AreItemsOf, IsUnstopped, DoesStages, IsRelayed, cut_at, stages}
+use Rattle.cf_relay.specs.declared.directions.Directions.{Directions}
+use Rattle.cf_relay.specs.declared.directions.Directions.TheVariants as both
 use Rattle.cf_relay.specs.declared.done.RelayDone.{RelayDone}
 use Rattle.cf_relay.specs.declared.done.RelayEnd.{RelayEnd}
 use Rattle.cf_relay.specs.declared.done.RelayEnd.TheVariants as ends
@@ -51,18 +53,18 @@ pub record GivenAll (asset : Asset) (es : List Entry) (js : List Judged) : Type 
   pub closed : (s : Side) → is_finished s es ≡ true
 
 -- both sides were given all that was for them, in so many turns, and a close line is the log's last
-pub record IsDone (asset : Asset) (listen most : ℕ) (log : LogContents) (es : List Entry) (done : RelayDone) : Type 0 where
+pub record IsDone (directions : Directions) (asset : Asset) (listen most : ℕ) (log : LogContents) (es : List Entry) (done : RelayDone) : Type 0 where
   pub turns : ℕ
-  pub does : DoesStages asset most (stages listen turns) [] es
+  pub does : DoesStages asset most (stages directions listen turns) [] es
   pub goes : IsUnstopped asset most es
   pub all : GivenAll asset es goes.judged
   pub counts : IsCounted goes.judged done.admitted done.refused
   pub holds_log : log.Holds (log_of asset es goes.judged ++ close_line asset es done.admitted done.refused ∷ [])
 
 -- the last answer is the Idle that completes their number; nothing cuts
-pub record IsIdleEnd (asset : Asset) (listen most : ℕ) (log : LogContents) (es : List Entry) (done : RelayDone) : Type 0 where
+pub record IsIdleEnd (directions : Directions) (asset : Asset) (listen most : ℕ) (log : LogContents) (es : List Entry) (done : RelayDone) : Type 0 where
   pub judged : List Judged
-  pub relayed : IsRelayed asset listen most es
+  pub relayed : IsRelayed directions asset listen most es
   pub are_items : AreItemsOf asset es judged
   pub uncut : cut_at asset es judged ≡ None
   pub idle : idle_run es ≡ most
@@ -71,10 +73,10 @@ pub record IsIdleEnd (asset : Asset) (listen most : ℕ) (log : LogContents) (es
   pub holds_log : log.Holds (log_of asset es judged)
 
 -- the list is cut, for this reason, and the cut line is the log's last
-pub record IsCutEnd (asset : Asset) (listen most : ℕ) (log : LogContents) (es : List Entry) (done : RelayDone)
+pub record IsCutEnd (directions : Directions) (asset : Asset) (listen most : ℕ) (log : LogContents) (es : List Entry) (done : RelayDone)
     (reason : CutReason) : Type 0 where
   pub judged : List Judged
-  pub relayed : IsRelayed asset listen most es
+  pub relayed : IsRelayed directions asset listen most es
   pub are_items : AreItemsOf asset es judged
   pub is_cut : cut_at asset es judged ≡ Some reason
   pub prefixes : GivenPrefixes asset es judged
@@ -82,8 +84,8 @@ pub record IsCutEnd (asset : Asset) (listen most : ℕ) (log : LogContents) (es 
   pub holds_log : log.Holds (log_of asset es judged ++ cut_line asset es reason ∷ [])
 
 -- a call on the pair failed, which adds nothing to the list
-pub record IsLinkEnd (asset : Asset) (listen most : ℕ) (log : LogContents) (es : List Entry) : Type 0 where
-  pub relayed : IsRelayed asset listen most es
+pub record IsLinkEnd (directions : Directions) (asset : Asset) (listen most : ℕ) (log : LogContents) (es : List Entry) : Type 0 where
+  pub relayed : IsRelayed directions asset listen most es
   pub goes : IsUnstopped asset most es
   pub prefixes : GivenPrefixes asset es goes.judged
   pub holds_log : log.Holds (log_of asset es goes.judged)
@@ -96,8 +98,8 @@ IsLastLine asset es js last =
     (last ≡ close_line asset es admitted refused ∷ []))))
 
 -- a write to the log failed: it has a beginning of the lines, those of an element up to the unit whose line failed
-pub record IsWriteEnd (asset : Asset) (listen most : ℕ) (log : LogContents) (es : List Entry) : Type 0 where
-  pub relayed : IsRelayed asset listen most es
+pub record IsWriteEnd (directions : Directions) (asset : Asset) (listen most : ℕ) (log : LogContents) (es : List Entry) : Type 0 where
+  pub relayed : IsRelayed directions asset listen most es
   pub history : List Element
   pub is_short : IsCutShort history (history_of es)
   pub judged : List Judged
@@ -112,17 +114,17 @@ abbrev pub IsMemoryEnd : Asset → (listen : ℕ) → (created same : Type 0) �
 IsMemoryEnd asset listen created same es =
     ((es ≡ []) × same) ⊎ (((client : Endpoint) × (es ≡ met_at listen asset.endpoint client ∷ [])) × created)
 
--- the end of a relay that no fault stopped
+-- the end of a relay that no fault stopped, whose directions are together
 abbrev pub EndsAs : Asset → (listen most : ℕ) → LogContents → List Entry → RelayDone → RelayEnd → Type 0
-EndsAs asset listen most log es done ends.Done = IsDone asset listen most log es done
-EndsAs asset listen most log es done ends.IdleEnd = IsIdleEnd asset listen most log es done
-EndsAs asset listen most log es done (ends.Cut reason) = IsCutEnd asset listen most log es done reason
+EndsAs asset listen most log es done ends.Done = IsDone both.Together asset listen most log es done
+EndsAs asset listen most log es done ends.IdleEnd = IsIdleEnd both.Together asset listen most log es done
+EndsAs asset listen most log es done (ends.Cut reason) = IsCutEnd both.Together asset listen most log es done reason
 
 -- what each answer means, of a relay of a port
 abbrev pub RelayEnds : Asset → (listen most : ℕ) → LogContents → (same : Type 0) → List Entry → Result RelayDone RelayFault → Type 0
 RelayEnds asset listen most log same es (Ok done) = EndsAs asset listen most log es done done.end
-RelayEnds asset listen most log same es (Err fault.Link) = IsLinkEnd asset listen most log es
-RelayEnds asset listen most log same es (Err fault.Write) = IsWriteEnd asset listen most log es
+RelayEnds asset listen most log same es (Err fault.Link) = IsLinkEnd both.Together asset listen most log es
+RelayEnds asset listen most log same es (Err fault.Write) = IsWriteEnd both.Together asset listen most log es
 RelayEnds asset listen most log same es (Err fault.NoMemory) = IsMemoryEnd asset listen (log.Holds []) same es
 
 -- a file is told

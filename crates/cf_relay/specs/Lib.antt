@@ -3,6 +3,7 @@ pub mod Closing
 pub mod Ends
 pub mod Gave
 pub mod Only
+pub mod Reading
 pub mod Relaying
 pub mod Scene
 pub mod Sides

@@ -9,6 +9,7 @@ use Rattle.cf_view.specs.declared.Side.{Side}
 use Rattle.std.specs.Prelude.{Bool, List, Option, [], false, length, true, ℕ, ◌*◌, ◌+◌, ◌<◌, ◌≡◌, ◌≤◌, ◌⊎◌}
 use Rattle.cf_view.specs.declared.Side.TheVariants as side
 use Rattle.cf_relay.specs.Taken.{MayTakeNow}
+use Rattle.cf_relay.specs.declared.directions.Directions.{Directions}
 use Rattle.cf_relay.specs.declared.relaying.Relaying.{Relaying}
 
 pub record RelayingValue : Type 0 where
@@ -124,9 +125,9 @@ ServesOrRests s most old new =
     ((queue_to s old).ended ≡ true → is_closed s new ≡ true))
 
 -- a side was asked; or it was passed over
-abbrev pub AsksOrRests : Side → (most : ℕ) → (old new : RelayingValue) → Type 0
-AsksOrRests s most old new = (progress most old < progress most new) ⊎
-    (Unmoved old new × (MayTakeNow s old.to_client old.to_controller → ⊥))
+abbrev pub AsksOrRests : Directions → Side → (most : ℕ) → (old new : RelayingValue) → Type 0
+AsksOrRests directions s most old new = (progress most old < progress most new) ⊎
+    (Unmoved old new × (MayTakeNow directions s old.to_client old.to_controller → ⊥))
 
 -- both sides are closed
 abbrev pub AreClosed : RelayingValue → Type 0

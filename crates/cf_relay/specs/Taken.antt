@@ -1,6 +1,5 @@
 -- Steps of the proof: what taking does to a lane, its queues and its log: `TakesBy`.
 use Rattle.cf_audit.specs.declared.line.CutReason.{CutReason}
-use Rattle.cf_driver.specs.Small.{IsSmall}
 use Rattle.cf_driver.specs.Takes.{MissesEnd, MissesPiece, Takes}
 use Rattle.cf_lane.specs.Handled.{IsOpen, State}
 use Rattle.cf_lane.specs.History.{taken}
@@ -11,19 +10,36 @@ use Rattle.cf_outq.specs.SendQueue.{Queue}
 use Rattle.cf_outside.specs.Desk.{DeskValue}
 use Rattle.cf_outside.specs.Pair.{Ended, Entry, Got, Idle}
 use Rattle.cf_policy.specs.declared.Asset.{Asset}
+use Rattle.cf_stream.specs.Sizes.{window_size}
 use Rattle.cf_stream.specs.Stream.{letter_count}
 use Rattle.cf_view.specs.declared.Side.{Side}
-use Rattle.std.specs.Prelude.{Err, List, None, Ok, Option, Result, Some, [], true, ℕ, ◌+◌, ◌<◌, ◌∷◌, ◌≡◌, ◌⊎◌}
+use Rattle.std.specs.Prelude.{Err, List, None, Ok, Option, Result, Some, [], if◌then◌else◌, length, true, ℕ, ◌+◌, ◌<◌, ◌∷◌, ◌≡◌, ◌≤◌, ◌⊎◌}
+use Rattle.cf_view.specs.declared.Side.TheVariants as side
 use Rattle.cf_relay.specs.Answers.{element_of, idles_after}
+use Rattle.cf_relay.specs.Reading.{most_back}
 use Rattle.cf_relay.specs.Turn.{IsTakeAnswer}
+use Rattle.cf_relay.specs.declared.directions.Directions.{Directions}
 use Rattle.cf_relay.specs.declared.stop.Stop.{Stop}
 use Rattle.cf_relay.specs.declared.stop.Stop.TheVariants as stop
 
--- the side has not ended, and both queues are small
-pub record MayTakeNow (s : Side) (to_client to_controller : Queue) : Type 0 where
+-- of two queues the one that the bytes of a side go to, and the one back to it
+abbrev pub onward_of : Side → (to_client to_controller : Queue) → Queue
+onward_of side.Client to_client to_controller = to_controller
+onward_of side.Controller to_client to_controller = to_client
+
+abbrev pub back_of : Side → (to_client to_controller : Queue) → Queue
+back_of side.Client to_client to_controller = to_client
+back_of side.Controller to_client to_controller = to_controller
+
+-- at most so many letters of a queue wait, End counted
+abbrev pub WaitAtMost : ℕ → Queue → Type 0
+WaitAtMost most q = length q.kept + (if q.ended then 1 else 0) ≤ most
+
+-- a side has not ended, and neither queue has more letters than it may have as the side is read
+pub record MayTakeNow (directions : Directions) (s : Side) (to_client to_controller : Queue) : Type 0 where
   pub open_still : IsOpen s to_client to_controller
-  pub client : IsSmall to_client
-  pub controller : IsSmall to_controller
+  pub onward : WaitAtMost window_size (onward_of s to_client to_controller)
+  pub back : WaitAtMost (most_back directions) (back_of s to_client to_controller)
 
 -- the letters of a side that an answer brings
 abbrev pub letters_brought : (moment : ℕ) → Side → Entry → ℕ
@@ -60,21 +76,21 @@ pub record TakesAnswer (asset : Asset) (moment : ℕ) (s : Side) (cut : Option C
   pub answers : AnswersTo moment s answer old.told new.told old.idle new.idle old.letters new.letters
   pub hears : Takes asset s (element_of moment answer) cut old.rest new.rest old.state new.state
 
--- what came of asking a side, which happens exactly where it has not ended and both queues are small
-abbrev pub TakesBy : Asset → (moment most : ℕ) → Side → (old new : TakeState) → DeskValue → Result Unit Stop → Type 0
-TakesBy asset moment most s old new desk (Ok done) =
-    ((MayTakeNow s old.state.to_client old.state.to_controller → ⊥) × (new ≡ old))
-    ⊎ (MayTakeNow s old.state.to_client old.state.to_controller × (new.idle < most) × TakesAnswer asset moment s None old new)
-TakesBy asset moment most s old new desk (Err stop.Idle) =
-    MayTakeNow s old.state.to_client old.state.to_controller × (new.idle ≡ most)
+-- what came of asking a side, which happens exactly where it may be
+abbrev pub TakesBy : Directions → Asset → (moment most : ℕ) → Side → (old new : TakeState) → DeskValue → Result Unit Stop → Type 0
+TakesBy directions asset moment most s old new desk (Ok done) =
+    ((MayTakeNow directions s old.state.to_client old.state.to_controller → ⊥) × (new ≡ old))
+    ⊎ (MayTakeNow directions s old.state.to_client old.state.to_controller × (new.idle < most) × TakesAnswer asset moment s None old new)
+TakesBy directions asset moment most s old new desk (Err stop.Idle) =
+    MayTakeNow directions s old.state.to_client old.state.to_controller × (new.idle ≡ most)
     × (new ≡ record old { idle = old.idle + 1; told = with_answers old.told (Idle s ∷ []) })
-TakesBy asset moment most s old new desk (Err stop.Link) = new ≡ old
-TakesBy asset moment most s old new desk (Err stop.Write) =
-    MayTakeNow s old.state.to_client old.state.to_controller
+TakesBy directions asset moment most s old new desk (Err stop.Link) = new ≡ old
+TakesBy directions asset moment most s old new desk (Err stop.Write) =
+    MayTakeNow directions s old.state.to_client old.state.to_controller
     × ((answer : Entry) × AnswersTo moment s answer old.told new.told old.idle new.idle old.letters new.letters
     × MissesLine asset moment s answer old.rest old.state desk)
-TakesBy asset moment most s old new desk (Err (stop.Cut reason)) =
-    MayTakeNow s old.state.to_client old.state.to_controller × TakesAnswer asset moment s (Some reason) old new
+TakesBy directions asset moment most s old new desk (Err (stop.Cut reason)) =
+    MayTakeNow directions s old.state.to_client old.state.to_controller × TakesAnswer asset moment s (Some reason) old new
 
 -- the desk may be called again, unless a write failed
 abbrev pub StaysWhole : Result Unit Stop → DeskValue → Type 0

@@ -20,8 +20,10 @@ use Rattle.std.specs.List.{AllByRecursion, concat}
 use Rattle.std.specs.Option.{option_or}
 use Rattle.std.specs.Prelude.{List, None, Option, [], drop, false, length, map, suc, true, zero, ℕ, ◌++◌, ◌<◌, ◌∷◌, ◌≡◌, ◌≤◌, ◌⊎◌}
 use Rattle.cf_view.specs.declared.Side.TheVariants as side
+use Rattle.cf_relay.specs.declared.directions.Directions.{Directions}
 use Rattle.cf_relay.specs.declared.limit.TheConstants.{MOST_BYTES}
 use Rattle.cf_relay.specs.Answers.{are_finished, client_of, given, history_of, idle_run, is_finished}
+use Rattle.cf_relay.specs.Reading.{most_back}
 
 -- the judged items of the history that the list has
 abbrev pub AreItemsOf : Asset → List Entry → List Judged → Type 0
@@ -44,11 +46,12 @@ pub record IsUnstopped (asset : Asset) (most : ℕ) (es : List Entry) : Type 0 w
 abbrev pub queue_of : Asset → (to : Side) → List Entry → List Judged → Stream
 queue_of asset to es js = record { bytes = drop (length (given to es)) (outputs asset to [] js); ended = has_ended (other to) js }
 
--- a side may be asked for bytes: it has not ended, and both queues have at most 16,384 letters
-pub record MayTake (asset : Asset) (s : Side) (es : List Entry) (js : List Judged) : Type 0 where
+-- a side may be asked for bytes: it has not ended, the queue that they go to has at most 16,384 letters, and the one back to the side at
+-- most so many as its directions say
+pub record MayTake (directions : Directions) (asset : Asset) (s : Side) (es : List Entry) (js : List Judged) : Type 0 where
   pub open_still : ended_of s (history_of es) ≡ false
-  pub client : letter_count (queue_of asset side.Client es js) ≤ window_size
-  pub controller : letter_count (queue_of asset side.Controller es js) ≤ window_size
+  pub onward : letter_count (queue_of asset (other s) es js) ≤ window_size
+  pub back : letter_count (queue_of asset s es js) ≤ most_back directions
 
 -- an answer to that: one byte to `MOST_BYTES`, End, or Idle
 abbrev pub IsTakeAnswer : Side → Entry → Type 0
@@ -100,32 +103,32 @@ pub data Stage : Type 0 where
   -- at a port
   Meeting : ℕ → Stage
   Telling : Stage
-  Taking : Side → Stage
+  Taking : Directions → Side → Stage
   Giving : Side → Stage
   Finishing : Side → Stage
 
 -- a turn: the moment; what the client and then the controller sends; what is queued for the controller and then for the client
-abbrev pub turn : List Stage
-turn =
-    Telling ∷ Taking side.Client ∷ Taking side.Controller ∷ Giving side.Controller ∷ Finishing side.Controller
+abbrev pub turn : Directions → List Stage
+turn directions =
+    Telling ∷ Taking directions side.Client ∷ Taking directions side.Controller ∷ Giving side.Controller ∷ Finishing side.Controller
     ∷ Giving side.Client ∷ Finishing side.Client ∷ []
 
 -- the stages of so many turns
-abbrev pub turns : ℕ → List Stage
-turns zero = []
-turns (suc n) = turns n ++ turn
+abbrev pub turns : Directions → ℕ → List Stage
+turns directions zero = []
+turns directions (suc n) = turns directions n ++ turn directions
 
 -- the meeting at a port, one moment, and then so many turns
-abbrev pub stages : (listen : ℕ) → ℕ → List Stage
-stages listen n = Meeting listen ∷ Telling ∷ turns n
+abbrev pub stages : Directions → (listen : ℕ) → ℕ → List Stage
+stages directions listen n = Meeting listen ∷ Telling ∷ turns directions n
 
 -- what a stage adds to the list: a client is met beside the controller of the asset; no turn begins once both sides are closed
 abbrev pub HasAnswers : Asset → Stage → (before : List Entry) → List Judged → (answers : List Entry) → Type 0
 HasAnswers asset (Meeting listen) before js answers = (client : Endpoint) × (answers ≡ met_at listen asset.endpoint client ∷ [])
 HasAnswers asset Telling before js answers = (are_finished before ≡ false) × ((moment : ℕ) × (answers ≡ Moment moment ∷ []))
-HasAnswers asset (Taking s) before js answers =
-    (MayTake asset s before js × ((answer : Entry) × IsTakeAnswer s answer × (answers ≡ answer ∷ []))) ⊎
-    ((MayTake asset s before js → ⊥) × (answers ≡ []))
+HasAnswers asset (Taking directions s) before js answers =
+    (MayTake directions asset s before js × ((answer : Entry) × IsTakeAnswer s answer × (answers ≡ answer ∷ []))) ⊎
+    ((MayTake directions asset s before js → ⊥) × (answers ≡ []))
 HasAnswers asset (Giving s) before js answers = GivesQueued s (queue_of asset s before js).bytes answers
 HasAnswers asset (Finishing s) before js answers =
     (MayFinish asset s before js × (answers ≡ Finished s ∷ [])) ⊎ ((MayFinish asset s before js → ⊥) × (answers ≡ []))
@@ -139,7 +142,7 @@ IsStage asset most stage before answers = (goes : IsUnstopped asset most before)
 abbrev pub BeginsStage : Asset → (most : ℕ) → Stage → (before answers : List Entry) → Type 0
 BeginsStage asset most (Meeting listen) before answers = answers ≡ []
 BeginsStage asset most Telling before answers = answers ≡ []
-BeginsStage asset most (Taking s) before answers = answers ≡ []
+BeginsStage asset most (Taking directions s) before answers = answers ≡ []
 BeginsStage asset most (Giving s) before answers =
     (answers ≡ []) ⊎ ((goes : IsUnstopped asset most before) × BeginsToGive s (queue_of asset s before goes.judged).bytes answers)
 BeginsStage asset most (Finishing s) before answers = answers ≡ []
@@ -160,5 +163,5 @@ BeginsStages asset most (stage ∷ later) before answers =
     (before ++ now) next)
 
 -- the list of a relay that stops, of a port
-abbrev pub IsRelayed : Asset → (listen most : ℕ) → List Entry → Type 0
-IsRelayed asset listen most es = (n : ℕ) × BeginsStages asset most (stages listen n) [] es
+abbrev pub IsRelayed : Directions → Asset → (listen most : ℕ) → List Entry → Type 0
+IsRelayed directions asset listen most es = (n : ℕ) × BeginsStages asset most (stages directions listen n) [] es

@@ -9,6 +9,7 @@ use Rattle.std.specs.Prelude.{List, Option, [], ℕ, ◌<◌, ◌∷◌}
 use Rattle.cf_relay.specs.Relaying.{RelayingValue}
 use Rattle.cf_relay.specs.Stands.{StandsFor, StandsStopped}
 use Rattle.cf_relay.specs.Turn.{BeginsStages, DoesStages, turns}
+use Rattle.cf_relay.specs.declared.directions.Directions.{Directions}
 use Rattle.cf_relay.specs.declared.stop.Stop.{Stop}
 
 -- the list of a relay of a port: a client is met beside the controller, a moment is told, and then there are these answers
@@ -20,18 +21,18 @@ abbrev pub begun_lines : Asset → Endpoint → (moment : ℕ) → (base : Optio
 begun_lines asset client moment base = with_lines base (line_about asset client moment Begun ∷ [])
 
 -- a relay that has made so many turns, and goes on
-pub record HasTurned (asset : Asset) (listen most : ℕ) (client : Endpoint) (moment : ℕ) (base : Option (List (List ℕ)))
+pub record HasTurned (directions : Directions) (asset : Asset) (listen most : ℕ) (client : Endpoint) (moment : ℕ) (base : Option (List (List ℕ)))
     (answers : List Entry) (now : RelayingValue) (own : Option (List (List ℕ))) : Type 0 where
   pub count : ℕ
-  pub does : DoesStages asset most (turns count) (begun_list asset listen client moment []) answers
+  pub does : DoesStages asset most (turns directions count) (begun_list asset listen client moment []) answers
   pub stands : StandsFor asset (begun_lines asset client moment base) (begun_list asset listen client moment answers) now own
   pub few : now.idle < most
 
 -- a relay that stopped within a turn; a line that failed left a part after its own lines
-pub record HasStopped (asset : Asset) (listen most : ℕ) (client : Endpoint) (moment : ℕ) (base : Option (List (List ℕ)))
+pub record HasStopped (directions : Directions) (asset : Asset) (listen most : ℕ) (client : Endpoint) (moment : ℕ) (base : Option (List (List ℕ)))
     (answers : List Entry) (why : Stop) (now : RelayingValue) (own : Option (List (List ℕ))) (part : List ℕ) : Type 0 where
   pub count : ℕ
-  pub breaks : BeginsStages asset most (turns count) (begun_list asset listen client moment []) answers
+  pub breaks : BeginsStages asset most (turns directions count) (begun_list asset listen client moment []) answers
   pub some : 0 < most
   pub stands : StandsStopped asset most (begun_lines asset client moment base) (begun_list asset listen client moment answers) why now own
       part

@@ -2,6 +2,7 @@
 //! turn by turn, or a pair until it ends.
 #![tactic(auto)]
 
+mod directions;
 mod done;
 mod give;
 mod limit;
@@ -13,6 +14,7 @@ mod take;
 mod top;
 mod turns;
 
+pub use directions::Directions;
 pub use done::{RelayDone, RelayEnd, RelayFault};
 pub use limit::MOST_BYTES;
 pub use relaying::Relaying;

@@ -9,6 +9,7 @@ ghost use Rattle.cf_relay.specs.Scene.{DoesBetween, StopsBetween, scene};
 ghost use Rattle.cf_relay.specs.Taken.{StaysWhole};
 ghost use Rattle.cf_relay.specs.Turn.{turns};
 
+use crate::directions::Directions;
 use crate::relaying::Relaying;
 use crate::stop::Stop;
 use cf_links::{Links, ReachAnswer};
@@ -71,10 +72,10 @@ impl Relaying {
         requires still { AreClosed (relaying_value self.old) → ⊥ }
         requires whole { DeskValue.whole (D.value desk.old) ≡ true }
         requires buffer { length buf.old ≡ MOST_BYTES }
-        ensures goes { OnOk result ((n : ℕ) × DoesBetween asset.now most (turns n)
+        ensures goes { OnOk result ((n : ℕ) × DoesBetween asset.now most (turns Directions.Together n)
             (scene (relaying_value self.old) (only_links P.Pair pair.old) (D.value desk.old))
             (scene (relaying_value self.new) (only_links P.Pair pair.new) (D.value desk.new))) }
-        ensures stops { IfErr result (λ stop. (n : ℕ) × StopsBetween asset.now most (turns n) stop
+        ensures stops { IfErr result (λ stop. (n : ℕ) × StopsBetween asset.now most (turns Directions.Together n) stop
             (scene (relaying_value self.old) (only_links P.Pair pair.old) (D.value desk.old))
             (scene (relaying_value self.new) (only_links P.Pair pair.new) (D.value desk.new))) }
         ensures closed { OnOk result (AreClosed (relaying_value self.new)) }

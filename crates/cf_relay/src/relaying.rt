@@ -16,6 +16,7 @@ ghost use Rattle.cf_relay.specs.Taken.{LimitBy, StaysWhole};
 ghost use Rattle.cf_relay.specs.Turn.{Finishing, Giving, Taking, Telling};
 ghost use Rattle.cf_view.specs.declared.Endpoint.{Endpoint as EndpointOf};
 
+use crate::directions::Directions;
 use crate::give::{finish_to, give_to};
 use crate::sides::Sides;
 use crate::stop::Stop;
@@ -103,10 +104,11 @@ impl Relaying {
         }
     }
 
-    /// Asks a side for bytes, where it has not ended and both queues are small, and hands the lane what comes.
+    /// Asks a side for bytes, where it may be read, and hands the lane what comes.
     pub(crate) fn take<L: Links, D: Desk>(
         &mut self,
         asset: &Asset,
+        directions: Directions,
         side: Side,
         most: u64,
         buf: &mut [u8],
@@ -120,20 +122,21 @@ impl Relaying {
         requires whole { DeskValue.whole (D.value desk.old) ≡ true }
         requires buffer { length buf.old ≡ MOST_BYTES }
         ensures place { L.place links.new ≡ L.place links.old }
-        ensures goes { OnOk result (DoesBetween asset.now most (Taking side ∷ [])
+        ensures goes { OnOk result (DoesBetween asset.now most (Taking directions side ∷ [])
             (scene_of L.Links session D.Desk self.old links.old desk.old)
             (scene_of L.Links session D.Desk self.new links.new desk.new)) }
-        ensures stops { IfErr result (λ stop. StopsBetween asset.now most (Taking side ∷ []) stop
+        ensures stops { IfErr result (λ stop. StopsBetween asset.now most (Taking directions side ∷ []) stop
             (scene_of L.Links session D.Desk self.old links.old desk.old)
             (scene_of L.Links session D.Desk self.new links.new desk.new)) }
         ensures sound { OnOk result (IsSound asset.now most (relaying_value self.new)) }
-        ensures moves { OnOk result (AsksOrRests side most (relaying_value self.old) (relaying_value self.new)) }
+        ensures moves { OnOk result (AsksOrRests directions side most (relaying_value self.old) (relaying_value self.new)) }
         ensures whole { StaysWhole result (D.value desk.new) }
         ensures buffer { length buf.new ≡ MOST_BYTES }
     {
         streams_go_on();
         take_from(
             asset,
+            directions,
             self.moment,
             side,
             &mut self.lane,

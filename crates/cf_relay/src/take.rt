@@ -9,11 +9,13 @@ ghost use Rattle.cf_outside.specs.Pair.{FaultsBy};
 ghost use Rattle.cf_policy.specs.Within.{IsAssetWithin};
 ghost use Rattle.cf_lane.specs.Handled.{IsLaneOf, WritesLog, debt, debt_limit, rest_limit, state};
 ghost use Rattle.cf_relay.specs.declared.limit.TheConstants.{MOST_BYTES};
+ghost use Rattle.cf_relay.specs.Reading.{most_back};
 ghost use Rattle.cf_relay.specs.Scene.{RoseBy};
-ghost use Rattle.cf_relay.specs.Taken.{MayTakeNow, StaysWhole, TakesBy, take_state};
+ghost use Rattle.cf_relay.specs.Taken.{MayTakeNow, StaysWhole, TakesBy, WaitAtMost, take_state};
 
+use crate::directions::Directions;
 use crate::stop::{Stop, count_idle};
-use cf_driver::{Heard, are_small};
+use cf_driver::Heard;
 use cf_lane::Lane;
 use cf_links::Links;
 use cf_outq::Outq;
@@ -21,20 +23,55 @@ use cf_outside::{Desk, TakeAnswer};
 use cf_policy::Asset;
 use cf_view::Side;
 
-/// Whether a side has not ended, and both queues are small.
-fn may_take(side: Side, to_client: &Outq, to_controller: &Outq) -> bool
-    ensures { IsTrue result ↔ MayTakeNow side to_client.now to_controller.now }
+/// How many letters may wait in the queue that a side's bytes go to as it is read, and, where the directions are together, in the
+/// one back to it.
+const SMALL: u32 = 16_384;
+
+/// How many may wait in the one back to it where they are separate: so many of its 131,072 that what both sides of a turn put there
+/// finds room. Each puts there at most twice the 4,096 octets that are taken of it, and 8,192 more.
+const ROOMY: u32 = 131_072 - 2 * (2 * 4_096 + 8_192);
+
+/// Whether at most so many letters of a queue wait, End counted.
+fn wait_at_most(queue: &Outq, most: u32) -> bool
+    requires some { 0 < most }
+    ensures { IsTrue result ↔ WaitAtMost most queue.now }
 {
-    let ended = match side {
-        Side::Client => to_controller.is_ended(),
-        Side::Controller => to_client.is_ended(),
-    };
-    !ended && are_small(to_client, to_controller)
+    queue.unacked() <= i64::from(most)
 }
 
-/// Asks a side once for bytes, where it has not ended and both queues are small, and hands the lane what comes.
+fn most_back(directions: Directions) -> u32
+    ensures value { result ≡ most_back directions }
+    ensures some { 0 < result }
+{
+    match directions {
+        Directions::Together => SMALL,
+        Directions::Separate => ROOMY,
+    }
+}
+
+/// Whether a side has not ended, and neither queue has more letters than it may have as the side is read.
+fn may_take(directions: Directions, side: Side, to_client: &Outq, to_controller: &Outq) -> bool
+    ensures { IsTrue result ↔ MayTakeNow directions side to_client.now to_controller.now }
+{
+    let most = most_back(directions);
+    match side {
+        Side::Client => {
+            !to_controller.is_ended()
+                && wait_at_most(to_controller, SMALL)
+                && wait_at_most(to_client, most)
+        }
+        Side::Controller => {
+            !to_client.is_ended()
+                && wait_at_most(to_client, SMALL)
+                && wait_at_most(to_controller, most)
+        }
+    }
+}
+
+/// Asks a side once for bytes, where it may be read, and hands the lane what comes.
 pub(crate) fn take_from<L: Links, D: Desk>(
     asset: &Asset,
+    directions: Directions,
     moment: u64,
     side: Side,
     lane: &mut Lane,
@@ -61,7 +98,7 @@ pub(crate) fn take_from<L: Links, D: Desk>(
     requires few { idle.old < most }
     requires buffer { length buf.old ≡ MOST_BYTES }
     ensures place { L.place links.new ≡ L.place links.old }
-    ensures takes { TakesBy asset.now moment most side
+    ensures takes { TakesBy directions asset.now moment most side
         (take_state (state lane.old to_client.old to_controller.old
         (DeskValue.lines (D.value desk.old))) heard.old.rest.items heard.old.letters idle.old (told_of L.Links session links.old))
         (take_state (state lane.new to_client.new to_controller.new
@@ -75,7 +112,7 @@ pub(crate) fn take_from<L: Links, D: Desk>(
     ensures idles { (start : ℕ) → RoseBy idle.old start (L.idles links.old) → RoseBy idle.new start (L.idles links.new) }
     ensures buffer { length buf.new ≡ MOST_BYTES }
 {
-    if !may_take(side, to_client, to_controller) {
+    if !may_take(directions, side, to_client, to_controller) {
         return Ok(());
     }
     match links.take(session, side, &mut *buf) {

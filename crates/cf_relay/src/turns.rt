@@ -10,6 +10,7 @@ ghost use Rattle.cf_relay.specs.Scene.{DoesBetween, StopsBetween, scene_of};
 ghost use Rattle.cf_relay.specs.Taken.{StaysWhole};
 ghost use Rattle.cf_relay.specs.Turn.{turn, turns};
 
+use crate::directions::Directions;
 use crate::relaying::Relaying;
 use crate::stop::Stop;
 use cf_links::Links;
@@ -18,7 +19,7 @@ use cf_policy::Asset;
 use cf_view::Side;
 
 impl Relaying {
-    /// Turns, until both sides are closed or the relay stops.
+    /// Turns, until both sides are closed or the relay stops. Its directions are together.
     pub(crate) fn run<L: Links, D: Desk>(
         &mut self,
         asset: &Asset,
@@ -35,10 +36,10 @@ impl Relaying {
         requires whole { DeskValue.whole (D.value desk.old) ≡ true }
         requires buffer { length buf.old ≡ MOST_BYTES }
         ensures place { L.place links.new ≡ L.place links.old }
-        ensures goes { OnOk result ((n : ℕ) × DoesBetween asset.now most (turns n)
+        ensures goes { OnOk result ((n : ℕ) × DoesBetween asset.now most (turns Directions.Together n)
             (scene_of L.Links session D.Desk self.old links.old desk.old)
             (scene_of L.Links session D.Desk self.new links.new desk.new)) }
-        ensures stops { IfErr result (λ stop. (n : ℕ) × StopsBetween asset.now most (turns n) stop
+        ensures stops { IfErr result (λ stop. (n : ℕ) × StopsBetween asset.now most (turns Directions.Together n) stop
             (scene_of L.Links session D.Desk self.old links.old desk.old)
             (scene_of L.Links session D.Desk self.new links.new desk.new)) }
         ensures closed { OnOk result (AreClosed (relaying_value self.new)) }
@@ -46,7 +47,7 @@ impl Relaying {
         ensures whole { StaysWhole result (D.value desk.new) }
     {
         'turns: loop {
-            self.turn(asset, most, buf, session, links, desk)?;
+            self.turn(asset, Directions::Together, most, buf, session, links, desk)?;
             if self.is_closed() {
                 return Ok(());
             }
@@ -81,14 +82,15 @@ impl Relaying {
         self.lane.refused()
     }
 
-    /// One turn of a session: the moment; what the client and then the controller sends, at most `MOST_BYTES` each; what is
-    /// queued for the controller and then for the client, until a queue is empty or its side answers `Idle`. The lines of items
+    /// One turn of a session: the moment; what the client and then the controller sends, at most `MOST_BYTES` each, of a side that
+    /// may be read, by `directions`; what is queued for the controller and then for the client, until a queue is empty or its side answers `Idle`. The lines of items
     /// go to the desk, with the greatest moment told so far, in microseconds. As many answers `Idle` as `most`, with none
     /// between them that moves a letter, stop it. The buffer has `MOST_BYTES` bytes, and what stands in it does not matter. After an
     /// error no further turn is made, and the last line, such as that of a cut, is the caller's to write.
     pub fn turn<L: Links, D: Desk>(
         &mut self,
         asset: &Asset,
+        directions: Directions,
         most: u64,
         buf: &mut [u8],
         session: u64,
@@ -102,10 +104,10 @@ impl Relaying {
         requires whole { DeskValue.whole (D.value desk.old) ≡ true }
         requires buffer { length buf.old ≡ MOST_BYTES }
         ensures place { L.place links.new ≡ L.place links.old }
-        ensures goes { OnOk result (DoesBetween asset.now most turn
+        ensures goes { OnOk result (DoesBetween asset.now most (turn directions)
             (scene_of L.Links session D.Desk self.old links.old desk.old)
             (scene_of L.Links session D.Desk self.new links.new desk.new)) }
-        ensures stops { IfErr result (λ stop. StopsBetween asset.now most turn stop
+        ensures stops { IfErr result (λ stop. StopsBetween asset.now most (turn directions) stop
             (scene_of L.Links session D.Desk self.old links.old desk.old)
             (scene_of L.Links session D.Desk self.new links.new desk.new)) }
         ensures sound { OnOk result (IsSound asset.now most (relaying_value self.new)) }
@@ -115,8 +117,26 @@ impl Relaying {
         ensures buffer { length buf.new ≡ MOST_BYTES }
     {
         self.tell(session, links)?;
-        self.take(asset, Side::Client, most, buf, session, links, desk)?;
-        self.take(asset, Side::Controller, most, buf, session, links, desk)?;
+        self.take(
+            asset,
+            directions,
+            Side::Client,
+            most,
+            buf,
+            session,
+            links,
+            desk,
+        )?;
+        self.take(
+            asset,
+            directions,
+            Side::Controller,
+            most,
+            buf,
+            session,
+            links,
+            desk,
+        )?;
         self.serve(Side::Controller, most, buf, session, links)?;
         self.serve(Side::Client, most, buf, session, links)
     }

@@ -1,7 +1,7 @@
 //! Gaps in what clients sent: octets that no packet of a capture has, before some that one has.
 
+use crate::flags::{has, is_opening};
 use crate::pair::PairKey;
-use crate::way::{has, is_opening};
 use cf_packet::{ACK, Packet, RST, SYN};
 use cf_view::{Endpoint, NoMemory};
 use std::alloc::Global;

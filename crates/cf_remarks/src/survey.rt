@@ -3,9 +3,9 @@ ghost use Rattle.std.specs.Prelude.{◌≤◌, ◌^◌};
 ghost use Rattle.cf_outside.specs.Frames.{OnlyReads};
 
 use crate::dropped::Dropped;
+use crate::flags::is_opening;
 use crate::gaps::{Begins, Gaps, Sent};
 use crate::pair::{PairKey, pair_of};
-use crate::way::is_opening;
 use cf_outside::Files;
 use cf_packet::{Packet, PacketRefusal, read_packet, read_recorded};
 use cf_policy::Asset;

@@ -2,7 +2,6 @@
 
 use crate::dropped::Dropped;
 use crate::gaps::Gaps;
-use crate::look::{Look, Misfits};
 use crate::survey::{Reading, Survey};
 use cf_run::Summary;
 use cf_view::Endpoint;
@@ -26,7 +25,9 @@ const AMID: &str = " came without the SYN of their connection: the capture begin
 const FOREIGN: &str = " did not go between a client and an asset of POLICY: \
     neither end, or both, has an asset's address and port";
 
-const REST: &str = " came behind a cut, long behind a closing, or for a session that was not begun";
+const REST: &str =
+    " were of no session: they came without the SYN of their connection, behind a cut, long behind a closing, \
+    or for a session that was not begun";
 
 const REVIEW: &str =
     "for a recording from a span port or a host use 'cmdwall review POLICY CAPTURE LOG' \
@@ -144,12 +145,12 @@ pub fn survey_text(alloc: Global, survey: &Survey, reading: Reading) -> Result<S
             TAKEN,
         );
     }
-    put_gaps(&mut lines, &survey.gaps);
+    put_gaps(&mut lines, &survey.gaps, reading);
     lines.finish()
 }
 
-/// How many connections have a gap, the first of them, and what stands behind.
-fn put_gaps(lines: &mut Lines, gaps: &Gaps) {
+/// How many connections have a gap, the first of them, and what stands behind, which a review reads.
+fn put_gaps(lines: &mut Lines, gaps: &Gaps, reading: Reading) {
     let Some(first) = gaps.first else {
         return;
     };
@@ -170,7 +171,11 @@ fn put_gaps(lines: &mut Lines, gaps: &Gaps) {
         Number(first.record),
         Words("; "),
         Number(gaps.octets),
-        Words(" octets stand behind gaps and are not read, in "),
+        Words(" octets stand behind gaps and are "),
+        Words(match reading {
+            Reading::FromSyn => "not read, in ",
+            Reading::Amid => "read from the first unit on, in ",
+        }),
         Number(gaps.packets),
         Words(if gaps.packets == 1 {
             " packet"
@@ -181,18 +186,16 @@ fn put_gaps(lines: &mut Lines, gaps: &Gaps) {
     lines.end();
 }
 
-/// What a run cannot know of its capture, a line each: nothing where there is nothing to say. `left` sessions never closed.
-pub fn run_text(
-    alloc: Global,
-    summary: &Summary,
-    look: &Look,
-    left: u64,
-) -> Result<String, AllocError> {
+/// What a run cannot know of its capture, by what it counted, a line each: nothing where there is nothing to say.
+pub fn run_text(alloc: Global, summary: &Summary) -> Result<String, AllocError> {
     let mut lines = Lines::new(alloc);
-    put_dropped(&mut lines, &look.dropped);
-    put_outside(&mut lines, summary, look);
-    put_misfits(&mut lines, summary, &look.above, ABOVE);
-    put_misfits(&mut lines, summary, &look.beyond, BEYOND);
+    put_outside(&mut lines, summary);
+    put_misfits(&mut lines, summary.above, ABOVE);
+    put_misfits(&mut lines, summary.beyond, BEYOND);
+    let left = summary
+        .sessions
+        .saturating_sub(summary.cuts)
+        .saturating_sub(summary.closed);
     if left > 0 {
         lines.put(&[
             Number(left),
@@ -201,42 +204,37 @@ pub fn run_text(
             Words(LEFT_OPEN),
         ]);
     }
-    if look.above.segments > 0 || look.beyond.segments > 0 {
+    if summary.above > 0 || summary.beyond > 0 {
         lines.put(&[Words(REVIEW)]);
     }
     lines.finish()
 }
 
-fn put_misfits(lines: &mut Lines, summary: &Summary, misfits: &Misfits, meaning: &str) {
-    if misfits.segments == 0 {
-        return;
+/// Segments of sessions that do not fit, and what that means.
+fn put_misfits(lines: &mut Lines, segments: u64, meaning: &str) {
+    if segments > 0 {
+        lines.put(&[
+            Number(segments),
+            Words(if segments == 1 {
+                " segment"
+            } else {
+                " segments"
+            }),
+            Words(meaning),
+        ]);
     }
-    lines.put(&[
-        Number(misfits.segments),
-        Words(if misfits.segments == 1 {
-            " segment in "
-        } else {
-            " segments in "
-        }),
-        Number(misfits.sessions),
-        Words(" of "),
-        Number(summary.sessions),
-        Words(" sessions"),
-        Words(meaning),
-    ]);
 }
 
-/// Packets of no session, by why.
-fn put_outside(lines: &mut Lines, summary: &Summary, look: &Look) {
-    let rest = summary
-        .outside
-        .saturating_sub(look.amid)
-        .saturating_sub(look.foreign);
+/// Packets of no session, by why. Where no session was cut or closed, and none found no room, all of them came before any SYN of theirs.
+fn put_outside(lines: &mut Lines, summary: &Summary) {
+    let is_amid = summary.cuts == 0 && summary.closed == 0 && summary.full == 0;
     let packets = summary.records.saturating_sub(summary.dropped);
     let parts = [
-        (look.amid, AMID),
-        (look.foreign, FOREIGN),
-        (rest, REST),
+        (
+            summary.outside.saturating_sub(summary.foreign),
+            if is_amid { AMID } else { REST },
+        ),
+        (summary.foreign, FOREIGN),
         (summary.full, FULL),
     ];
     for (count, meaning) in parts {

@@ -1,5 +1,5 @@
 -- The first of all remarks, and the judge's objection.
-use Rattle.std.proofs.Common.{option_and_then, pos, ◌≡◌, ◌+◌, ◌-◌, ◌<◌, ◌≤◌, ◌∙◌, ◌==◌, ℕ, List, [], ◌∷◌, ◌++◌, Bool, true, false, cond, if◌then◌else◌, length, map, drop, take, get_or, slice_get, nat_lt, Option, Some, None, option_map, refl, sym, ap, subst, arith, inl, inr, append_assoc, eq-eqb, suc}
+use Rattle.std.proofs.Common.{option_and_then, pos, ◌≡◌, ◌+◌, ◌-◌, ◌<◌, ◌≤◌, ◌∙◌, ◌==◌, ℕ, List, [], ◌∷◌, ◌++◌, Bool, true, false, cond, if◌then◌else◌, length, map, drop, take, get_or, slice_get, nat_lt, Option, Some, None, option_map, refl, sym, ap, subst, arith, inl, inr, append-nil, append_assoc, eq-eqb, suc}
 use Rattle.std.specs.Option.{option_or}
 use Rattle.std.specs.List.{AllByRecursion, filter}
 use Rattle.std.specs.List.Sorted.{IsNonDecreasingBy}
@@ -20,19 +20,20 @@ use Rattle.cf_review.proofs.Alls.{all_append}
 use Rattle.cf_review.specs.First.{BeginsWithSyn, IsRising, JudgeTellsTheFirst, first_of, objection_about, objection_by}
 use Rattle.cf_judge.specs.declared.Complaint.{Complaint}
 use Rattle.cf_judge.specs.declared.Complaint.TheVariants as complaint
-use Rattle.cf_review.specs.Remark.{Broken, Conflict, MatterValue, Midstream, Refused, RemarkValue, Stray}
+use Rattle.cf_review.specs.Remark.{Broken, Conflict, Gap, MatterValue, Midstream, Refused, RemarkValue, Stray}
 use Rattle.cf_review.specs.declared.remark.TheConstants.{SHOWN}
 use Rattle.cf_review.specs.Review.{AreInOrder, conflict_remarks, end_remarks, flow_remarks, is_at, matters, midstream_remarks, octets_of, remark_on, remarks_by, remarks_on, unit_remarks}
 
 -- ---- what is remarked, as the judge tells it
 
--- of a flow that begins amid its stream nothing is told; here it stands for some complaint
+-- of a flow that begins amid its stream, and of a gap, nothing is told; here it stands for some complaint
 abbrev complaint_or : MatterValue → Complaint
 complaint_or (Refused refusal octets) = complaint.Refused refusal.decider refusal.reason
 complaint_or (Stray because) = complaint.Stray because
 complaint_or (Broken reason) = complaint.Broken reason
 complaint_or (Conflict position) = complaint.Conflict position
 complaint_or Midstream = complaint.Conflict (pos 0)
+complaint_or (Gap position) = complaint.Conflict position
 
 abbrev told_as : RemarkValue → Objection
 told_as r = objection_about r (complaint_or r.what)
@@ -281,6 +282,7 @@ first_objects all (t ∷ ts) o each =
     sym (subst (AllByRecursion IsObjection) is kept).0
 
 pub tells_the_first : JudgeTellsTheFirst
-tells_the_first assets readings told are rising syn order =
+tells_the_first assets readings told are rising syn in_order =
+    let order : AreInOrder (remarks_on assets readings) told = subst (λ rs. AreInOrder rs told) (append-nil (remarks_on assets readings)) in_order in
     all_first assets None readings are rising syn ∙ told_first (remarks_on assets readings) told order
     ∙ first_objects (remarks_on assets readings) told order (all_object assets readings syn)

@@ -1,4 +1,5 @@
 mod Alls
+mod Behind
 mod First
 mod FirstUnits
 mod Fronts

@@ -19,7 +19,7 @@ use Rattle.cf_judge.specs.declared.ruling.Ruling.{Ruling}
 use Rattle.cf_judge.specs.declared.front.Reader.{Reader}
 use Rattle.cf_review.specs.Remark.{Broken, RemarkValue}
 use Rattle.cf_review.specs.FirstUnit.{AreReadParts, IsReadPart, IsReadPartAt, IsReadPartBy, from_place}
-use Rattle.cf_review.specs.Review.{AddsReview, AddsUnits, conflict_remarks, end_remarks, flow_remarks, midstream_remarks, remark_on, remarks_by, remarks_on, unit_remarks}
+use Rattle.cf_review.specs.Review.{AddsReview, AddsUnits, AreReviewed, conflict_remarks, end_remarks, flow_remarks, midstream_remarks, remark_on, remarks_by, remarks_on, unit_remarks}
 use Rattle.cf_policy.specs.declared.Protocol.{Protocol}
 
 -- with these units in front, those from a place on are those of the flow; the remarks on these units stand after some others
@@ -181,14 +181,7 @@ adds_review asset f place start first second now admitted part one two units =
 
 -- ---- flows that were reviewed so far
 
-pub record ReviewedSoFar (assets : List Asset) (flows : List FlowValue) (admitted : ℕ) (remarks : List RemarkValue) : Type 0 where
-  pub readings : List Reading
-  pub of_flows : AreReadParts assets flows (map (λ r. r.flow) readings)
-  pub are_read : AreReadBy assets readings
-  pub admitted_is : admitted ≡ commands_in 0 readings
-  pub remarks_are : remarks ≡ remarks_on assets readings
-
-commands_more : (count : ℕ) (rs : List Reading) (r : Reading) → commands_in count (rs ++ r ∷ []) ≡ min (commands_in count rs + admitted_in r.judged) (2 ^ 64 - 1)
+pub commands_more : (count : ℕ) (rs : List Reading) (r : Reading) → commands_in count (rs ++ r ∷ []) ≡ min (commands_in count rs + admitted_in r.judged) (2 ^ 64 - 1)
 commands_more count [] r = refl
 commands_more count (s ∷ rs) r = commands_more (min (count + admitted_in s.judged) (2 ^ 64 - 1)) rs r
 
@@ -202,7 +195,7 @@ remarks_more assets (s ∷ rs) r =
     ap (λ xs. remarks_by (slice_get assets s.flow.asset) s ++ xs) (remarks_more assets rs r)
     ∙ sym (append_assoc (remarks_by (slice_get assets s.flow.asset) s) (remarks_on assets rs) (remarks_by (slice_get assets r.flow.asset) r))
 
-pub reviewed_first : (assets : List Asset) (remarks : List RemarkValue) → remarks ≡ [] → ReviewedSoFar assets [] 0 remarks
+pub reviewed_first : (assets : List Asset) (remarks : List RemarkValue) → remarks ≡ [] → AreReviewed assets [] 0 remarks
 reviewed_first assets remarks none = record { readings = []; of_flows = refl; are_read = tt; admitted_is = refl; remarks_are = none }
 
 parts_more : (assets : List Asset) (fs rs : List FlowValue) (f r : FlowValue) → AreReadParts assets fs rs → IsReadPartAt (slice_get assets f.asset) f r → AreReadParts assets (fs ++ f ∷ []) (rs ++ r ∷ [])
@@ -211,12 +204,12 @@ parts_more assets (g ∷ fs) [] f r are is = absurd are
 parts_more assets (g ∷ fs) (s ∷ rs) f r are is = (are.0, parts_more assets fs rs f r are.1 is)
 
 -- it is a flow to the same asset
-same_asset : (protocol : Protocol) (midstream : Option ℕ) (f read : FlowValue) → IsReadPartBy protocol midstream f read → read.asset ≡ f.asset
+pub same_asset : (protocol : Protocol) (midstream : Option ℕ) (f read : FlowValue) → IsReadPartBy protocol midstream f read → read.asset ≡ f.asset
 same_asset protocol None f read is = ap (λ (x : FlowValue). x.asset) is
 same_asset protocol (Some number) f read is = ap (λ (x : FlowValue). x.asset) is.2
 
 pub reviewed_on : (assets : List Asset) (flows : List FlowValue) (admitted more : ℕ) (old new : List RemarkValue) (f : FlowValue) (asset : Asset) →
-    ReviewedSoFar assets flows admitted old → slice_get assets f.asset ≡ Some asset → AddsReview asset f old new more → ReviewedSoFar assets (flows ++ f ∷ []) (min (admitted + more) (2 ^ 64 - 1)) new
+    AreReviewed assets flows admitted old → slice_get assets f.asset ≡ Some asset → AddsReview asset f old new more → AreReviewed assets (flows ++ f ∷ []) (min (admitted + more) (2 ^ 64 - 1)) new
 reviewed_on assets flows admitted more old new f asset so at is =
     let r : Reading = record { flow = is.read; judged = is.judged; ending = is.ending } in
     let there : slice_get assets is.read.asset ≡ Some asset = ap (slice_get assets) (same_asset asset.protocol f.midstream f is.read is.is_part) ∙ at in

@@ -2,7 +2,7 @@
 use Rattle.std.specs.Prelude.{◌==◌, ◌+◌, ◌-◌, ◌^◌, ℕ, Bool, List, count_by, map, min}
 use Rattle.cf_policy.specs.declared.Decider.{Decider}
 use Rattle.cf_policy.specs.declared.Decider.TheVariants as decider
-use Rattle.cf_review.specs.Remark.{Broken, Conflict, MatterValue, Midstream, Refused, RemarkValue, Stray, remark_value}
+use Rattle.cf_review.specs.Remark.{Broken, Conflict, Gap, MatterValue, Midstream, Refused, RemarkValue, Stray, remark_value}
 use Rattle.cf_review.specs.declared.counting.Counts.{Counts}
 use Rattle.cf_review.specs.declared.counting.Kind.{Kind}
 use Rattle.cf_review.specs.declared.counting.Kind.TheVariants as kind
@@ -23,6 +23,7 @@ kind_of (Stray because) = kind.Stray
 kind_of (Conflict position) = kind.Conflict
 kind_of (Broken reason) = kind.Broken
 kind_of Midstream = kind.Midstream
+kind_of (Gap position) = kind.Gap
 
 -- the place of a kind among all
 abbrev pub kind_number : Kind → ℕ
@@ -34,6 +35,7 @@ kind_number kind.Stray = 4
 kind_number kind.Conflict = 5
 kind_number kind.Broken = 6
 kind_number kind.Midstream = 7
+kind_number kind.Gap = 8
 
 -- the remark is of this kind
 abbrev pub is_kind : Kind → MatterValue → Bool

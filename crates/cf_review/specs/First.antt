@@ -13,16 +13,17 @@ use Rattle.cf_watch.specs.FlowValue.{FlowValue}
 use Rattle.cf_watch.specs.Seen.{seen_by}
 use Rattle.cf_watch.specs.declared.Scope.{Scope}
 use Rattle.cf_review.specs.FirstUnit.{AreReadParts}
-use Rattle.cf_review.specs.Remark.{Broken, Conflict, MatterValue, Midstream, Refused, RemarkValue, Stray}
-use Rattle.cf_review.specs.Review.{AreInOrder, remarks_on}
+use Rattle.cf_review.specs.Remark.{Broken, Conflict, Gap, MatterValue, Midstream, Refused, RemarkValue, Stray}
+use Rattle.cf_review.specs.Review.{AreInOrder, all_remarks}
 
--- what the judge tells of what is remarked; it has no flow that begins amid its stream
+-- what the judge tells of what is remarked; it has no flow that begins amid its stream, and reads none behind a gap
 abbrev pub complaint_by : MatterValue → Option Complaint
 complaint_by (Refused refusal octets) = Some (complaint.Refused refusal.decider refusal.reason)
 complaint_by (Stray because) = Some (complaint.Stray because)
 complaint_by (Broken reason) = Some (complaint.Broken reason)
 complaint_by (Conflict position) = Some (complaint.Conflict position)
 complaint_by Midstream = None
+complaint_by (Gap position) = None
 
 -- an objection with the record, the client and the asset of a remark
 abbrev pub objection_about : RemarkValue → Complaint → Objection
@@ -53,10 +54,10 @@ BytesComeInOrder =
 abbrev pub BeginsWithSyn : FlowValue → Type 0
 BeginsWithSyn f = f.midstream ≡ None
 
--- the judge's objection to flows that begin with a SYN and are read so is the first remark of a review
+-- the judge's objection to flows that begin with a SYN, are read so, and have no other stretches is the first remark of a review
 abbrev pub JudgeTellsTheFirst : Type 0
 JudgeTellsTheFirst =
     (assets : List Asset) (readings : List Reading) (told : List RemarkValue) → AreReadBy assets readings
     → AllByRecursion (λ r. IsRising r.flow) readings →
-    AllByRecursion (λ r. BeginsWithSyn r.flow) readings → AreInOrder (remarks_on assets readings) told →
+    AllByRecursion (λ r. BeginsWithSyn r.flow) readings → AreInOrder (all_remarks assets readings []) told →
     objection_to None readings ≡ option_and_then objection_by (first_of told)

@@ -10,7 +10,7 @@ use Rattle.cf_policy.specs.declared.Asset.{Asset}
 use Rattle.cf_view.specs.Text.{endpoint_text, moment_text}
 use Rattle.cf_view.specs.declared.Endpoint.{Endpoint}
 use Rattle.cf_view.specs.declared.Side.TheVariants as side
-use Rattle.cf_review.specs.Remark.{Broken, Conflict, MatterValue, Midstream, Refused, RemarkValue, Stray}
+use Rattle.cf_review.specs.Remark.{Broken, Conflict, Gap, MatterValue, Midstream, Refused, RemarkValue, Stray}
 
 -- a line of other words about a client of an asset
 abbrev pub other_line : Asset → Endpoint → (moment : ℕ) → (words : List ℕ) → List ℕ
@@ -24,6 +24,7 @@ matter_line asset client moment (Stray because) = line_about asset client moment
 matter_line asset client moment (Broken reason) = other_line asset client moment (codes "broken " ++ break_name reason)
 matter_line asset client moment (Conflict position) = other_line asset client moment (codes "conflict " ++ signed_decimal position)
 matter_line asset client moment Midstream = other_line asset client moment (codes "begins midstream")
+matter_line asset client moment (Gap position) = other_line asset client moment (codes "gap " ++ signed_decimal position)
 
 -- the stamp of the record of a number, counted from 1
 abbrev pub stamp_of : (stamps : List ℕ) → (record_number : ℕ) → ℕ

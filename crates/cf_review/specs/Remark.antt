@@ -9,13 +9,14 @@ use Rattle.cf_review.specs.declared.remark.Matter.TheVariants as matter
 use Rattle.cf_review.specs.declared.remark.Remark.{Remark}
 
 -- a refused command with its first octets; what is stray; an octet that no unit has there; two letters at one position; a flow that
--- begins amid its stream
+-- begins amid its stream; the position at which the first bytes of a flow end, where it has others
 pub data MatterValue : Type 0 where
   Refused : Refusal → (octets : List ℕ) → MatterValue
   Stray : Why → MatterValue
   Broken : Break → MatterValue
   Conflict : ℤ → MatterValue
   Midstream : MatterValue
+  Gap : ℤ → MatterValue
 
 -- the number of its record, its client, the place of its asset in the policy, and what is objected to
 pub record RemarkValue : Type 0 where
@@ -31,6 +32,7 @@ matter_value (matter.Stray because) = Stray because
 matter_value (matter.Broken reason) = Broken reason
 matter_value (matter.Conflict position) = Conflict position
 matter_value matter.Midstream = Midstream
+matter_value (matter.Gap position) = Gap position
 
 -- a remark, without where its octets lie in memory
 abbrev pub remark_value : Remark → RemarkValue

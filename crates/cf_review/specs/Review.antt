@@ -1,6 +1,7 @@
 -- All that is objected to in flows, in the order of the records: IsReviewOf. In one record it comes first that a flow begins amid its
--- stream, then a conflict, then the items of the flow, in the order of the bytes; and flows come in their order.
-use Rattle.std.specs.Prelude.{◌≡◌, ◌==◌, ℕ, Bool, List, [], ◌∷◌, ◌++◌, length, map, take, slice_get, Option, Some, None}
+-- stream, then a conflict, then the items of the flow, in the order of the bytes; and flows come in their order. Behind all flows come their
+-- other stretches, of each first the gap.
+use Rattle.std.specs.Prelude.{◌≡◌, ◌==◌, ℕ, ℤ, Bool, List, [], ◌∷◌, ◌++◌, length, map, take, slice_get, Option, Some, None}
 use Rattle.std.specs.List.{filter, flat_map}
 use Rattle.std.specs.List.Sorted.{IsNonDecreasingBy}
 use Rattle.cf_lane.specs.Item.{Broke, Ended, Item, Took}
@@ -9,12 +10,12 @@ use Rattle.cf_lane.specs.Log.{command_octets}
 use Rattle.cf_lane.specs.declared.fate.Fate.{Fate}
 use Rattle.cf_lane.specs.declared.fate.Fate.TheVariants as fate
 use Rattle.cf_policy.specs.declared.Asset.{Asset}
-use Rattle.cf_watch.specs.FlowValue.{FlowValue}
+use Rattle.cf_watch.specs.FlowValue.{FlowValue, StretchValue}
 use Rattle.cf_watch.specs.declared.flow.Conflict.{Conflict as ConflictOf}
-use Rattle.cf_judge.specs.Objections.{AreReadBy, Reading, admitted_in, commands_in}
+use Rattle.cf_judge.specs.Objections.{AreReadBy, IsReadBy, Reading, admitted_in, commands_in}
 use Rattle.cf_judge.specs.Plain.{AreRead, Breaks, Ending, Whole}
-use Rattle.cf_review.specs.FirstUnit.{AreReadParts, IsReadPart}
-use Rattle.cf_review.specs.Remark.{Broken, Conflict, MatterValue, Midstream, Refused, RemarkValue, Stray, remark_value}
+use Rattle.cf_review.specs.FirstUnit.{AreReadParts, IsReadPart, IsReadPartAt}
+use Rattle.cf_review.specs.Remark.{Broken, Conflict, Gap, MatterValue, Midstream, Refused, RemarkValue, Stray, remark_value}
 use Rattle.cf_review.specs.declared.remark.TheConstants.{SHOWN}
 use Rattle.cf_review.specs.declared.reviewing.Reviewed.{Reviewed}
 
@@ -88,6 +89,77 @@ remarks_by (Some asset) r = flow_remarks asset r.flow r.judged r.ending
 abbrev pub remarks_on : List Asset → List Reading → List RemarkValue
 remarks_on assets readings = flat_map (λ r. remarks_by (slice_get assets r.flow.asset) r) readings
 
+-- ---- the other stretches of flows
+
+-- a stretch that is read, and the position of the gap where it tells one
+pub record StretchReading : Type 0 where
+  pub gap : Option ℤ
+  pub reading : Reading
+
+-- the remark on a gap, with the record with which reading goes on
+abbrev pub gap_remarks : FlowValue → (gap : Option ℤ) → (begins : Option ℕ) → List RemarkValue
+gap_remarks f None begins = []
+gap_remarks f (Some position) None = []
+gap_remarks f (Some position) (Some number) = remark_on f number (Gap position) ∷ []
+
+-- the remarks on a stretch whose bytes are these units and this ending
+abbrev pub stretch_remarks : Asset → StretchReading → List RemarkValue
+stretch_remarks asset b =
+    gap_remarks b.reading.flow b.gap b.reading.flow.midstream
+    ++ (in_turn (unit_remarks asset b.reading.flow) [] b.reading.judged ++ end_remarks b.reading.flow b.reading.ending)
+
+-- the remarks on a stretch of a flow to the asset at its place
+abbrev pub stretch_remarks_by : Option Asset → StretchReading → List RemarkValue
+stretch_remarks_by None b = []
+stretch_remarks_by (Some asset) b = stretch_remarks asset b
+
+-- the remarks on all stretches, one after the other
+abbrev pub remarks_behind : List Asset → List StretchReading → List RemarkValue
+remarks_behind assets behind = flat_map (λ b. stretch_remarks_by (slice_get assets b.reading.flow.asset) b) behind
+
+-- a stretch can be read so, from its first unit on
+abbrev pub IsReadStretch : List Asset → StretchValue → StretchReading → Type 0
+IsReadStretch assets s b =
+    (b.gap ≡ s.gap) × IsReadPartAt (slice_get assets s.flow.asset) s.flow b.reading.flow
+    × IsReadBy (slice_get assets b.reading.flow.asset) b.reading
+
+-- stretch by stretch
+abbrev pub AreReadStretches : List Asset → List StretchValue → List StretchReading → Type 0
+AreReadStretches assets [] behind = behind ≡ []
+AreReadStretches assets (s ∷ stretches) [] = ⊥
+AreReadStretches assets (s ∷ stretches) (b ∷ behind) = IsReadStretch assets s b × AreReadStretches assets stretches behind
+
+-- the part of a stretch that is read is some units and an ending, and these are the remarks after others on it, with so many commands allowed
+pub record AddsStretch (asset : Asset) (s : StretchValue) (old new : List RemarkValue) (admitted : ℕ) : Type 0 where
+  pub behind : StretchReading
+  pub gap : behind.gap ≡ s.gap
+  pub is_part : IsReadPart asset.protocol s.flow behind.reading.flow
+  pub are_read : AreRead asset behind.reading.flow.client.address [] behind.reading.flow.bytes behind.reading.flow.born behind.reading.judged
+      behind.reading.ending
+  pub admitted_is : admitted ≡ admitted_in behind.reading.judged
+  pub remarks : new ≡ old ++ stretch_remarks asset behind
+
+-- the stretches can be read so, and these are the remarks after others on them, and the commands that are allowed, those of before included
+pub record AddsStretches (assets : List Asset) (stretches : List StretchValue) (before : ℕ) (old new : List RemarkValue) (admitted : ℕ) : Type 0 where
+  pub behind : List StretchReading
+  pub are_read : AreReadStretches assets stretches behind
+  pub admitted_is : admitted ≡ commands_in before (map (λ b. b.reading) behind)
+  pub remarks : new ≡ old ++ remarks_behind assets behind
+
+-- the flows, each from where it is read on, can be read so, these are the remarks on them, and so many commands are allowed
+pub record AreReviewed (assets : List Asset) (flows : List FlowValue) (admitted : ℕ) (remarks : List RemarkValue) : Type 0 where
+  pub readings : List Reading
+  pub of_flows : AreReadParts assets flows (map (λ r. r.flow) readings)
+  pub are_read : AreReadBy assets readings
+  pub admitted_is : admitted ≡ commands_in 0 readings
+  pub remarks_are : remarks ≡ remarks_on assets readings
+
+-- ---- all of it
+
+-- the remarks on all flows, and those on their other stretches
+abbrev pub all_remarks : List Asset → List Reading → List StretchReading → List RemarkValue
+all_remarks assets readings behind = remarks_on assets readings ++ remarks_behind assets behind
+
 -- the remark is of the record of this number
 abbrev pub is_at : (record_number : ℕ) → RemarkValue → Bool
 is_at number r = r.at_record == number
@@ -97,11 +169,13 @@ pub record AreInOrder (all told : List RemarkValue) : Type 0 where
   pub rising : IsNonDecreasingBy (λ r. r.at_record) told
   pub of_each : (number : ℕ) → filter (is_at number) told ≡ filter (is_at number) all
 
--- the flows, each from where it is read on, can be read so, and this is all that is objected to in them
-pub record IsReviewOf (assets : List Asset) (flows : List FlowValue) (r : Reviewed) : Type 0 where
+-- the flows and their other stretches, each from where it is read on, can be read so, and this is all that is objected to in them
+pub record IsReviewOf (assets : List Asset) (flows : List FlowValue) (stretches : List StretchValue) (r : Reviewed) : Type 0 where
   pub readings : List Reading
   pub of_flows : AreReadParts assets flows (map (λ x. x.flow) readings)
   pub are_read : AreReadBy assets readings
   pub counts : r.flows ≡ length flows
-  pub admitted : r.admitted ≡ commands_in 0 readings
-  pub remarks : AreInOrder (remarks_on assets readings) (map remark_value r.remarks.items)
+  pub behind : List StretchReading
+  pub are_read_behind : AreReadStretches assets stretches behind
+  pub admitted : r.admitted ≡ commands_in (commands_in 0 readings) (map (λ b. b.reading) behind)
+  pub remarks : AreInOrder (all_remarks assets readings behind) (map remark_value r.remarks.items)

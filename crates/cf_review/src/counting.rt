@@ -20,6 +20,8 @@ pub(crate) enum Kind {
     Broken,
     /// A flow that begins amid its stream.
     Midstream,
+    /// A flow with bytes that do not follow on its first ones.
+    Gap,
 }
 
 /// How much there is in a review.
@@ -106,6 +108,7 @@ fn kind_of(what: &Matter) -> Kind
         Matter::Conflict(_) => Kind::Conflict,
         Matter::Broken(_) => Kind::Broken,
         Matter::Midstream => Kind::Midstream,
+        Matter::Gap(_) => Kind::Gap,
     }
 }
 
@@ -134,5 +137,6 @@ fn number(kind: Kind) -> u8
         Kind::Conflict => 5,
         Kind::Broken => 6,
         Kind::Midstream => 7,
+        Kind::Gap => 8,
     }
 }

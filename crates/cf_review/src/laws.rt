@@ -3,8 +3,8 @@ ghost use Rattle.cf_review.specs.First.{BytesComeInOrder, JudgeTellsTheFirst};
 ghost use Rattle.cf_review.specs.Fronts.{RecordsComeFirst};
 ghost use Rattle.cf_review.specs.SynFlows.{SynFlowsAreWatched};
 
-/// Of flows that begin with a SYN, and whose bytes came in the order of the records, the judge's objection is the first remark of a
-/// review, and there is none where a review has none.
+/// Of flows that begin with a SYN and have no bytes behind a gap, and whose bytes came in the order of the records, the judge's objection
+/// is the first remark of a review, and there is none where a review has none.
 pub fn judge_tells_the_first()
     ensures { JudgeTellsTheFirst }
 {}

@@ -26,6 +26,8 @@ pub enum Matter {
     Conflict(i64),
     /// The flow begins amid its stream: the capture has no SYN of it.
     Midstream,
+    /// The first bytes of the flow end at this position, and it has others that do not follow on them.
+    Gap(i64),
 }
 
 /// Something in a recording that a policy objects to.

@@ -8,11 +8,12 @@ ghost use Rattle.cf_judge.specs.Front.{HasWhole, IsReaderOf};
 ghost use Rattle.cf_judge.specs.Plain.{HasPlainFate, completed_in};
 ghost use Rattle.cf_judge.specs.Ruling.{ruling_of};
 ghost use Rattle.cf_policy.specs.Within.{AreAssetsWithin, IsAssetWithin};
-ghost use Rattle.cf_watch.specs.FlowValue.{IsForAsset, flow_value};
+ghost use Rattle.cf_watch.specs.FlowValue.{AreStretchesFor, IsForAsset, flow_value, stretch_value};
 ghost use Rattle.cf_review.specs.Remark.{matter_value, remark_value};
 ghost use Rattle.cf_review.specs.declared.remark.TheConstants.{SHOWN};
 ghost use Rattle.cf_review.specs.FirstUnit.{from_place};
-ghost use Rattle.cf_review.specs.Review.{AddsReview, AddsUnits, IsReviewOf, conflict_remarks, midstream_remarks, remark_on, unit_remarks};
+ghost use Rattle.cf_review.specs.Review.{AddsReview, AddsStretch, AddsStretches, AddsUnits, AreReviewed, IsReviewOf, conflict_remarks, gap_remarks};
+ghost use Rattle.cf_review.specs.Review.{midstream_remarks, remark_on, unit_remarks};
 
 use crate::first_unit::first_place;
 use crate::remark::{Matter, Remark, SHOWN};
@@ -20,7 +21,7 @@ use arrayvec::ArrayVec;
 use cf_judge::{Front, Reader, Ruling};
 use cf_policy::{Asset, Policy};
 use cf_view::{NoMemory, View, push_view};
-use cf_watch::Flow;
+use cf_watch::{Flow, Stretch};
 use std::alloc::Global;
 
 /// What a policy says of all flows.
@@ -34,20 +35,22 @@ pub struct Reviewed {
 }
 
 /// Judges flows, each of which is to an asset of the policy, and keeps all that the policy objects to. A flow that begins amid its stream
-/// is
-/// told, and read from its first unit on. Rates and the numbers of IEC 60870-5-104 are not judged. The flows are those of a whole capture.
-pub fn review(alloc: Global, policy: &Policy, flows: &[Flow]) -> Result<Reviewed, NoMemory>
+/// is told, and read from its first unit on. So is each other stretch of a flow, the first of which tells the gap. Rates and the numbers of
+/// IEC 60870-5-104 are not judged. The flows and the stretches are those of a whole capture.
+pub fn review(
+    alloc: Global,
+    policy: &Policy,
+    flows: &[Flow],
+    stretches: &[Stretch],
+) -> Result<Reviewed, NoMemory>
     requires within { AreAssetsWithin policy.now.assets }
     requires flows { All (IsForAsset policy.now.assets) (map flow_value flows.now) }
-    ensures reviewed { IfOk result (λ r. IsReviewOf policy.now.assets (map flow_value flows.now) r) }
+    requires stretches { AreStretchesFor policy.now.assets (map stretch_value stretches.now) }
+    ensures reviewed { IfOk result (λ r. IsReviewOf policy.now.assets (map flow_value flows.now) (map stretch_value stretches.now) r) }
 {
-    let assets = policy.assets.as_slice();
     let mut remarks = Vec::new(alloc);
-    let mut admitted: u64 = 0;
-    for flow in flows {
-        let more = review_flow(alloc, &assets[flow.asset as usize], flow, &mut remarks)?;
-        admitted = admitted.saturating_add(more);
-    }
+    let of_flows = review_flows(alloc, policy, flows, &mut remarks)?;
+    let admitted = review_stretches(alloc, policy, stretches, of_flows, &mut remarks)?;
     if remarks.sort_by_key(|remark| remark.at_record).is_err() {
         return Err(NoMemory);
     }
@@ -56,6 +59,67 @@ pub fn review(alloc: Global, policy: &Policy, flows: &[Flow]) -> Result<Reviewed
         admitted,
         remarks,
     })
+}
+
+/// Adds the remarks on flows where none are yet, and answers how many of their commands are allowed.
+fn review_flows(
+    alloc: Global,
+    policy: &Policy,
+    flows: &[Flow],
+    remarks: &mut Vec<Remark>,
+) -> Result<u64, NoMemory>
+    requires within { AreAssetsWithin policy.now.assets }
+    requires flows { All (IsForAsset policy.now.assets) (map flow_value flows.now) }
+    requires none { remarks.old.items ≡ [] }
+    ensures { IfOk result (λ admitted. AreReviewed policy.now.assets (map flow_value flows.now) admitted (map remark_value remarks.new.items)) }
+{
+    let assets = policy.assets.as_slice();
+    let mut admitted: u64 = 0;
+    for flow in flows {
+        let more = review_flow(alloc, &assets[flow.asset as usize], flow, remarks)?;
+        admitted = admitted.saturating_add(more);
+    }
+    Ok(admitted)
+}
+
+/// Adds the remarks on the other stretches of flows, and answers how many commands are allowed, with those of before.
+fn review_stretches(
+    alloc: Global,
+    policy: &Policy,
+    stretches: &[Stretch],
+    before: u64,
+    remarks: &mut Vec<Remark>,
+) -> Result<u64, NoMemory>
+    requires within { AreAssetsWithin policy.now.assets }
+    requires stretches { AreStretchesFor policy.now.assets (map stretch_value stretches.now) }
+    ensures { IfOk result (λ admitted. AddsStretches policy.now.assets (map stretch_value stretches.now) before
+        (map remark_value remarks.old.items) (map remark_value remarks.new.items) admitted) }
+{
+    let assets = policy.assets.as_slice();
+    let mut admitted = before;
+    for stretch in stretches {
+        let asset = &assets[stretch.flow.asset as usize];
+        let more = review_stretch(alloc, asset, stretch, remarks)?;
+        admitted = admitted.saturating_add(more);
+    }
+    Ok(admitted)
+}
+
+/// Adds the remarks on a stretch of a flow to an asset, and answers how many of its commands are allowed.
+fn review_stretch(
+    alloc: Global,
+    asset: &Asset,
+    stretch: &Stretch,
+    remarks: &mut Vec<Remark>,
+) -> Result<u64, NoMemory>
+    requires within { IsAssetWithin asset.now }
+    requires born { length stretch.now.flow.born ≡ length stretch.now.flow.bytes.items }
+    ensures { IfOk result (λ admitted. AddsStretch asset.now (stretch_value stretch.now) (map remark_value remarks.old.items)
+        (map remark_value remarks.new.items) admitted) }
+{
+    add_gap(stretch, remarks)?;
+    let start = first_place(&asset.protocol, &stretch.flow);
+    review_units(alloc, asset, &stretch.flow, start, remarks)
 }
 
 /// Adds the remarks on a flow to an asset, and answers how many of its commands are allowed.
@@ -173,6 +237,20 @@ fn add_midstream(flow: &Flow, remarks: &mut Vec<Remark>) -> Result<(), NoMemory>
             add(flow, number, Matter::Midstream, remarks)?;
             Ok(())
         }
+    }
+}
+
+/// Adds the gap that a stretch tells, if it does.
+fn add_gap(stretch: &Stretch, remarks: &mut Vec<Remark>) -> Result<(), NoMemory>
+    ensures { OnOk result (map remark_value remarks.new.items ≡ map remark_value remarks.old.items
+        ++ gap_remarks (flow_value stretch.now.flow) stretch.now.gap stretch.now.flow.midstream) }
+{
+    match (stretch.gap, stretch.flow.midstream) {
+        (Some(position), Some(number)) => {
+            add(&stretch.flow, number, Matter::Gap(position), remarks)?;
+            Ok(())
+        }
+        (None, _) | (Some(_), None) => Ok(()),
     }
 }
 

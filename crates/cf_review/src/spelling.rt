@@ -61,6 +61,7 @@ fn spell_matter(
         Matter::Broken(reason) => spell_broken(asset, client, moment, *reason, line),
         Matter::Conflict(position) => spell_conflict(asset, client, moment, *position, line),
         Matter::Midstream => spell_midstream(asset, client, moment, line),
+        Matter::Gap(position) => spell_gap(asset, client, moment, *position, line),
     }
 }
 
@@ -149,6 +150,23 @@ fn spell_midstream(asset: &Asset, client: Endpoint, moment: u64, line: &mut Arra
 {
     begin_line(asset, client, moment, line);
     line.push_str("begins midstream\n");
+}
+
+/// Writes that the first bytes of a flow end and others do not follow on them.
+fn spell_gap(
+    asset: &Asset,
+    client: Endpoint,
+    moment: u64,
+    position: i64,
+    line: &mut ArrayString<256>,
+)
+    ensures bytes { line.new.bytes ≡ other_line asset.now client moment (codes "gap " ++ signed_decimal position) }
+    ensures short { array_string_len line.new ≤ 256 }
+{
+    begin_line(asset, client, moment, line);
+    line.push_str("gap ");
+    push_signed(line, position);
+    line.push_str("\n");
 }
 
 /// Writes a moment, a client and an asset.

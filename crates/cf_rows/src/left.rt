@@ -104,7 +104,7 @@ fn ends(
     if is_service(words) {
         serve_main(book.alloc, spelled, files, out, links)
     } else {
-        box_main(book.alloc, spelled, files, out, pair)
+        box_main(book.alloc, spelled, files, out, pair, &mut None)
     }
 }
 

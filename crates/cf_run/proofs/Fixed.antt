@@ -157,5 +157,5 @@ runs_fixed law assets limit given out other_out log other_log summary other_summ
     let same : r.events ≡ q.events = events_fixed law assets limit r.events q.events r.are q.are (r.are_inputs ∙ sym q.are_inputs) in (
       r.capture ∙ ap (λ es. capture_of (sent es)) same ∙ sym q.capture,
       r.lines ∙ ap (λ es. concat (logged es)) same ∙ sym q.lines,
-      r.counts ∙ ap summary_of same ∙ sym q.counts,
+      r.counts ∙ ap (summary_of assets) same ∙ sym q.counts,
     )

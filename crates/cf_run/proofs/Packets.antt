@@ -1,5 +1,6 @@
 -- The second half of an event, by what the packet is to the table.
 use Rattle.std.proofs.Common.{◌≡◌, ℕ, ◌-◌, List, [], Option, refl, sym, ◌∙◌, subst}
+use Rattle.cf_lane.specs.Judged.{one_if}
 use Rattle.cf_packet.specs.Packet.{PacketValue}
 use Rattle.cf_policy.specs.declared.Asset.{Asset}
 use Rattle.cf_session.specs.Session.{Flow}
@@ -7,6 +8,7 @@ use Rattle.cf_session.specs.Told.{Told, with_both}
 use Rattle.cf_view.specs.declared.Side.{Side}
 use Rattle.cf_run.specs.Engine.{AreAll}
 use Rattle.cf_run.specs.Entries.{entry_match}
+use Rattle.cf_run.specs.Fitting.{is_between_others}
 use Rattle.cf_run.specs.Receiving.{AreTicked, BeginsOne, GoesOne, Receiving}
 use Rattle.cf_run.specs.Table.{Begins, Session, match_of}
 use Rattle.cf_run.specs.Trace.{Begun, NoRoom, NoSession, Received, Receives, Went}
@@ -51,11 +53,11 @@ module _ (assets : List Asset) (limit now : ℕ) (packet : PacketValue) (before 
         let receives = subst (λ x. Receives limit (now - 1) table packet x NoRoom) (sym m) tt in
         (NoRoom, record { receives = receives; told = told_nothing; all = all_stay; counts = tt })
 
-    pub outside : entry_match assets before packet ≡ match.Outside → Answers outcome.Outside
-    outside e =
+    pub outside : (foreign : ℕ) → foreign ≡ one_if (is_between_others assets packet) → entry_match assets before packet ≡ match.Outside → Answers (outcome.Outside foreign)
+    outside foreign is e =
         let m = there assets now before table packet all match.Outside e in
         let receives = subst (λ x. Receives limit (now - 1) table packet x NoSession) (sym m) tt in
-        (NoSession, record { receives = receives; told = told_nothing; all = all_stay; counts = tt })
+        (NoSession, record { receives = receives; told = told_nothing; all = all_stay; counts = is })
 
 -- a packet that begins a session among those in memory does so at the table that they stand for
 pub begins_there : (assets : List Asset) (now : ℕ) (packet : PacketValue) (entries : List Entry) (place : ℕ) (closed : Option ℕ) →

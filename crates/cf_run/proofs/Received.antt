@@ -1,27 +1,31 @@
 -- The second half of an event, in the table.
-use Rattle.std.proofs.Common.{◌≡◌, ℕ, zero, suc, ◌-◌, ◌<◌, ◌≤◌, not, Bool, true, false, List, [], ◌∷◌, length, cond, Some, refl, sym, ap, ◌∙◌, subst, arith}
+use Rattle.std.proofs.Common.{◌≡◌, ℕ, zero, suc, ◌-◌, ◌<◌, ◌≤◌, not, Bool, true, false, ◌&&◌, List, [], ◌∷◌, length, cond, Some, None, refl, sym, ap, ◌∙◌, subst, arith}
 use Rattle.std.specs.Prelude.{filter, slice_get, slice_set}
 use Rattle.std.specs.List.{remove}
-use Rattle.std.specs.Option.{is_some}
+use Rattle.std.specs.Option.{is_none, is_some}
 use Rattle.cf_lane.specs.Judged.{one_if}
-use Rattle.cf_leg.specs.Event.{moment}
+use Rattle.cf_leg.specs.Event.{Came, Packet, moment}
 use Rattle.cf_packet.specs.Packet.{PacketValue}
 use Rattle.cf_policy.specs.declared.Asset.{Asset}
 use Rattle.cf_view.specs.declared.Side.{Side}
-use Rattle.cf_session.specs.Event.{IsTick}
+use Rattle.cf_view.specs.declared.Side.TheVariants as side
+use Rattle.cf_session.specs.Event.{IsTick, came_client, came_controller}
+use Rattle.cf_session.specs.Misfit.{misfit_of}
 use Rattle.cf_session.specs.Parts.{SessionValue}
 use Rattle.cf_session.specs.Sent.{sent_second}
-use Rattle.cf_session.specs.Session.{Flow, SessionEvent}
+use Rattle.cf_session.specs.Session.{Flow, SessionEvent, was_closed}
 use Rattle.cf_session.specs.Stands.{CountsAs, Hears, HearsBy, IsSessionOf}
 use Rattle.cf_session.specs.Told.{Told, with_both}
 use Rattle.cf_session.specs.declared.life.Life.{Life}
 use Rattle.cf_session.specs.declared.life.Life.TheVariants as life
+use Rattle.cf_session.specs.declared.misfit.Misfit.{Misfit}
 use Rattle.cf_run.specs.Engine.{AreAll, IsOne, IsOneBy, IsOneWith}
-use Rattle.cf_run.specs.Entries.{cuts_by, stays_by}
+use Rattle.cf_run.specs.Entries.{closes_by, cuts_by, stays_by}
+use Rattle.cf_run.specs.Fitting.{is_above, is_beyond, misfit_at, misfit_from, misfit_in}
 use Rattle.cf_session.specs.Work.{Work}
 use Rattle.cf_audit.specs.declared.CutReason.{CutReason}
 use Rattle.cf_run.specs.Receiving.{AreTicked, Going, HasTicked}
-use Rattle.cf_run.specs.Summary.{decided_in, work_before}
+use Rattle.cf_run.specs.Summary.{closes_at, closes_in, decided_in, work_before}
 use Rattle.cf_run.specs.Table.{Session}
 use Rattle.cf_run.specs.Trace.{GoesOnAt, Went, logged_at, replaced, stays, with_event_at}
 use Rattle.cf_run.specs.declared.entry.Entry.{Entry}
@@ -94,11 +98,20 @@ one_at assets last tick (y ∷ xs) (s ∷ ss) (suc i) x all ticked at =
 abbrev pub CountsOf : SessionValue → (Work → ℕ) → ℕ → Type 0
 CountsOf s count n = (flow : Flow) (earlier : List SessionEvent) (event : SessionEvent) → IsSessionOf flow earlier event s → n ≡ count event.work
 
+-- what does not fit in a packet of a side, read from what came at both ends
+came_from : (flow : Flow) (events : List SessionEvent) (from : Side) (packet : PacketValue) (opens : Bool) (controller client : Came) →
+    controller ≡ came_controller from packet → client ≡ came_client flow from packet opens → misfit_of flow events from packet ≡ misfit_from flow events controller client
+came_from flow events side.Client packet opens k c h g =
+    ap (λ x. misfit_from flow events x (Packet packet)) (sym h) ∙ ap (λ x. misfit_from flow events k x) (sym g)
+came_from flow events side.Controller packet opens k c h g = ap (λ x. misfit_from flow events x c) (sym h)
+
 module _ (assets : List Asset) (limit now place : ℕ) (from : Side) (packet : PacketValue) (entries : List Entry) (table : List Session) (old new : Told)
     (x : Entry) (y : SessionValue) (due : ℕ) (asset : Asset) (at : slice_get entries place ≡ Some x) (asset_at : slice_get assets x.asset ≡ Some asset)
     (all : AreAll assets now entries table) (ticked : AreTicked (now - 1) table) (some : 1 ≤ now) (admitted refused : ℕ)
     (counts_admitted : CountsOf x.session (λ w. w.admitted) admitted) (counts_refused : CountsOf x.session (λ w. w.refused) refused)
-    (now_admitted : CountsOf y (λ w. w.admitted) y.lane.admitted) (now_refused : CountsOf y (λ w. w.refused) y.lane.refused) where
+    (now_admitted : CountsOf y (λ w. w.admitted) y.lane.admitted) (now_refused : CountsOf y (λ w. w.refused) y.lane.refused)
+    (was : Bool) (knows_closed : (flow : Flow) (earlier : List SessionEvent) (event : SessionEvent) → IsSessionOf flow earlier event x.session → was ≡ was_closed flow (event ∷ earlier))
+    (misfit : Misfit) (knows_misfit : (flow : Flow) (earlier : List SessionEvent) (event : SessionEvent) → IsSessionOf flow earlier event x.session → misfit ≡ misfit_of flow (event ∷ earlier) from packet) where
   abbrev pub after : Entry
   after = record { session = y; asset = x.asset; due = due }
 
@@ -127,9 +140,22 @@ module _ (assets : List Asset) (limit now place : ℕ) (from : Side) (packet : P
     decides count before now_counts b n =
         ap (λ m. m - before) n ∙ ap (λ m. count event.work - m) (b ∙ ap count half_ticked.0.work) ∙ ap (λ o. count event.work - count (work_before o)) (sym there)
 
-    going_on : IsSessionOf flow earlier event y →
-        Going assets limit now place from packet table (slice_set entries place after) old new (outcome.Went (y.lane.admitted - admitted) (y.lane.refused - refused) 0) event
-    going_on stands =
+    fits : misfit ≡ misfit_in table (Went place event)
+    fits =
+        knows_misfit flow earlier half one.stands
+        ∙ came_from flow (half ∷ earlier) from packet _ event.controller.came event.client.came hears.is_packet.controller_came hears.is_packet.client_came
+        ∙ ap (λ o. misfit_at o event) (sym there)
+
+    closes : (c : Bool) → event.cut ≡ None → was_closed flow (event ∷ earlier) ≡ c → (c && not was) ≡ closes_in table (Went place event)
+    closes c going e =
+        ap (λ b. b && not was) (sym e) ∙ ap (λ w. was_closed flow (event ∷ earlier) && not w) (knows_closed flow earlier half one.stands)
+        ∙ ap (λ k. is_none k && (was_closed flow (event ∷ earlier) && not (was_closed flow (half ∷ earlier)))) (sym going)
+        ∙ ap (λ o. closes_at o event) (sym there)
+
+    going_on : (c : Bool) → IsSessionOf flow earlier event y → was_closed flow (event ∷ earlier) ≡ c →
+        Going assets limit now place from packet table (slice_set entries place after) old new
+        (outcome.Went (y.lane.admitted - admitted) (y.lane.refused - refused) 0 (one_if (c && not was)) (one_if (is_above misfit)) (one_if (is_beyond misfit))) event
+    going_on c stands closed =
         let next : IsOneBy assets now after flow earlier event =
         record { stands = stands; asset = one.asset; last_moment = omega (arith, hears.is_packet.client_on.0, half_ticked.0.client_tick, some) } in
         let stay : stays (record { flow = flow; events = event ∷ earlier }) ≡ true = ap (λ c. not (is_some c)) stands.going in
@@ -141,12 +167,16 @@ module _ (assets : List Asset) (limit now place : ℕ) (from : Side) (packet : P
           counts = (
             decides (λ w. w.admitted) admitted y.lane.admitted (counts_admitted flow earlier half one.stands) (now_admitted flow earlier event stands),
             decides (λ w. w.refused) refused y.lane.refused (counts_refused flow earlier half one.stands) (now_refused flow earlier event stands),
-            ap (λ c. one_if (is_some c)) (sym stands.going),
+            ap (λ k. one_if (is_some k)) (sym stands.going),
+            ap one_if (closes c stands.going closed),
+            ap (λ m. one_if (is_above m)) fits,
+            ap (λ m. one_if (is_beyond m)) fits,
           );
         }
 
     going_off : (because : CutReason) → event.cut ≡ Some because → CountsAs event y →
-        Going assets limit now place from packet table (remove entries place) old new (outcome.Went (y.lane.admitted - admitted) (y.lane.refused - refused) 1) event
+        Going assets limit now place from packet table (remove entries place) old new
+        (outcome.Went (y.lane.admitted - admitted) (y.lane.refused - refused) 1 0 (one_if (is_above misfit)) (one_if (is_beyond misfit))) event
     going_off because cut counts = record {
       goes_on = goes;
       told = says;
@@ -156,6 +186,9 @@ module _ (assets : List Asset) (limit now place : ℕ) (from : Side) (packet : P
         decides (λ w. w.admitted) admitted y.lane.admitted (counts_admitted flow earlier half one.stands) counts.admitted,
         decides (λ w. w.refused) refused y.lane.refused (counts_refused flow earlier half one.stands) counts.refused,
         ap (λ c. one_if (is_some c)) (sym cut),
+        ap one_if (ap (λ k. is_none k && (was_closed flow (event ∷ earlier) && not (was_closed flow (half ∷ earlier)))) (sym cut) ∙ ap (λ o. closes_at o event) (sym there)),
+        ap (λ m. one_if (is_above m)) fits,
+        ap (λ m. one_if (is_beyond m)) fits,
       );
     }
 
@@ -163,7 +196,7 @@ module _ (assets : List Asset) (limit now place : ℕ) (from : Side) (packet : P
   abbrev Heard : Life → Type 0
   Heard l =
       (event : SessionEvent) × Going assets limit now place from packet table (entries_by (stays_by l)) old new
-      (outcome.Went (y.lane.admitted - admitted) (y.lane.refused - refused) (one_if (cuts_by l))) event
+      (outcome.Went (y.lane.admitted - admitted) (y.lane.refused - refused) (one_if (cuts_by l)) (one_if (closes_by was l)) (one_if (is_above misfit)) (one_if (is_beyond misfit))) event
 
   abbrev AreHeard : Life → Type 0
   AreHeard l =
@@ -173,8 +206,8 @@ module _ (assets : List Asset) (limit now place : ℕ) (from : Side) (packet : P
   heard_by : (s : Session) (flow : Flow) (earlier : List SessionEvent) (half : SessionEvent) → s ≡ record { flow = flow; events = half ∷ earlier } → slice_get table place ≡ Some s → place < length table →
       IsOneBy assets now x flow earlier half → HasTicked (now - 1) flow (half ∷ earlier) → (l : Life) → HearsBy flow limit earlier half from packet y old new l → Heard l
   heard_by s flow earlier half is here within one half_ticked life.Expired h = absurd h
-  heard_by s flow earlier half is here within one half_ticked life.Live h = (h.0, going_on s flow earlier half is here within one half_ticked h.0 h.1 h.2.stands)
-  heard_by s flow earlier half is here within one half_ticked life.Closed h = (h.0, going_on s flow earlier half is here within one half_ticked h.0 h.1 h.2.stands)
+  heard_by s flow earlier half is here within one half_ticked life.Live h = (h.0, going_on s flow earlier half is here within one half_ticked h.0 h.1 false h.2.stands h.2.is_closed)
+  heard_by s flow earlier half is here within one half_ticked life.Closed h = (h.0, going_on s flow earlier half is here within one half_ticked h.0 h.1 true h.2.stands h.2.is_closed)
   heard_by s flow earlier half is here within one half_ticked (life.Cut because) h =
       (h.0, going_off s flow earlier half is here within one half_ticked h.0 h.1 because h.2 h.3)
 
@@ -188,13 +221,14 @@ module _ (assets : List Asset) (limit now place : ℕ) (from : Side) (packet : P
       heard_by s flow earlier half is here within one half_ticked l (hears flow earlier half served one.stands is_tick (omega (arith, tick, some)))
 
   -- the same in the numbers of the code
-  pub heard_as : (l : Life) → AreHeard l → (stay : Bool) → stays_by l ≡ stay → (more_admitted more_refused cut : ℕ) →
+  pub heard_as : (l : Life) → AreHeard l → (stay : Bool) → stays_by l ≡ stay → (more_admitted more_refused cut closed above beyond : ℕ) →
       more_admitted ≡ y.lane.admitted - admitted → more_refused ≡ y.lane.refused - refused → cut ≡ one_if (cuts_by l) →
-      (event : SessionEvent) × Going assets limit now place from packet table (entries_by stay) old new (outcome.Went more_admitted more_refused cut) event
-  heard_as l hears stay is a r n ea er en =
+      closed ≡ one_if (closes_by was l) → above ≡ one_if (is_above misfit) → beyond ≡ one_if (is_beyond misfit) →
+      (event : SessionEvent) × Going assets limit now place from packet table (entries_by stay) old new (outcome.Went more_admitted more_refused cut closed above beyond) event
+  heard_as l hears stay is a r n k u v ea er en ek eu ev =
       let o = one_at assets now (now - 1) entries table place x all ticked at in
       let h = heard_in o.0 o.0.flow o.0.events refl o.1 o.2 o.3 o.4 l hears in (
         h.0,
-        rw (ea, er, en) (subst (λ b. Going assets limit now place from packet table (entries_by b) old new
-            (outcome.Went (y.lane.admitted - admitted) (y.lane.refused - refused) (one_if (cuts_by l))) h.0) is h.1),
+        rw (ea, er, en, ek, eu, ev) (subst (λ b. Going assets limit now place from packet table (entries_by b) old new
+            (outcome.Went (y.lane.admitted - admitted) (y.lane.refused - refused) (one_if (cuts_by l)) (one_if (closes_by was l)) (one_if (is_above misfit)) (one_if (is_beyond misfit))) h.0) is h.1),
       )

@@ -91,7 +91,7 @@ steps_on assets now packet before after old new happened same_limit is_last coun
           rises = (omega (arith, later, h.last, is_moment), h.rises);
           last = is_moment ∙ sym is_last;
           all = subst (λ n. AreAll assets n after.table (table_after (s.0 ∷ events))) (sym is_last) all;
-          counts = counts ∙ ap (λ x. counted x happened) h.counts ∙ counts_on events s.0 happened s.1.counts;
+          counts = counts ∙ ap (λ x. counted x happened) h.counts ∙ counts_on assets events s.0 happened s.1.counts;
         };
         told = s.1.told;
       },

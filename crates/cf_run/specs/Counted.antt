@@ -14,10 +14,16 @@ plus count more = capped (count + more)
 abbrev pub counted_outcome : Summary → Outcome → Summary
 counted_outcome s outcome.Dropped = record s { dropped = plus s.dropped 1 }
 counted_outcome s outcome.Full = record s { full = plus s.full 1 }
-counted_outcome s outcome.Outside = record s { outside = plus s.outside 1 }
+counted_outcome s (outcome.Outside foreign) = record s { outside = plus s.outside 1; foreign = plus s.foreign foreign }
 counted_outcome s outcome.Begun = record s { sessions = plus s.sessions 1 }
-counted_outcome s (outcome.Went admitted refused cuts) =
-    record s { admitted = plus s.admitted admitted; refused = plus s.refused refused; cuts = plus s.cuts cuts }
+counted_outcome s (outcome.Went admitted refused cuts closed above beyond) = record s {
+  admitted = plus s.admitted admitted;
+  refused = plus s.refused refused;
+  cuts = plus s.cuts cuts;
+  closed = plus s.closed closed;
+  above = plus s.above above;
+  beyond = plus s.beyond beyond;
+}
 
 -- the whole event
 abbrev pub counted : Summary → Happened → Summary

@@ -1,6 +1,6 @@
 -- What the code makes of the sessions in memory, `entry_match`: where one stands, and what a packet is to them. It is what `Table` says
 -- of the sessions that they stand for.
-use Rattle.std.specs.Prelude.{ℕ, ◌-◌, nat_lt, Bool, true, false, ◌&&◌, if◌then◌else◌, List, length, position, slice_get, Option, Some, None}
+use Rattle.std.specs.Prelude.{ℕ, ◌-◌, nat_lt, not, Bool, true, false, ◌&&◌, if◌then◌else◌, List, length, position, slice_get, Option, Some, None}
 use Rattle.std.specs.List.{remove}
 use Rattle.std.specs.Option.{is_some}
 use Rattle.cf_policy.specs.AtEndpoint.{asset_place}
@@ -29,6 +29,13 @@ cuts_by (life.Cut because) = true
 cuts_by life.Live = false
 cuts_by life.Closed = false
 cuts_by life.Expired = false
+
+-- a session that its call closed
+abbrev pub closes_by : (was_closed : Bool) → Life → Bool
+closes_by was_closed life.Closed = not was_closed
+closes_by was_closed life.Live = false
+closes_by was_closed life.Expired = false
+closes_by was_closed (life.Cut because) = false
 
 -- an asset stands at an endpoint
 abbrev pub is_at : Endpoint → Option Asset → Bool

@@ -13,7 +13,8 @@ use Rattle.cf_session.specs.Session.{Flow, SessionEvent, client_of}
 use Rattle.cf_session.specs.Told.{Told, with_both}
 use Rattle.cf_view.specs.declared.Side.{Side}
 use Rattle.cf_run.specs.Engine.{AreAll}
-use Rattle.cf_run.specs.Summary.{decided_in}
+use Rattle.cf_run.specs.Fitting.{is_above, is_beyond, is_foreign, misfit_in}
+use Rattle.cf_run.specs.Summary.{closes_in, decided_in}
 use Rattle.cf_run.specs.Table.{Session, match_of, may_begin, place_of}
 use Rattle.cf_run.specs.Trace.{Begun, Dropped, GoesOnAt, NoRoom, NoSession, Received, Receives, Went, after_received, logged_at}
 use Rattle.cf_run.specs.Trace.{logged_received, sent_received, stays, with_event_at}
@@ -39,23 +40,24 @@ AreTicked tick [] = Unit {0}
 AreTicked tick (session ∷ table) = HasTicked tick session.flow session.events × AreTicked tick table
 
 -- what became of a packet, as the counts have it
-abbrev pub IsOutcome : List Session → Outcome → Received → Type 0
-IsOutcome table outcome.Dropped Dropped = Unit {0}
-IsOutcome table outcome.Full NoRoom = Unit {0}
-IsOutcome table outcome.Outside NoSession = Unit {0}
-IsOutcome table outcome.Begun (Begun flow event) = Unit {0}
-IsOutcome table (outcome.Went admitted refused cuts) (Went place event) =
+abbrev pub IsOutcome : List Asset → Result PacketValue PacketRefusal → List Session → Outcome → Received → Type 0
+IsOutcome assets packet table outcome.Dropped Dropped = Unit {0}
+IsOutcome assets packet table outcome.Full NoRoom = Unit {0}
+IsOutcome assets packet table (outcome.Outside foreign) NoSession = foreign ≡ one_if (is_foreign assets packet)
+IsOutcome assets packet table outcome.Begun (Begun flow event) = Unit {0}
+IsOutcome assets packet table (outcome.Went admitted refused cuts closed above beyond) (Went place event) =
     (admitted ≡ decided_in (λ w. w.admitted) table (Went place event)) × (refused ≡ decided_in (λ w. w.refused) table (Went place event))
-    × (cuts ≡ one_if (is_some event.cut))
-IsOutcome table _ _ = ⊥
+    × (cuts ≡ one_if (is_some event.cut)) × (closed ≡ one_if (closes_in table (Went place event)))
+    × (above ≡ one_if (is_above (misfit_in table (Went place event)))) × (beyond ≡ one_if (is_beyond (misfit_in table (Went place event))))
+IsOutcome assets packet table _ _ = ⊥
 
 -- the number of sessions in memory then
 abbrev pub IsSized : Outcome → (before after : ℕ) → Type 0
 IsSized outcome.Dropped before after = after ≡ before
 IsSized outcome.Full before after = after ≡ before
-IsSized outcome.Outside before after = after ≡ before
+IsSized (outcome.Outside foreign) before after = after ≡ before
 IsSized outcome.Begun before after = (after ≤ before + 1) × (after ≤ 256)
-IsSized (outcome.Went admitted refused cuts) before after = after + cuts ≤ before
+IsSized (outcome.Went admitted refused cuts closed above beyond) before after = after + cuts ≤ before
 
 -- a session began
 pub record Beginning (assets : List Asset) (now : ℕ) (flow : Flow) (table : List Session) (entries : List Entry) (old new : Told)
@@ -78,7 +80,7 @@ pub record Going (assets : List Asset) (limit now place : ℕ) (from : Side) (pa
   pub goes_on : GoesOnAt limit from packet event (slice_get table place)
   pub told : new ≡ with_both old (sent_second event) (logged_at (slice_get table place) event)
   pub all : AreAll assets now entries (filter stays (with_event_at place event table))
-  pub counts : IsOutcome table result (Went place event)
+  pub counts : IsOutcome assets (Ok packet) table result (Went place event)
 
 abbrev pub GoesOne : List Asset → (limit now place : ℕ) → Side → PacketValue → (before after : List Entry) → (old new : Told) → Outcome
     → Type 0
@@ -93,7 +95,7 @@ pub record Receiving (assets : List Asset) (limit now : ℕ) (packet : PacketVal
   pub receives : Receives limit (now - 1) table packet (match_of assets table packet) received
   pub told : new ≡ with_both old (sent_received received) (logged_received table received)
   pub all : AreAll assets now entries (after_received received table)
-  pub counts : IsOutcome table result received
+  pub counts : IsOutcome assets (Ok packet) table result received
 
 abbrev pub ReceivesOne : List Asset → (limit now : ℕ) → PacketValue → (before after : List Entry) → (old new : Told) → Outcome → Type 0
 ReceivesOne assets limit now packet before after old new result =

@@ -24,7 +24,7 @@ pub record ReceivingRecord (assets : List Asset) (limit now : ℕ) (packet : Res
   pub receives : ReceivesRecord assets limit (now - 1) table packet received
   pub told : new ≡ with_both old (sent_received received) (logged_received table received)
   pub all : AreAll assets now entries (after_received received table)
-  pub counts : IsOutcome table result received
+  pub counts : IsOutcome assets packet table result received
 
 abbrev pub ReceivesRecordOne : List Asset → (limit now : ℕ) → Result PacketValue PacketRefusal → (before after : List Entry)
     → (old new : Told) → Outcome → Type 0
@@ -33,9 +33,9 @@ ReceivesRecordOne assets limit now packet before after old new result =
     (received : Received) × ReceivingRecord assets limit now packet table after old new result received
 
 -- what is counted of an event, after this table
-pub record IsCounted (before : List Session) (happened : Happened) (event : RunEvent) : Type 0 where
+pub record IsCounted (assets : List Asset) (before : List Session) (happened : Happened) (event : RunEvent) : Type 0 where
   pub ticks : happened.cuts ≡ count_by (λ t. is_some t.cut) event.ticks
-  pub received : IsOutcome (found before event) happened.outcome event.received
+  pub received : IsOutcome assets event.input.packet (found before event) happened.outcome event.received
 
 -- an event with a record, after this table
 pub record Steps (assets : List Asset) (limit now : ℕ) (packet : Result PacketValue PacketRefusal) (before : List Session)
@@ -46,7 +46,7 @@ pub record Steps (assets : List Asset) (limit now : ℕ) (packet : Result Packet
   pub told : new ≡ with_both old (sent_in_first event ++ sent_in_second event)
       (logged_in_first before event ++ logged_in_second before event)
   pub all : AreAll assets now entries (after_received event.received (found before event))
-  pub counts : IsCounted before happened event
+  pub counts : IsCounted assets before happened event
 
 -- what a contract sees of an `Engine`: the sessions in memory, a moment before which none of them is due, how many letters a
 -- stream has at most, the moment of the last event, and the counts
@@ -71,7 +71,7 @@ pub record IsEngineOf (assets : List Asset) (engine : EngineValue) (events : Lis
   pub rises : Rises events
   pub last : last_moment events ≡ engine.last
   pub all : AreAll assets engine.last engine.table (table_after events)
-  pub counts : engine.summary ≡ summary_of events
+  pub counts : engine.summary ≡ summary_of assets events
 
 -- a run that went on by one event
 pub record StepsOn (assets : List Asset) (now : ℕ) (packet : Result PacketValue PacketRefusal) (events : List RunEvent)

@@ -1,9 +1,11 @@
 -- What is counted over events: summary_of.
-use Rattle.std.specs.Prelude.{ℕ, ◌+◌, ◌-◌, ◌^◌, min, Bool, true, false, List, [], ◌∷◌, length, count_by, Option, Some, None, slice_get}
-use Rattle.std.specs.Option.{is_some}
+use Rattle.std.specs.Prelude.{ℕ, ◌+◌, ◌-◌, ◌^◌, ◌&&◌, min, not, Bool, true, false, List, [], ◌∷◌, length, count_by, Option, Some, None, slice_get}
+use Rattle.std.specs.Option.{is_none, is_some}
 use Rattle.cf_lane.specs.Judged.{one_if}
-use Rattle.cf_session.specs.Session.{work_of}
+use Rattle.cf_policy.specs.declared.Asset.{Asset}
+use Rattle.cf_session.specs.Session.{SessionEvent, was_closed, work_of}
 use Rattle.cf_session.specs.Work.{Work, no_work}
+use Rattle.cf_run.specs.Fitting.{is_above, is_beyond, is_foreign, misfit_in}
 use Rattle.cf_run.specs.Table.{Session}
 use Rattle.cf_run.specs.Trace.{Begun, Dropped, RunEvent, NoRoom, NoSession, Received, Went, behind, table_after, tick_of, ticked}
 use Rattle.cf_run.specs.declared.summary.Summary.{Summary}
@@ -53,6 +55,21 @@ was_cut _ = false
 abbrev pub cuts_in : List Session → RunEvent → ℕ
 cuts_in before event = count_by (λ t. is_some t.cut) event.ticks + one_if (was_cut event.received)
 
+-- the packet was of no session, and its ends were not a client's and an asset's
+abbrev pub was_foreign : List Asset → RunEvent → Bool
+was_foreign assets event = was_outside event.received && is_foreign assets event.input.packet
+
+-- a session that was not closed is so behind its event, which did not cut it
+abbrev pub closes_at : Option Session → SessionEvent → Bool
+closes_at None event = false
+closes_at (Some session) event =
+    is_none event.cut && (was_closed session.flow (event ∷ behind session.events) && not (was_closed session.flow session.events))
+
+-- the packet's session closed
+abbrev pub closes_in : List Session → Received → Bool
+closes_in table (Went place event) = closes_at (slice_get table place) event
+closes_in table _ = false
+
 -- ---- over all events, the newest first
 
 -- the sum of what each event counts, after the table that those before it left
@@ -64,9 +81,9 @@ total count (event ∷ earlier) = total count earlier + count (table_after earli
 abbrev pub capped : ℕ → ℕ
 capped n = min n (2 ^ 64 - 1)
 
--- the counts of events, each up to 2^64 - 1
-abbrev pub summary_of : List RunEvent → Summary
-summary_of events = record {
+-- the counts of events over these assets, each up to 2^64 - 1
+abbrev pub summary_of : List Asset → List RunEvent → Summary
+summary_of assets events = record {
   records = capped (length events);
   dropped = capped (total (λ before event. one_if (was_dropped event.received)) events);
   outside = capped (total (λ before event. one_if (was_outside event.received)) events);
@@ -75,4 +92,8 @@ summary_of events = record {
   admitted = capped (total (λ before event. decided_in (λ w. w.admitted) (found before event) event.received) events);
   refused = capped (total (λ before event. decided_in (λ w. w.refused) (found before event) event.received) events);
   cuts = capped (total cuts_in events);
+  foreign = capped (total (λ before event. one_if (was_foreign assets event)) events);
+  closed = capped (total (λ before event. one_if (closes_in (found before event) event.received)) events);
+  above = capped (total (λ before event. one_if (is_above (misfit_in (found before event) event.received))) events);
+  beyond = capped (total (λ before event. one_if (is_beyond (misfit_in (found before event) event.received))) events);
 }

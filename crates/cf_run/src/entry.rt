@@ -1,7 +1,7 @@
 //! The sessions of the table in memory.
 ghost use Rattle.std.specs.Prelude.{◌≡◌, ◌<◌, Some, length, slice_get};
 ghost use Rattle.cf_lane.specs.Judged.{one_if};
-ghost use Rattle.cf_run.specs.Entries.{cuts_by, entry_between, place_in, stays_by};
+ghost use Rattle.cf_run.specs.Entries.{closes_by, cuts_by, entry_between, place_in, stays_by};
 ghost use Rattle.cf_policy.specs.AtEndpoint.{has_asset_at};
 
 use cf_policy::Asset;
@@ -80,6 +80,16 @@ pub(crate) fn stays(life: &Life) -> bool
     ensures { result ≡ stays_by life.now }
 {
     matches!(life, Life::Live | Life::Closed)
+}
+
+/// How many sessions a call closed: one or none.
+pub(crate) fn closes(was_closed: bool, life: &Life) -> u64
+    ensures { result ≡ one_if (closes_by was_closed life.now) }
+{
+    match life {
+        Life::Closed => u64::from(!was_closed),
+        Life::Live | Life::Cut(_) | Life::Expired => 0,
+    }
 }
 
 /// How many sessions a call cut: one or none.

@@ -5,6 +5,7 @@ mod engine;
 mod entry;
 mod file_desk;
 mod first_half;
+mod fitting;
 mod laws;
 mod matching;
 mod run;

@@ -15,7 +15,8 @@ ghost use Rattle.cf_run.specs.Receiving.{BeginsOne, GoesOne, IsSized, ReceivesOn
 ghost use Rattle.cf_view.specs.Moment.{moment_limit};
 
 use crate::engine::StepFault;
-use crate::entry::{Entry, Table, asset_of, cuts, stays};
+use crate::entry::{Entry, Table, asset_of, closes, cuts, stays};
+use crate::fitting::{is_above, is_beyond, is_foreign, one_if};
 use crate::matching::{Match, match_packet};
 use cf_outside::Desk;
 use cf_packet::Packet;
@@ -32,10 +33,14 @@ pub enum Outcome {
     /// It would begin a session, and the table had no room.
     Full,
     /// It is of no session.
-    Outside,
+    Outside {
+        /// Packets of which neither end, or both, is an asset's: this one or none.
+        foreign: u64,
+    },
     /// A session began.
     Begun,
-    /// It went to a session, which decided so many commands, and cut so many sessions: that one or none.
+    /// It went to a session, which decided so many commands, and was cut or closed, or was not. Of all other counts each is one or none:
+    /// that session, or this packet.
     Went {
         /// Commands admitted.
         admitted: u64,
@@ -43,6 +48,12 @@ pub enum Outcome {
         refused: u64,
         /// Sessions cut.
         cuts: u64,
+        /// Sessions closed.
+        closed: u64,
+        /// Packets that acknowledged what the box had not sent.
+        above: u64,
+        /// Packets that ended beyond the edge that the box had told.
+        beyond: u64,
     },
 }
 
@@ -95,7 +106,9 @@ pub fn receive<D: Desk>(
             }
         }
         Match::Full => Ok(Outcome::Full),
-        Match::Outside => Ok(Outcome::Outside),
+        Match::Outside => Ok(Outcome::Outside {
+            foreign: one_if(is_foreign(assets, packet)),
+        }),
     }
 }
 
@@ -218,6 +231,8 @@ fn go_on<D: Desk>(
     let asset = asset_of(assets, entry.asset);
     let admitted = entry.session.admitted();
     let refused = entry.session.refused();
+    let was_closed = entry.session.is_closed();
+    let misfit = entry.session.misfit(side, packet);
     let life = match entry.session.on_packet(asset, moment, side, packet, desk) {
         Ok(life) => life,
         Err(_) => return Err(StepFault::Write),
@@ -226,6 +241,9 @@ fn go_on<D: Desk>(
         admitted: entry.session.admitted().saturating_sub(admitted),
         refused: entry.session.refused().saturating_sub(refused),
         cuts: cuts(&life),
+        closed: closes(was_closed, &life),
+        above: one_if(is_above(misfit)),
+        beyond: one_if(is_beyond(misfit)),
     };
     let due = entry.session.due();
     entry.due = due;

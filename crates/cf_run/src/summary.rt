@@ -5,7 +5,8 @@ ghost use Rattle.cf_run.specs.Counted.{counted};
 
 use crate::second_half::Outcome;
 
-/// What was counted over the events so far. A count that would pass `u64::MAX` stays there.
+/// What was counted over the events so far; the last four counts are told, and not printed. A count that would pass `u64::MAX` stays
+/// there.
 #[derive(Clone, Copy, PartialEq, Eq, Debug, Default)]
 pub struct Summary {
     /// Records.
@@ -24,6 +25,14 @@ pub struct Summary {
     pub refused: u64,
     /// Sessions cut.
     pub cuts: u64,
+    /// Packets of no session of which neither end, or both, is an asset's.
+    pub foreign: u64,
+    /// Sessions that closed.
+    pub closed: u64,
+    /// Packets of sessions that acknowledged what the box had not sent.
+    pub above: u64,
+    /// Packets of sessions that ended beyond the edge that the box had told.
+    pub beyond: u64,
 }
 
 /// What happened in an event, as the counts have it.
@@ -45,16 +54,25 @@ impl Summary {
         match happened.outcome {
             Outcome::Dropped => self.dropped = self.dropped.saturating_add(1),
             Outcome::Full => self.full = self.full.saturating_add(1),
-            Outcome::Outside => self.outside = self.outside.saturating_add(1),
+            Outcome::Outside { foreign } => {
+                self.outside = self.outside.saturating_add(1);
+                self.foreign = self.foreign.saturating_add(foreign);
+            }
             Outcome::Begun => self.sessions = self.sessions.saturating_add(1),
             Outcome::Went {
                 admitted,
                 refused,
                 cuts,
+                closed,
+                above,
+                beyond,
             } => {
                 self.admitted = self.admitted.saturating_add(admitted);
                 self.refused = self.refused.saturating_add(refused);
                 self.cuts = self.cuts.saturating_add(cuts);
+                self.closed = self.closed.saturating_add(closed);
+                self.above = self.above.saturating_add(above);
+                self.beyond = self.beyond.saturating_add(beyond);
             }
         }
     }

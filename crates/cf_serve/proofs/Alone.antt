@@ -7,6 +7,7 @@ use Rattle.cf_relay.specs.Answers.{client_of, given, history_of}
 use Rattle.cf_relay.specs.Ends.{close_line, cut_line, log_of}
 use Rattle.cf_relay.specs.Stands.{IsCounted}
 use Rattle.cf_relay.specs.Turn.{AreItemsOf, DoesStages, stages}
+use Rattle.cf_relay.specs.declared.directions.Directions.TheVariants as both
 use Rattle.cf_links.specs.Links.{answers_of}
 use Rattle.cf_view.specs.declared.Endpoint.{Endpoint}
 use Rattle.cf_serve.specs.Laws.{AreRelayed, EachIsAlone, IsolatesSessions, was_relayed}
@@ -16,7 +17,7 @@ use Rattle.cf_serve.specs.declared.end.SessionEnd.{SessionEnd}
 use Rattle.cf_serve.specs.declared.end.SessionEnd.TheVariants as end
 
 -- a relay that has made its turns has met a client
-not_unmet : (at : Listening) (most turns : ℕ) (es : List Entry) → es ≡ [] → DoesStages at.asset most (stages at.port turns) [] es → ⊥
+not_unmet : (at : Listening) (most turns : ℕ) (es : List Entry) → es ≡ [] → DoesStages at.asset most (stages both.Separate at.port turns) [] es → ⊥
 not_unmet at most turns es none (now, next, split, (goes, (client, is)), later) = cc
 
 -- numbers of the same items are the same, and so is a line that has them

@@ -350,23 +350,3 @@ module _ (places : List Listening) (most moment : ℕ) (lobby : Lobby) (told : O
             ∙ ap (λ (ss : List Seat). seats_of old ++ ss) (sym (taken_more a.arrivals b.arrivals));
         keeps = λ past k. b.keeps past (a.keeps past k);
       }
-
-  -- the clients that came, and then the turns
-  pub round_is : (upto : ℕ) (lobby1 : Lobby) (told0 told1 told2 : Option (List LinksEntry)) (log1 log2 : Option (List (List ℕ))) (mid new : List Phase) (past : List TurnOf) →
-      told ≡ option_map (λ es. es ++ Woke moment ∷ []) told0 →
-      Arrive places most moment 0 upto lobby lobby1 told told1 log log1 old mid →
-      TurnsDo places most lobby1.next moment past told1 told2 log1 log2 mid new →
-      RoundDoes places most lobby lobby1 past told0 told2 log log2 old new
-  round_is upto lobby1 told0 told1 told2 log1 log2 mid new past woke a b = record {
-    round = record { moment = moment; arrivals = a.arrivals; turns = b.turns };
-    tells = simp (b.tells, a.tells, woke, more_twice);
-    added = simp (b.added, a.added, more_twice);
-    is_round = record {
-      arrive = a.come;
-      in_turn = b.in_turn ∙ a.seats;
-      each = b.each;
-      counts = a.counts;
-      stay = b.stay;
-    };
-    keeps = b.keeps;
-  }

@@ -6,7 +6,7 @@ use Rattle.std.proofs.Math.ListN.{set}
 use Rattle.std.specs.List.{AllByRecursion, flat_map}
 use Rattle.std.proofs.lemmas.Bool.{eq-eqb}
 use Rattle.std.proofs.lemmas.List.{append-nil, append_assoc, map-append}
-use Rattle.cf_links.specs.Links.{LinksEntry, Woke}
+use Rattle.cf_links.specs.Links.{LinksEntry}
 use Rattle.cf_serve.proofs.Keeping.{others_held, over_still, part_own}
 use Rattle.cf_serve.proofs.Numbers.{all_one}
 use Rattle.cf_serve.proofs.Placing.{PhasesAt}
@@ -14,17 +14,19 @@ use Rattle.cf_serve.proofs.Rounding.{flat_one, more_twice, same_back, same_front
 use Rattle.cf_serve.proofs.Stepping.{at_place, keeps_it, may_go, may_others, ordered, own_debt, with_y}
 use Rattle.cf_serve.proofs.Whole.{all_ended, all_seats, all_stand, one_stands, own_of_broken}
 use Rattle.cf_serve.specs.Broken.{Breaks, BreaksOff, FailsSo, IsFailedClient, TurnFails}
-use Rattle.cf_serve.specs.Failing.{MissesArrival, MissesRound, MissesRounds, MissesSeat, MissesStep, MissesTurns}
+use Rattle.cf_serve.specs.Failing.{MissesRounds, MissesSeat, MissesStep, MissesTurns}
 use Rattle.cf_serve.specs.Debt.{debt_of, must_rest}
 use Rattle.cf_serve.specs.Door.{first_lobby}
+use Rattle.cf_serve.specs.Minute.{all_lines, last_from}
 use Rattle.cf_serve.specs.Phase.{Phase, debt_at, listenings, phase_of}
 use Rattle.cf_serve.specs.Rounds.{AreTurns, IsTurn, Round, Seat, TurnOf, answers_in, lines_in, round_entries, round_lines}
 use Rattle.cf_serve.specs.Rounds.{stays, turns_of}
 use Rattle.cf_serve.specs.declared.debt.Debt.{Debt}
 use Rattle.cf_serve.specs.declared.door.Lobby.{Lobby}
+use Rattle.cf_serve.specs.declared.minute.Tally.{Tally}
 use Rattle.cf_serve.specs.Served.{IfEnded, IsClient, OpensDo, left_of, listen_lines, opened_from}
 use Rattle.cf_serve.specs.Session.{Listening}
-use Rattle.cf_serve.specs.Table.{Arrive, IsBetween, IsHeld, IsTable, Keeps, TurnsBegin, seats_of}
+use Rattle.cf_serve.specs.Table.{IsBetween, IsHeld, IsTable, Keeps, TurnsBegin, seats_of}
 use Rattle.cf_serve.specs.declared.session.Served.{Served}
 use Rattle.cf_serve.specs.declared.table.Place.{Place}
 
@@ -80,7 +82,8 @@ module _ {xs : List Served} {index : ℕ} {x : Served} (s : PhasesAt xs index x)
 -- ---- the turns
 
 module _ (places : List Listening) (most next moment : ℕ) (past : List TurnOf) (told : Option (List LinksEntry)) (log : Option (List (List ℕ))) (old : List Phase) (index : ℕ)
-    (told1 : Option (List LinksEntry)) (log1 : Option (List (List ℕ))) (mid : List Phase) (b : TurnsBegin places most next moment past index told told1 log log1 old mid)
+    (told1 : Option (List LinksEntry)) (log1 : Option (List (List ℕ))) (tallies tallies1 : List Tally) (mid : List Phase)
+    (b : TurnsBegin places most next moment past index told told1 log log1 tallies tallies1 old mid)
     (told2 : Option (List LinksEntry)) (log2 : Option (List (List ℕ))) (part : List ℕ) (new : List Phase)
     (m : MissesStep places most moment (past ++ b.turns) index told1 told2 log1 log2 part mid new) where
   front : b.done ≡ m.before
@@ -123,63 +126,27 @@ module _ (places : List Listening) (most next moment : ℕ) (past : List TurnOf)
     };
   }
 
--- ---- the round
-
-module _ (places : List Listening) (most moment : ℕ) (lobby lobby1 : Lobby) (past : List TurnOf) (told0 told told1 : Option (List LinksEntry)) (log log1 : Option (List (List ℕ)))
-    (part : List ℕ) (old mid : List Phase) (woke : told ≡ option_map (λ es. es ++ Woke moment ∷ []) told0) where
-  -- as clients came
-  pub round_missed_early : (serves : ℕ → Bool) → MissesArrival places most moment 0 lobby lobby1 told told1 log log1 part old mid → IsTable places most serves lobby1.next mid →
-      Keeps places most lobby.next past old → MissesRound places most lobby past told0 told1 log log1 part old mid
-  round_missed_early serves a table keeps =
-      let k = a.keeps past keeps in
-      record {
-        round = record { moment = moment; arrivals = a.arrivals; turns = [] };
-        tells = simp (a.tells, woke, more_twice, append-nil);
-        added = simp (a.added, append-nil);
-        ended = subst (λ (p : List TurnOf). AllByRecursion (λ (t : TurnOf). IfEnded places most p t t.end) p) (sym (append-nil past)) (all_ended places most past mid k.over);
-        breaks = inl (record {
-          fails = a.fails;
-          no_turns = refl;
-          measured = k.measured;
-          all = a.seats;
-          stand = all_seats (λ (s : Seat). IsClient places most past s []) mid (all_stand places most past serves mid k.held table.each);
-        });
-      }
-
-  -- in the turns
-  pub round_missed : (upto : ℕ) (told2 : Option (List LinksEntry)) (log2 : Option (List (List ℕ))) (new : List Phase) →
-      Arrive places most moment 0 upto lobby lobby1 told told1 log log1 old mid →
-      MissesTurns places most moment past told1 told2 log1 log2 part mid new →
-      MissesRound places most lobby past told0 told2 log log2 part old new
-  round_missed upto told2 log2 new a b = record {
-    round = record { moment = moment; arrivals = a.arrivals; turns = b.turns };
-    tells = simp (b.tells, a.tells, woke, more_twice);
-    added = simp (b.added, a.added, more_twice);
-    ended = b.ended;
-    breaks = inr (a.come, subst (λ (ss : List Seat). TurnFails places most moment past ss b.turns (seats_of new) part) a.seats b.fails);
-  }
-
 -- ---- the service
 
 ready_turn : (m : ℕ) (t : TurnOf) → t.moment ≡ m → t.ready ≡ true → IsTurn m t
 ready_turn m t at is = (at, λ not. absurd (let n : true ≡ false = sym is ∙ not in cc))
 
 -- the turns of a round that breaks off
-broken_turns : (places : List Listening) (most : ℕ) (past : List TurnOf) (lobby : Lobby) (standing : List Seat) (r : Round) (left : List Seat) (part : List ℕ) →
-    BreaksOff places most past lobby standing r left part → AreTurns r.moment r.turns
-broken_turns places most past lobby standing r left part (inl early) = subst (AreTurns r.moment) (sym early.no_turns) tt
-broken_turns places most past lobby standing r left part (inr late) =
-    let f = late.1 in
+broken_turns : (places : List Place) (last : Option ℕ) (most : ℕ) (past : List TurnOf) (lobby : Lobby) (standing : List Seat) (r : Round) (minute : List (List ℕ)) (left : List Seat) (part : List ℕ) →
+    BreaksOff places last most past lobby standing r minute left part → AreTurns r.moment r.turns
+broken_turns places last most past lobby standing r minute left part (inl (none, early)) = subst (AreTurns r.moment) (sym early.no_turns) tt
+broken_turns places last most past lobby standing r minute left part (inr (inl (none, (come, f)))) =
     subst (AreTurns r.moment) (sym f.are) (turns_join r.moment f.before (f.turn ∷ []) f.each (ready_turn r.moment f.turn f.its_moment f.ready, tt))
+broken_turns places last most past lobby standing r minute left part (inr (inr behind)) = behind.is_round.each
 
 pub breaks_all : (places : List Place) (most made : ℕ) (told told1 told2 told3 : Option (List LinksEntry)) (log log1 log2 : Option (List (List ℕ))) (part : List ℕ) (ps : List Phase) →
-    made < 2 ^ 64 - 1 → OpensDo places (length places) told told1 log log1 → MissesRounds (listenings places) most first_lobby made [] told1 told2 log1 log2 part [] ps →
+    made < 2 ^ 64 - 1 → OpensDo places (length places) told told1 log log1 → MissesRounds places most first_lobby None made [] told1 told2 log1 log2 part [] ps →
     told3 ≡ option_map (λ es. es ++ left_of (seats_of ps)) told2 → Breaks places most told told3 log log2 part
 breaks_all places most made told told1 told2 told3 log log1 log2 part ps few o r left =
     let rs = r.rounds ++ r.round ∷ [] in (
       opened_from 0 o.moments ++ (flat_map round_entries rs ++ left_of (seats_of ps)),
       (
-        listen_lines places o.moments ++ flat_map round_lines rs,
+        listen_lines places o.moments ++ (all_lines places None [] r.rounds ++ (round_lines r.round ++ r.minute)),
         (
           simp (left, r.tells, o.tells, more_twice, append_assoc),
           (
@@ -194,11 +161,12 @@ breaks_all places most made told told1 told2 told3 log log1 log2 part ps few o r
               in_turn = r.in_turn;
               round = r.round;
               left = seats_of ps;
+              minute = r.minute;
               breaks = r.breaks;
               told = refl;
               logged = refl;
               answers = λ k. own_of_broken k (listenings places) o.moments r.rounds r.mid r.standing (seats_of ps) r.round r.in_turn
-                  (broken_turns (listenings places) most (turns_of r.rounds) r.mid r.standing r.round (seats_of ps) part r.breaks);
+                  (broken_turns places (last_from None r.rounds) most (turns_of r.rounds) r.mid r.standing r.round r.minute (seats_of ps) part r.breaks);
               ended = r.ended;
             }),
           ),

@@ -95,7 +95,7 @@ module _ (places : List Listening) (most : ℕ) (past : List TurnOf) (t : TurnOf
     one_end = own_ends none ∙ ap option_to_list ended;
     ends = λ at is.
         subst (λ (es : List Entry). EndsSo at most t.seat.client es (lines_in t.seat.session (past ++ t ∷ [])) e) (sym own_answers)
-        (subst (λ (ls : List (List ℕ)). EndsSo at most t.seat.client (answers_in t.seat.session past ++ t.answers) ls e) (sym own_lines) (leaves at is));
+        (subst (λ (ls : List (List ℕ)). EndsSo at most t.seat.client (answers_in t.seat.session past ++ t.answers) ls e) (sym own_lines) (leaves at is).0);
   }
 
 module _ (places : List Listening) (most next : ℕ) (past : List TurnOf) (t : TurnOf) (before after : List Phase) (linked new : Option LinkedValue)

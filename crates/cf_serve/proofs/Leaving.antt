@@ -4,6 +4,7 @@ use Rattle.std.proofs.Common.{◌++◌, ◌<◌, ◌∙◌, ◌∷◌, ◌≡◌
 use Rattle.std.specs.Prelude.{IfErr, IsTrue, OnOk, ◌↔◌}
 use Rattle.std.proofs.lemmas.Option.{same_Some}
 use Rattle.cf_audit.specs.Line.{Lost, Silent, WhatValue}
+use Rattle.cf_lane.specs.Judged.{Judged}
 use Rattle.cf_lane.specs.Log.{line_about, with_lines}
 use Rattle.cf_links.specs.LinkValue.{LinkValue}
 use Rattle.cf_outside.specs.Desk.{DeskValue}
@@ -13,8 +14,10 @@ use Rattle.cf_relay.proofs.Turned.{stopped_cut, stopped_idle, stopped_link, turn
 use Rattle.cf_relay.specs.Closing.{done_by}
 use Rattle.cf_relay.specs.Relaying.{AreClosed, IsSound, RelayingValue}
 use Rattle.cf_relay.specs.Scene.{DoesBetween, StopsBetween, scene}
-use Rattle.cf_relay.specs.Turn.{turn}
+use Rattle.cf_relay.specs.Stands.{IsCounted}
+use Rattle.cf_relay.specs.Turn.{AreItemsOf, turn}
 use Rattle.cf_relay.specs.Turned.{HasStopped, HasTurned, begun_list}
+use Rattle.cf_relay.specs.declared.directions.Directions.TheVariants as both
 use Rattle.cf_relay.specs.declared.done.RelayEnd.TheVariants as ends
 use Rattle.cf_relay.specs.declared.stop.Stop.{Stop}
 use Rattle.cf_relay.specs.declared.stop.Stop.TheVariants as stop
@@ -22,7 +25,7 @@ use Rattle.cf_view.specs.declared.Endpoint.{Endpoint}
 use Rattle.cf_serve.proofs.Missing.{write_fails}
 use Rattle.cf_serve.specs.Broken.{FailsSo}
 use Rattle.cf_serve.specs.Failing.{EndsTurn, MissesTurn}
-use Rattle.cf_serve.specs.Phase.{LinkedValue, StandsLinked, TurnDoes, end_of, last_value}
+use Rattle.cf_serve.specs.Phase.{IsCountedAs, LinkedValue, StandsLinked, TurnDoes, end_of, last_value}
 use Rattle.cf_serve.specs.Session.{EndsSo, Listening, lost_line, with_last}
 use Rattle.cf_serve.specs.declared.debt.Debt.{Debt}
 use Rattle.cf_serve.specs.declared.end.SessionEnd.{SessionEnd}
@@ -46,22 +49,22 @@ said asset met k k' w e a a' r r' p q s t = rw (p, q, s, t)
 
 module _ (at : Listening) (most : ℕ) (client met : Endpoint) (old new : RelayingValue) (link link' : LinkValue) (d d' : DeskValue) (few : old.idle < most) (debt : Debt) where
   -- what holds of a relay that made a turn more holds of its session
-  turned_so : (does : DoesBetween at.asset most turn (scene old link d) (scene new link' d')) → new.idle < most → (P : List Entry → List (List ℕ) → Type 0) →
-      ((m : ℕ) (answers : List Entry) (own : List (List ℕ)) → HasTurned at.asset at.port most met m (Some []) answers new (Some own) → P (begun_list at.asset at.port met m answers) own) →
+  turned_so : (does : DoesBetween at.asset most (turn both.Separate) (scene old link d) (scene new link' d')) → new.idle < most → (P : List Entry → List (List ℕ) → Type 0) →
+      ((m : ℕ) (answers : List Entry) (own : List (List ℕ)) → HasTurned both.Separate at.asset at.port most met m (Some []) answers new (Some own) → P (begun_list at.asset at.port met m answers) own) →
       (es : List Entry) (own : List (List ℕ)) → StandsLinked at most es own (linked met old debt) →
       (lines : List (List ℕ)) × ((d'.lines ≡ with_lines d.lines lines) × P (es ++ does.answers) (own ++ lines))
   turned_so does fewer P f es own hs =
-      let t = turned_more at.asset at.port most met hs.moment (Some []) hs.answers (scene old link d) (scene new link' d') (Some own)
+      let t = turned_more both.Separate at.asset at.port most met hs.moment (Some []) hs.answers (scene old link d) (scene new link' d') (Some own)
       (record { count = hs.count; does = hs.does; stands = hs.stands; few = few }) does fewer in
       (t.more, (t.added, subst (λ (xs : List Entry). P (xs ++ does.answers) (own ++ t.more)) (sym hs.split) (f hs.moment (hs.answers ++ does.answers) (own ++ t.more) t.stands)))
 
   -- and so of one that stopped within it
-  stopped_so : (why : Stop) (stops : StopsBetween at.asset most turn why (scene old link d) (scene new link' d')) → (P : List Entry → List (List ℕ) → Type 0) →
-      ((m : ℕ) (answers : List Entry) (own : List (List ℕ)) → HasStopped at.asset at.port most met m (Some []) answers why new (Some own) d'.line_part →
+  stopped_so : (why : Stop) (stops : StopsBetween at.asset most (turn both.Separate) why (scene old link d) (scene new link' d')) → (P : List Entry → List (List ℕ) → Type 0) →
+      ((m : ℕ) (answers : List Entry) (own : List (List ℕ)) → HasStopped both.Separate at.asset at.port most met m (Some []) answers why new (Some own) d'.line_part →
       P (begun_list at.asset at.port met m answers) own) → (es : List Entry) (own : List (List ℕ)) → StandsLinked at most es own (linked met old debt) →
       (lines : List (List ℕ)) × ((d'.lines ≡ with_lines d.lines lines) × P (es ++ stops.answers) (own ++ lines))
   stopped_so why stops P f es own hs =
-      let t = turned_stops at.asset at.port most met hs.moment (Some []) hs.answers (scene old link d) (scene new link' d') why (Some own)
+      let t = turned_stops both.Separate at.asset at.port most met hs.moment (Some []) hs.answers (scene old link d) (scene new link' d') why (Some own)
       (record { count = hs.count; does = hs.does; stands = hs.stands; few = few }) stops in
       (t.more, (t.added, subst (λ (xs : List Entry). P (xs ++ stops.answers) (own ++ t.more)) (sym hs.split) (f hs.moment (hs.answers ++ stops.answers) (own ++ t.more) t.stands)))
 
@@ -70,57 +73,65 @@ module _ (at : Listening) (most : ℕ) (client met : Endpoint) (old new : Relayi
 
   -- a turn ends the session, but for its last line
   abbrev pub Ends : SessionEnd → Type 0
-  Ends e = EndsTurn at most client link.told link'.told d.lines d'.lines (last_line e) (Some (linked met old debt)) e
+  Ends e = EndsTurn at most client link.told link'.told d.lines d'.lines (last_line e) (Some (linked met old debt)) (Some (linked met new debt)) e
+
+  -- with the numbers of the items
+  abbrev Counted : List Entry → Type 0
+  Counted es = IsCountedAs at es (Some (linked met new debt))
+
+  counted_by : (es : List Entry) (js : List Judged) → AreItemsOf at.asset es js → IsCounted js new.lane.admitted new.lane.refused → Counted es
+  counted_by es js items counts = ((js, (items, counts.admitted)), (js, (items, counts.refused)))
 
   -- the last one, after which both sides are closed
-  closing : DoesBetween at.asset most turn (scene old link d) (scene new link' d') → new.idle < most → AreClosed new → Ends end.Closed
+  closing : DoesBetween at.asset most (turn both.Separate) (scene old link d) (scene new link' d') → new.idle < most → AreClosed new → Ends end.Closed
   closing does fewer closed = record {
     answers = does.answers;
     tells = does.adds.tells;
-    ends = turned_so does fewer (λ es own. EndsSo at most client es (own ++ last_line end.Closed ∷ []) end.Closed) (λ m answers own t.
-        (done_by new ends.Done, turned_done at.asset at.port most met m (Some []) answers new (Some own) t _ closed (λ ls e. same_Some _ _ e)));
+    ends = turned_so does fewer (λ es own. EndsSo at most client es (own ++ last_line end.Closed ∷ []) end.Closed × Counted es) (λ m answers own t.
+        let x = turned_done both.Separate at.asset at.port most met m (Some []) answers new (Some own) t _ closed (λ ls e. same_Some _ _ e) in
+        ((done_by new ends.Done, x), counted_by (begun_list at.asset at.port met m answers) x.goes.judged x.goes.are_items x.counts));
   }
 
   -- one that stopped
-  stopping : (why : Stop) → StopsBetween at.asset most turn why (scene old link d) (scene new link' d') → (e : SessionEnd) →
-      ((m : ℕ) (answers : List Entry) (own : List (List ℕ)) → HasStopped at.asset at.port most met m (Some []) answers why new (Some own) d'.line_part →
-      EndsSo at most client (begun_list at.asset at.port met m answers) (own ++ last_line e ∷ []) e) → Ends e
-  stopping why stops e f = record { answers = stops.answers; tells = stops.adds.tells; ends = stopped_so why stops (λ es own. EndsSo at most client es (own ++ last_line e ∷ []) e) f }
+  stopping : (why : Stop) → StopsBetween at.asset most (turn both.Separate) why (scene old link d) (scene new link' d') → (e : SessionEnd) →
+      ((m : ℕ) (answers : List Entry) (own : List (List ℕ)) → HasStopped both.Separate at.asset at.port most met m (Some []) answers why new (Some own) d'.line_part →
+      EndsSo at most client (begun_list at.asset at.port met m answers) (own ++ last_line e ∷ []) e × Counted (begun_list at.asset at.port met m answers)) → Ends e
+  stopping why stops e f = record { answers = stops.answers; tells = stops.adds.tells; ends = stopped_so why stops (λ es own. EndsSo at most client es (own ++ last_line e ∷ []) e × Counted es) f }
 
   -- its last line says the greatest moment told
   behind : (w : WhatValue) (own ls : List (List ℕ)) (k : ℕ) → Some own ≡ Some ls → new.moment ≡ k → own ++ line_about at.asset met new.moment w ∷ [] ≡ ls ++ line_about at.asset met k w ∷ []
   behind w own ls k same is = ap (λ xs. xs ++ line_about at.asset met new.moment w ∷ []) (same_Some own ls same) ∙ ap (λ n. ls ++ line_about at.asset met n w ∷ []) is
 
-  stops_so : (why : Stop) (closed : Bool) (e : SessionEnd) → StopsBetween at.asset most turn why (scene old link d) (scene new link' d') → end_of (Err why) closed ≡ Some e → Ends e
+  stops_so : (why : Stop) (closed : Bool) (e : SessionEnd) → StopsBetween at.asset most (turn both.Separate) why (scene old link d) (scene new link' d') → end_of (Err why) closed ≡ Some e → Ends e
   stops_so stop.Write closed e stops is = cc
-  stops_so stop.Idle closed e stops is = subst Ends (same_Some _ _ is) (stopping stop.Idle stops end.Silent (λ m answers own h. (
-    done_by new ends.IdleEnd,
-    stopped_idle at.asset at.port most met m (Some []) answers new (Some own) d'.line_part _ h
-        (λ ls same. behind (Silent new.lane.admitted new.lane.refused) own ls _ same h.stands.0.moment),
-  )))
+  stops_so stop.Idle closed e stops is = subst Ends (same_Some _ _ is) (stopping stop.Idle stops end.Silent (λ m answers own h.
+      let x = stopped_idle both.Separate at.asset at.port most met m (Some []) answers new (Some own) d'.line_part _ h
+      (λ ls same. behind (Silent new.lane.admitted new.lane.refused) own ls _ same h.stands.0.moment) in
+      ((done_by new ends.IdleEnd, x), counted_by (begun_list at.asset at.port met m answers) x.judged x.are_items x.counts)))
   stops_so stop.Link closed e stops is = subst Ends (same_Some _ _ is) (stopping stop.Link stops end.Lost (λ m answers own h.
-      let t = stopped_link at.asset at.port most met m (Some []) answers new (Some own) d'.line_part
+      let t = stopped_link both.Separate at.asset at.port most met m (Some []) answers new (Some own) d'.line_part
       (with_last (own ++ last_line end.Lost ∷ []) (lost_line at.asset (begun_list at.asset at.port met m answers) new.lane.admitted new.lane.refused)) h
       (λ ls same. behind (Lost new.lane.admitted new.lane.refused) own ls _ same h.stands.0.moment) in
-      record { admitted = new.lane.admitted; refused = new.lane.refused; ended = t.0; counts = t.1 }))
+      (record { admitted = new.lane.admitted; refused = new.lane.refused; ended = t.0; counts = t.1 }, counted_by (begun_list at.asset at.port met m answers) t.0.goes.judged t.0.goes.are_items t.1)))
   stops_so (stop.Cut reason) closed e stops is = subst Ends (same_Some _ _ is) (stopping (stop.Cut reason) stops (end.Cut reason) (λ m answers own h.
-      (done_by new (ends.Cut reason), stopped_cut at.asset at.port most met m (Some []) answers new (Some own) d'.line_part _ reason h (λ ls same. same_Some _ _ same))))
+      let x = stopped_cut both.Separate at.asset at.port most met m (Some []) answers new (Some own) d'.line_part _ reason h (λ ls same. same_Some _ _ same) in
+      ((done_by new (ends.Cut reason), x), counted_by (begun_list at.asset at.port met m answers) x.judged x.are_items x.counts)))
 
   -- the turn that is the last, by what the relay answered
   pub ending : (r : Result Unit Stop) (closed : Bool) (e : SessionEnd) →
-      OnOk r (DoesBetween at.asset most turn (scene old link d) (scene new link' d')) → OnOk r (IsSound at.asset most new) →
-      IfErr r (λ why. StopsBetween at.asset most turn why (scene old link d) (scene new link' d')) →
+      OnOk r (DoesBetween at.asset most (turn both.Separate) (scene old link d) (scene new link' d')) → OnOk r (IsSound at.asset most new) →
+      IfErr r (λ why. StopsBetween at.asset most (turn both.Separate) why (scene old link d) (scene new link' d')) →
       (IsTrue closed ↔ AreClosed new) → end_of r closed ≡ Some e → Ends e
   ending (Ok u) true e does sound stops both is = subst Ends (same_Some _ _ is) (closing does sound.few (both.0 refl))
   ending (Ok u) false e does sound stops both is = cc
   ending (Err why) closed e does sound stops both is = stops_so why closed e stops is
 
   -- a line amid a turn failed
-  pub unlogged : (r : Result Unit Stop) → IfErr r (λ why. StopsBetween at.asset most turn why (scene old link d) (scene new link' d')) →
+  pub unlogged : (r : Result Unit Stop) → IfErr r (λ why. StopsBetween at.asset most (turn both.Separate) why (scene old link d) (scene new link' d')) →
       r ≡ Err stop.Write → MissesTurn at most client link.told link'.told d.lines d'.lines d'.line_part (Some (linked met old debt))
   unlogged r stops is =
-      let s : StopsBetween at.asset most turn stop.Write (scene old link d) (scene new link' d') =
-      subst (λ (x : Result Unit Stop). IfErr x (λ why. StopsBetween at.asset most turn why (scene old link d) (scene new link' d'))) is stops in
+      let s : StopsBetween at.asset most (turn both.Separate) stop.Write (scene old link d) (scene new link' d') =
+      subst (λ (x : Result Unit Stop). IfErr x (λ why. StopsBetween at.asset most (turn both.Separate) why (scene old link d) (scene new link' d'))) is stops in
       record {
         answers = s.answers;
         tells = s.adds.tells;
@@ -129,10 +140,10 @@ module _ (at : Listening) (most : ℕ) (client met : Endpoint) (old new : Relayi
 
   -- the turn behind which it stands, by what the relay answered, where that is no failed write
   pub standing : (debt' : Debt) (r : Result Unit Stop) (closed : Bool) →
-      OnOk r (DoesBetween at.asset most turn (scene old link d) (scene new link' d')) → OnOk r (IsSound at.asset most new) → end_of r closed ≡ None → (r ≡ Err stop.Write → ⊥) →
+      OnOk r (DoesBetween at.asset most (turn both.Separate) (scene old link d) (scene new link' d')) → OnOk r (IsSound at.asset most new) → end_of r closed ≡ None → (r ≡ Err stop.Write → ⊥) →
       TurnDoes at most client link.told link'.told d.lines d'.lines (Some (linked met old debt)) (Some (linked met new debt')) None
   standing debt' r closed does sound is fine =
-      let t : DoesBetween at.asset most turn (scene old link d) (scene new link' d') = went_on r closed is fine does in
+      let t : DoesBetween at.asset most (turn both.Separate) (scene old link d) (scene new link' d') = went_on r closed is fine does in
       record {
         answers = t.answers;
         tells = t.adds.tells;

@@ -9,6 +9,7 @@ use Rattle.cf_policy.specs.declared.Asset.{Asset}
 use Rattle.cf_relay.specs.Relaying.{RelayingValue}
 use Rattle.cf_relay.specs.Scene.{DoesBetween, StopsBetween, scene}
 use Rattle.cf_relay.specs.Turn.{turn}
+use Rattle.cf_relay.specs.declared.directions.Directions.TheVariants as both
 use Rattle.cf_relay.specs.declared.stop.Stop.{Stop}
 use Rattle.std.specs.Prelude.{ℕ}
 
@@ -26,7 +27,7 @@ writes_both c d e h g = record {
 
 -- a turn writes the log alone, whatever it answered
 pub turn_writes : (asset : Asset) (most : ℕ) (old new : RelayingValue) (link link' : LinkValue) (d d' : DeskValue) (r : Result Unit Stop) →
-    OnOk r (DoesBetween asset most turn (scene old link d) (scene new link' d')) →
-    IfErr r (λ why. StopsBetween asset most turn why (scene old link d) (scene new link' d')) → WritesLog d d'
+    OnOk r (DoesBetween asset most (turn both.Separate) (scene old link d) (scene new link' d')) →
+    IfErr r (λ why. StopsBetween asset most (turn both.Separate) why (scene old link d) (scene new link' d')) → WritesLog d d'
 turn_writes asset most old new link link' d d' (Ok u) does stops = does.adds.log
 turn_writes asset most old new link link' d d' (Err why) does stops = stops.adds.log

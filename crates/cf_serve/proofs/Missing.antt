@@ -14,6 +14,7 @@ use Rattle.cf_relay.proofs.Turned.{stopped_write}
 use Rattle.cf_relay.specs.Closing.{BeginsLines}
 use Rattle.cf_relay.specs.Relaying.{RelayingValue}
 use Rattle.cf_relay.specs.Turned.{HasStopped}
+use Rattle.cf_relay.specs.declared.directions.Directions.TheVariants as both
 use Rattle.cf_relay.specs.declared.stop.Stop.TheVariants as stop
 use Rattle.cf_view.specs.declared.Endpoint.{Endpoint}
 use Rattle.cf_view.specs.declared.WriteFault.{WriteFault}
@@ -43,16 +44,16 @@ last_fails : (at : Listening) (most : ℕ) (client : Endpoint) (es : List Entry)
 last_fails at most client es before line whole part e ends begins =
     inl (record { end = e; before = before; line = line; ends = ends; whole = whole; own_is = refl; begins = begins })
 
-module _ {at : Listening} {most : ℕ} {client : Endpoint} {told after : SessionTold} {log mid log' : Option (List (List ℕ))} {line : List ℕ} {old : Option LinkedValue} {e : SessionEnd}
-    (t : EndsTurn at most client told after log mid line old e) where
+module _ {at : Listening} {most : ℕ} {client : Endpoint} {told after : SessionTold} {log mid log' : Option (List (List ℕ))} {line : List ℕ} {old new : Option LinkedValue} {e : SessionEnd}
+    (t : EndsTurn at most client told after log mid line old new e) where
   -- the last line was put
-  pub last_put : (new : Option LinkedValue) → log' ≡ with_lines mid (line ∷ []) → TurnDoes at most client told after log log' old new (Some e)
-  last_put new put = record {
+  pub last_put : log' ≡ with_lines mid (line ∷ []) → TurnDoes at most client told after log log' old new (Some e)
+  last_put put = record {
     answers = t.answers;
     tells = t.tells;
     leaves = λ es own stands.
         let x = t.ends es own stands in
-        (x.0 ++ line ∷ [], (simp (put, x.1.0, lines_both), subst (λ (ls : List (List ℕ)). EndsSo at most client (es ++ t.answers) ls e) (append_assoc own x.0 (line ∷ [])) x.1.1));
+        (x.0 ++ line ∷ [], (simp (put, x.1.0, lines_both), (subst (λ (ls : List (List ℕ)). EndsSo at most client (es ++ t.answers) ls e) (append_assoc own x.0 (line ∷ [])) x.1.1.0, x.1.1.1)));
   }
 
   -- it failed
@@ -68,7 +69,7 @@ module _ {at : Listening} {most : ℕ} {client : Endpoint} {told after : Session
               (
                 simp (w.1.0, x.1.0, lines_both),
                 subst (λ (ls : List (List ℕ)). FailsSo at most client (es ++ t.answers) ls part) (append_assoc own x.0 w.0)
-                    (last_fails at most client (es ++ t.answers) (own ++ x.0) line w.0 part e x.1.1 w.1.1),
+                    (last_fails at most client (es ++ t.answers) (own ++ x.0) line w.0 part e x.1.1.0 w.1.1),
               ),
             );
       }
@@ -77,10 +78,10 @@ module _ (at : Listening) (most : ℕ) (client : Endpoint) where
   -- ---- a line amid a turn
 
   pub write_fails : (met : Endpoint) (m : ℕ) (answers : List Entry) (now : RelayingValue) (own : List (List ℕ)) (part : List ℕ) →
-      HasStopped at.asset at.port most met m (Some []) answers stop.Write now (Some own) part →
+      HasStopped both.Separate at.asset at.port most met m (Some []) answers stop.Write now (Some own) part →
       FailsSo at most client (met_at at.port at.asset.endpoint met ∷ Moment m ∷ answers) own part
   write_fails met m answers now own part h =
-      inr (stopped_write at.asset at.port most met m (Some []) answers now (Some own) part (own_begun own part) h (own_begins own part))
+      inr (stopped_write both.Separate at.asset at.port most met m (Some []) answers now (Some own) part (own_begun own part) h (own_begins own part))
 
   -- ---- as a controller is asked for
 
@@ -88,7 +89,7 @@ module _ (at : Listening) (most : ℕ) (client : Endpoint) where
   pub open_fails : (few : 0 < most) (met : Endpoint) (m : ℕ) (whole : List (List ℕ)) (part : List ℕ) → BeginsLine (line_about at.asset met m Begun) whole part →
       FailsSo at most client (met_at at.port at.asset.endpoint met ∷ Moment m ∷ []) whole part
   open_fails few met m whole part begins =
-      inr (write_told at.asset at.port most few (own_begun whole part) met m (Some []) (Some whole) part (own_more (line_about at.asset met m Begun) whole part begins) (own_begins whole part))
+      inr (write_told both.Separate at.asset at.port most few (own_begun whole part) met m (Some []) (Some whole) part (own_more (line_about at.asset met m Begun) whole part begins) (own_begins whole part))
 
   module _ (before : List Entry) (told after : SessionTold) (log log' : Option (List (List ℕ))) (part : List ℕ) (answers : List Entry)
       (tells : after ≡ with_answers told answers) (line : List ℕ) (may : MayHaveMore (line ∷ []) log log' part) where

@@ -5,17 +5,18 @@ use Rattle.std.specs.Prelude.{◌==◌}
 use Rattle.std.specs.List.{AllByRecursion}
 use Rattle.std.proofs.lemmas.List.{append-nil, append_assoc}
 use Rattle.cf_lane.specs.Follows.{AreJudged}
+use Rattle.cf_lane.specs.Judged.{is_admitted, is_refused}
+use Rattle.cf_lane.specs.declared.fate.Fate.{Fate}
 use Rattle.cf_outside.specs.Pair.{Entry, Moment, met_at}
 use Rattle.cf_relay.proofs.Starting.{empty_judged}
 use Rattle.cf_relay.specs.Answers.{client_of, history_of}
 use Rattle.cf_view.specs.declared.Endpoint.{Endpoint}
-use Rattle.cf_serve.specs.Debt.{AreMeasured, HasRefused, IsMeasured, Refuses, debt_behind, debt_from, debt_of, debt_with, no_debt}
-use Rattle.cf_serve.specs.Phase.{LinkedValue, StandsAs, TurnLeaves, refused_at}
+use Rattle.cf_serve.specs.Debt.{Admits, AreMeasured, Counts, HasCounted, IsMeasured, Refuses, debt_behind, debt_from, debt_of, debt_with, no_debt}
+use Rattle.cf_serve.specs.Phase.{IsCountedAs, LinkedValue, StandsAs, TurnLeaves, admitted_at, refused_at}
 use Rattle.cf_serve.specs.Rounds.{TurnOf}
-use Rattle.cf_serve.specs.Session.{EndsSo, Listening}
+use Rattle.cf_serve.specs.Session.{Listening}
 use Rattle.cf_serve.specs.declared.debt.Debt.{Debt}
 use Rattle.cf_serve.specs.declared.end.SessionEnd.{SessionEnd}
-use Rattle.cf_serve.specs.declared.end.SessionEnd.TheVariants as end
 
 -- ---- the debt
 
@@ -52,41 +53,48 @@ module _ (places : List Listening) where
 
 -- ---- the commands that were refused
 
-no_commands : (at : Listening) → HasRefused at [] 0
-no_commands at = ([], (empty_judged at.asset (client_of []).address, refl))
+-- nothing came of a client whose controller was not reached
+pub no_commands : (at : Listening) → IsCountedAs at [] None
+no_commands at =
+    let none = empty_judged at.asset (client_of []).address in
+    (([], (none, refl)), ([], (none, refl)))
 
-met_commands : (at : Listening) (met : Endpoint) → HasRefused at (met_at at.port at.asset.endpoint met ∷ []) 0
-met_commands at met = ([], (empty_judged at.asset met.address, refl))
+pub met_commands : (at : Listening) (met : Endpoint) → IsCountedAs at (met_at at.port at.asset.endpoint met ∷ []) None
+met_commands at met =
+    let none = empty_judged at.asset met.address in
+    (([], (none, refl)), ([], (none, refl)))
 
-pub stands_refused : (at : Listening) (most : ℕ) (es : List Entry) (own : List (List ℕ)) (o : Option LinkedValue) → StandsAs at most es own o → HasRefused at es (refused_at o)
-stands_refused at most es own None h = subst (λ (xs : List Entry). HasRefused at xs 0) (sym h.0) (no_commands at)
-stands_refused at most es own (Some v) h =
+pub stands_counted : (at : Listening) (most : ℕ) (es : List Entry) (own : List (List ℕ)) (o : Option LinkedValue) → StandsAs at most es own o → IsCountedAs at es o
+stands_counted at most es own None h = subst (λ (xs : List Entry). IsCountedAs at xs None) (sym h.0) (no_commands at)
+stands_counted at most es own (Some v) h =
     let all = met_at at.port at.asset.endpoint v.met ∷ Moment h.moment ∷ h.answers in
     let f = h.stands.follows in
-    subst (λ (xs : List Entry). HasRefused at xs v.now.lane.refused) (sym h.split)
-    (f.judged, (subst (λ (c : Endpoint). AreJudged at.asset c.address (history_of all) f.judged) h.stands.client f.are_judged, f.knows.refused))
+    let items = subst (λ (c : Endpoint). AreJudged at.asset c.address (history_of all) f.judged) h.stands.client f.are_judged in
+    subst (λ (xs : List Entry). IsCountedAs at xs (Some v)) (sym h.split) ((f.judged, (items, f.knows.admitted)), (f.judged, (items, f.knows.refused)))
 
-ends_refused : (at : Listening) (most : ℕ) (client : Endpoint) (es : List Entry) (own : List (List ℕ)) (e : SessionEnd) → EndsSo at most client es own e → (n : ℕ) × HasRefused at es n
-ends_refused at most client es own end.Closed (done, d) = (done.refused, (d.goes.judged, (d.goes.are_items, d.counts.refused)))
-ends_refused at most client es own (end.Cut reason) (done, d) = (done.refused, (d.judged, (d.are_items, d.counts.refused)))
-ends_refused at most client es own end.Silent (done, d) = (done.refused, (d.judged, (d.are_items, d.counts.refused)))
-ends_refused at most client es own end.Lost d = (d.refused, (d.ended.goes.judged, (d.ended.goes.are_items, d.counts.refused)))
-ends_refused at most client es own end.Unreached (none, d) = (0, subst (λ (xs : List Entry). HasRefused at xs 0) (sym none) (no_commands at))
-ends_refused at most client es own end.Gone (none, d) = (0, subst (λ (xs : List Entry). HasRefused at xs 0) (sym none) (no_commands at))
-ends_refused at most client es own end.NoMemory (met, (is, d)) = (0, subst (λ (xs : List Entry). HasRefused at xs 0) (sym is) (met_commands at met))
+-- what a turn leaves has its numbers, whether it stands or ended
+leaves_counted : (at : Listening) (most : ℕ) (client : Endpoint) (es : List Entry) (own : List (List ℕ)) (o : Option LinkedValue) (e : Option SessionEnd) →
+    TurnLeaves at most client es own o e → IsCountedAs at es o
+leaves_counted at most client es own o None leaves = stands_counted at most es own o leaves
+leaves_counted at most client es own o (Some e) leaves = leaves.1
 
--- a turn refused the difference
-pub refuses_by : (at : Listening) (most : ℕ) (client : Endpoint) (es answers : List Entry) (own own' : List (List ℕ)) (old new : Option LinkedValue) (e : Option SessionEnd) →
-    StandsAs at most es own old → TurnLeaves at most client (es ++ answers) own' new e →
-    (n : ℕ) × (Refuses at es answers n × (e ≡ None → n ≡ refused_at new - refused_at old))
-refuses_by at most client es answers own own' old new None stands leaves =
-    (refused_at new - refused_at old, ((refused_at old, refused_at new, (stands_refused at most es own old stands, (stands_refused at most (es ++ answers) own' new leaves, refl))), λ is. refl))
-refuses_by at most client es answers own own' old new (Some e) stands leaves =
-    let x = ends_refused at most client (es ++ answers) own' e leaves in
-    (x.0 - refused_at old, ((refused_at old, x.0, (stands_refused at most es own old stands, (x.1, refl))), λ is. cc))
+-- a turn admitted and refused the differences
+module _ (at : Listening) (most : ℕ) (client : Endpoint) (es answers : List Entry) (own own' : List (List ℕ)) (old new : Option LinkedValue) (e : Option SessionEnd)
+    (stands : StandsAs at most es own old) (leaves : TurnLeaves at most client (es ++ answers) own' new e) where
+  pub admits_by : Admits at es answers (admitted_at new - admitted_at old)
+  admits_by =
+      (admitted_at old, admitted_at new, ((stands_counted at most es own old stands).0, ((leaves_counted at most client (es ++ answers) own' new e leaves).0, refl)))
 
--- one that has no turn refused nothing
+  pub refuses_by : Refuses at es answers (refused_at new - refused_at old)
+  refuses_by =
+      (refused_at old, refused_at new, ((stands_counted at most es own old stands).1, ((leaves_counted at most client (es ++ answers) own' new e leaves).1, refl)))
+
+-- one that has no turn admitted and refused nothing
+counts_none : (is : Fate → Bool) (at : Listening) (es : List Entry) (n : ℕ) → HasCounted is at es n → Counts is at es [] 0
+counts_none is at es n h = (n, n, (h, (subst (λ (xs : List Entry). HasCounted is at xs n) (sym (append-nil es)) h, omega arith)))
+
+pub admits_none : (at : Listening) (most : ℕ) (es : List Entry) (own : List (List ℕ)) (o : Option LinkedValue) → StandsAs at most es own o → Admits at es [] 0
+admits_none at most es own o stands = counts_none is_admitted at es (admitted_at o) (stands_counted at most es own o stands).0
+
 pub refuses_none : (at : Listening) (most : ℕ) (es : List Entry) (own : List (List ℕ)) (o : Option LinkedValue) → StandsAs at most es own o → Refuses at es [] 0
-refuses_none at most es own o stands =
-    let n = stands_refused at most es own o stands in
-    (refused_at o, refused_at o, (n, (subst (λ (xs : List Entry). HasRefused at xs (refused_at o)) (sym (append-nil es)) n, omega arith)))
+refuses_none at most es own o stands = counts_none is_refused at es (refused_at o) (stands_counted at most es own o stands).1

@@ -1,14 +1,15 @@
 -- What comes of asking for the controller of a session.
-use Rattle.std.proofs.Common.{Err, List, None, Ok, Option, Result, Some, ap, refl, subst, ℕ, ◌<◌, ◌∙◌, ◌∷◌, ◌≡◌, []}
+use Rattle.std.proofs.Common.{Err, List, None, Ok, Option, Result, Some, ap, refl, subst, sym, ℕ, ◌<◌, ◌∙◌, ◌∷◌, ◌≡◌, []}
 use Rattle.std.specs.Prelude.{IfOk}
 use Rattle.std.proofs.lemmas.List.{append_assoc}
 use Rattle.cf_links.specs.Links.{LinksEntry, Of, SessionTold, with_answers, with_entry}
 use Rattle.cf_outside.specs.Pair.{Entry, met_at}
 use Rattle.cf_relay.proofs.Starting.{empty_judged, relayed_met}
+use Rattle.cf_relay.specs.declared.directions.Directions.TheVariants as both
 use Rattle.cf_serve.proofs.Rounding.{more_none}
 use Rattle.cf_view.specs.declared.Endpoint.{Endpoint}
 use Rattle.cf_view.specs.declared.WriteFault.{WriteFault}
-use Rattle.cf_serve.specs.Phase.{LinkedValue, ReachDoes, ReachLeaves, StandsAs, TurnDoes}
+use Rattle.cf_serve.specs.Phase.{IsCountedAs, LinkedValue, ReachDoes, ReachLeaves, StandsAs, TurnDoes}
 use Rattle.cf_serve.specs.Session.{EndsSo, Listening, lost_line}
 use Rattle.cf_serve.specs.declared.end.SessionEnd.{SessionEnd}
 use Rattle.cf_serve.specs.declared.end.SessionEnd.TheVariants as end
@@ -36,7 +37,7 @@ module _ (at : Listening) (most : ℕ) (client : Endpoint) where
     admitted = 0;
     refused = 0;
     ended = record {
-      relayed = relayed_met at.asset at.port most few met;
+      relayed = relayed_met at.asset at.port most few both.Separate met;
       goes = record { judged = []; are_items = empty_judged at.asset met.address; uncut = refl; idle = few };
       prefixes = λ s. ([], refl);
       holds_log = refl;
@@ -66,5 +67,6 @@ module _ (at : Listening) (most : ℕ) (client : Endpoint) where
       tells = does.tells;
       leaves = λ es own h.
           let n : (es ≡ []) × (own ≡ []) = subst (λ x. StandsAs at most es own x) none h in
-          (does.lines, (does.added, rw (n.0, n.1) (subst (λ x. ReachLeaves at most client does.answers does.lines x) is does.leaves)));
+          let y = subst (λ x. ReachLeaves at most client does.answers does.lines x) is does.leaves in
+          (does.lines, (does.added, rw (n.0, n.1) (y.0, subst (λ x. IsCountedAs at does.answers x) (sym none) y.1)));
     }

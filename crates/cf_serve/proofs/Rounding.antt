@@ -11,11 +11,13 @@ use Rattle.cf_links.specs.Links.{Left, LinksEntry, LinksPlace}
 use Rattle.cf_links.specs.Service.{LosesSession}
 use Rattle.cf_relay.proofs.Lined.{lines_none}
 use Rattle.cf_serve.proofs.Numbers.{all_map, all_zip, lower, others_after}
+use Rattle.cf_serve.specs.Minute.{IsTallied}
 use Rattle.cf_serve.specs.Phase.{Phase, phase_of}
 use Rattle.cf_serve.specs.Rounds.{AreTurns, Seat, TurnOf}
 use Rattle.cf_serve.specs.Session.{Listening}
 use Rattle.cf_serve.specs.Table.{IsTable, Keeps, MayGo, MayLeave, StepDoes, TurnsBegin, TurnsDo, seats_of}
 use Rattle.cf_serve.specs.Served.{left_of}
+use Rattle.cf_serve.specs.declared.minute.Tally.{Tally}
 use Rattle.cf_serve.specs.declared.session.Served.{Served}
 
 -- what may be given a turn may be left
@@ -55,8 +57,8 @@ no_length (x ∷ xs) e = absurd (let n : length (x ∷ xs) ≡ 0 = e in omega (a
 pub flat_one : {X A : Type 0} (f : X → List A) (xs : List X) (x : X) → flat_map f (xs ++ x ∷ []) ≡ flat_map f xs ++ f x
 flat_one f xs x = flat_map-append f xs (x ∷ []) ∙ ap (λ ys. flat_map f xs ++ ys) (append-nil (f x))
 
-module _ (places : List Listening) (most next moment : ℕ) (past : List TurnOf) (told : Option (List LinksEntry)) (log : Option (List (List ℕ))) (old : List Phase) where
-  pub turns_begin : Keeps places most next past old → TurnsBegin places most next moment past 0 told told log log old old
+module _ (places : List Listening) (most next moment : ℕ) (past : List TurnOf) (told : Option (List LinksEntry)) (log : Option (List (List ℕ))) (tallies : List Tally) (old : List Phase) where
+  pub turns_begin : Keeps places most next past old → TurnsBegin places most next moment past 0 told told log log tallies tallies old old
   turns_begin keeps = record {
     done = [];
     rest = old;
@@ -69,10 +71,12 @@ module _ (places : List Listening) (most next moment : ℕ) (past : List TurnOf)
     each = tt;
     stay = refl;
     keeps = subst (λ p. Keeps places most next p old) (sym (append-nil past)) keeps;
+    tallied = λ h. subst (IsTallied tallies) (sym (append-nil past)) h;
   }
 
-  module _ (index : ℕ) (told1 : Option (List LinksEntry)) (log1 : Option (List (List ℕ))) (mid : List Phase) (b : TurnsBegin places most next moment past index told told1 log log1 old mid) where
-    pub turns_end : length mid ≡ index → TurnsDo places most next moment past told told1 log log1 old mid
+  module _ (index : ℕ) (told1 : Option (List LinksEntry)) (log1 : Option (List (List ℕ))) (tallies1 : List Tally) (mid : List Phase)
+      (b : TurnsBegin places most next moment past index told told1 log log1 tallies tallies1 old mid) where
+    pub turns_end : length mid ≡ index → TurnsDo places most next moment past told told1 log log1 tallies tallies1 old mid
     turns_end all =
         let l : length mid ≡ length b.done + length b.rest = ap length b.was ∙ length-append b.done b.rest in
         let none : b.rest ≡ [] = no_length b.rest (omega (arith, l, all, b.at)) in
@@ -84,17 +88,18 @@ module _ (places : List Listening) (most next moment : ℕ) (past : List TurnOf)
           each = b.each;
           stay = ap (map (λ (p : Phase). p.seat)) (b.was ∙ ap (λ ps. b.done ++ ps) none ∙ append-nil b.done) ∙ b.stay;
           keeps = b.keeps;
+          tallied = b.tallied;
         }
 
-    module _ (told2 : Option (List LinksEntry)) (log2 : Option (List (List ℕ))) (new : List Phase) (stays_on : Bool)
-        (d : StepDoes places most next moment (past ++ b.turns) index told1 told2 log1 log2 mid new stays_on) where
+    module _ (told2 : Option (List LinksEntry)) (log2 : Option (List (List ℕ))) (tallies2 : List Tally) (new : List Phase) (stays_on : Bool)
+        (d : StepDoes places most next moment (past ++ b.turns) index told1 told2 log1 log2 tallies1 tallies2 mid new stays_on) where
       front : b.done ≡ d.before
       front = same_front b.done b.rest d.before (d.it ∷ d.after) (sym b.was ∙ d.was) (b.at ∙ sym d.at)
 
       back : b.rest ≡ d.it ∷ d.after
       back = same_back b.done b.rest d.before (d.it ∷ d.after) (sym b.was ∙ d.was) (b.at ∙ sym d.at)
 
-      pub turns_on : TurnsBegin places most next moment past (index + (if stays_on then 1 else 0)) told told2 log log2 old new
+      pub turns_on : TurnsBegin places most next moment past (index + (if stays_on then 1 else 0)) told told2 log log2 tallies tallies2 old new
       turns_on = record {
         done = d.before ++ d.left;
         rest = d.after;
@@ -107,15 +112,16 @@ module _ (places : List Listening) (most next moment : ℕ) (past : List TurnOf)
         each = turns_join moment b.turns (d.turn ∷ []) b.each (d.is_turn, tt);
         stay = simp (map-append, d.stay, flat_one, ← b.stay, front);
         keeps = subst (λ p. Keeps places most next p new) (append_assoc past b.turns (d.turn ∷ [])) d.keeps;
+        tallied = λ h. subst (IsTallied tallies2) (append_assoc past b.turns (d.turn ∷ [])) (d.tallied (b.tallied h));
       }
 
-    pub turns_step : (next' : ℕ) (told2 : Option (List LinksEntry)) (log2 : Option (List (List ℕ))) (new : List Phase) (stays_on : Bool) (index' : ℕ) → next' ≡ next →
-        ((p : List TurnOf) → Keeps places most next' p mid → StepDoes places most next' moment p index told1 told2 log1 log2 mid new stays_on) →
-        index' ≡ index + (if stays_on then 1 else 0) → TurnsBegin places most next moment past index' told told2 log log2 old new
-    turns_step next' told2 log2 new stays_on index' same step is =
-        let d = subst (λ n. StepDoes places most n moment (past ++ b.turns) index told1 told2 log1 log2 mid new stays_on) same
+    pub turns_step : (next' : ℕ) (told2 : Option (List LinksEntry)) (log2 : Option (List (List ℕ))) (tallies2 : List Tally) (new : List Phase) (stays_on : Bool) (index' : ℕ) → next' ≡ next →
+        ((p : List TurnOf) → Keeps places most next' p mid → StepDoes places most next' moment p index told1 told2 log1 log2 tallies1 tallies2 mid new stays_on) →
+        index' ≡ index + (if stays_on then 1 else 0) → TurnsBegin places most next moment past index' told told2 log log2 tallies tallies2 old new
+    turns_step next' told2 log2 tallies2 new stays_on index' same step is =
+        let d = subst (λ n. StepDoes places most n moment (past ++ b.turns) index told1 told2 log1 log2 tallies1 tallies2 mid new stays_on) same
         (step (past ++ b.turns) (subst (λ n. Keeps places most n (past ++ b.turns) mid) (sym same) b.keeps)) in
-        subst (λ n. TurnsBegin places most next moment past n told told2 log log2 old new) (sym is) (turns_on told2 log2 new stays_on d)
+        subst (λ n. TurnsBegin places most next moment past n told told2 log log2 tallies tallies2 old new) (sym is) (turns_on told2 log2 tallies2 new stays_on d)
 
 pub no_step : (index : ℕ) → index ≡ index + 0
 no_step index = omega arith

@@ -1,16 +1,16 @@
 -- What a round is to one session, by whether it was ready and what its turn did.
-use Rattle.std.proofs.Common.{List, None, Option, Some, ap, refl, subst, sym, true, false, ℕ, ◌++◌, ◌∙◌, ◌∷◌, ◌≡◌, map, []}
+use Rattle.std.proofs.Common.{List, None, Option, Some, ap, arith, refl, subst, sym, true, false, ℕ, ◌++◌, ◌-◌, ◌∙◌, ◌∷◌, ◌≡◌, map, []}
 use Rattle.std.specs.Prelude.{Bool, is_some, not, option_map}
 use Rattle.std.proofs.lemmas.List.{append-nil}
 use Rattle.cf_links.specs.Links.{Left, LinksEntry, Of, Ready, SessionTold}
 use Rattle.cf_outside.specs.Pair.{Entry}
 use Rattle.cf_relay.proofs.Lined.{lines_none}
-use Rattle.cf_serve.proofs.Owing.{refuses_by, refuses_none}
+use Rattle.cf_serve.proofs.Owing.{admits_by, admits_none, refuses_by, refuses_none}
 use Rattle.cf_serve.proofs.Reaching.{told_as}
 use Rattle.cf_serve.proofs.Rounding.{more_none, more_twice}
 use Rattle.cf_serve.specs.Failing.{MissesSeat, MissesTurn}
-use Rattle.cf_serve.specs.Debt.{debt_with, must_rest}
-use Rattle.cf_serve.specs.Phase.{LinkedValue, Owes, Phase, SeatDoes, StandsAs, TurnDoes, debt_at}
+use Rattle.cf_serve.specs.Debt.{must_rest}
+use Rattle.cf_serve.specs.Phase.{LinkedValue, Owes, Phase, SeatDoes, StandsAs, TurnDoes, admitted_at, debt_at, refused_at}
 use Rattle.cf_serve.specs.Rounds.{Seat, left_by}
 use Rattle.cf_serve.specs.Session.{Listening}
 use Rattle.cf_serve.specs.declared.end.SessionEnd.{SessionEnd}
@@ -28,12 +28,15 @@ module _ (at : Listening) (most moment : ℕ) (es : List Entry) (own : List (Lis
   -- a session that rests, or is not ready
   pub rests : (p : Phase) (after : Option (List LinksEntry)) → StandsAs at most es own p.linked → after ≡ told → SeatDoes at most moment es own told after log log p p true
   rests p after stands same = record {
-    turn = record { seat = p.seat; moment = moment; ready = false; answers = []; lines = []; refused = 0; end = None };
+    turn = record { seat = p.seat; moment = moment; ready = false; answers = []; lines = []; admitted = 0; refused = 0; end = None };
     seat = refl;
     is_turn = (refl, λ idle. (refl, (refl, refl)));
     rests = λ too_much. refl;
     idle = λ idle. refl;
     refuses = refuses_none at most es own p.linked stands;
+    passive = λ idle. refl;
+    admits = admits_none at most es own p.linked stands;
+    counts = (omega arith, omega arith);
     owes = λ none. refl;
     tells = same ∙ more_none told;
     added = lines_none log;
@@ -48,15 +51,20 @@ module _ (at : Listening) (most moment : ℕ) (es : List Entry) (own : List (Lis
         is_some e ≡ not stays → (e ≡ None → Owes moment old new) → TurnDoes at most seat.client (told_as seat.session ready) (told_as seat.session turned) log log' old new e → SeatDoes at most moment es own told after log log' (record { seat = seat; linked = old }) q stays
     worked q after e stays is left ends owes does =
         let x = does.leaves es own stands in
-        let n = refuses_by at most seat.client es does.answers own (own ++ x.0) old new e stands x.1.1 in
         record {
-          turn = record { seat = seat; moment = moment; ready = true; answers = does.answers; lines = x.0; refused = n.0; end = e };
+          turn = record { seat = seat; moment = moment; ready = true; answers = does.answers; lines = x.0; admitted = admitted_at new - admitted_at old; refused = refused_at new - refused_at old; end = e };
           seat = refl;
           is_turn = (refl, λ idle. cc);
           rests = λ too_much. absurd (let both : true ≡ false = sym too_much ∙ no_rest in cc);
           idle = λ idle. cc;
-          refuses = n.1.0;
-          owes = λ none. ap (λ (p : Phase). debt_at p.linked) is ∙ owes none ∙ ap (debt_with (debt_at old) moment) (sym (n.1.1 none));
+          refuses = refuses_by at most seat.client es does.answers own (own ++ x.0) old new e stands x.1.1;
+          passive = λ idle. cc;
+          admits = admits_by at most seat.client es does.answers own (own ++ x.0) old new e stands x.1.1;
+          counts = (
+            ap (λ (p : Phase). admitted_at p.linked - admitted_at old) (sym is),
+            ap (λ (p : Phase). refused_at p.linked - refused_at old) (sym is),
+          );
+          owes = λ none. ap (λ (p : Phase). debt_at p.linked) is ∙ owes none;
           tells = told_all seat.session told ready turned after does.answers (left_by seat.session e) is_ready (ap (λ (t : SessionTold). t.list) does.tells) left;
           added = x.1.0;
           ended = ends;
@@ -77,7 +85,7 @@ module _ (at : Listening) (most moment : ℕ) (es : List Entry) (own : List (Lis
     missed part does =
         let x = does.fails es own stands in
         record {
-          turn = record { seat = seat; moment = moment; ready = true; answers = does.answers; lines = x.0; refused = 0; end = None };
+          turn = record { seat = seat; moment = moment; ready = true; answers = does.answers; lines = x.0; admitted = 0; refused = 0; end = None };
           its = refl;
           its_moment = refl;
           no_rest = no_rest;

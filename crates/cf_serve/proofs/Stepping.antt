@@ -1,5 +1,5 @@
 -- One step of a round: a session in its place had its turn.
-use Rattle.std.proofs.Common.{Bool, List, None, Option, Some, ap, arith, map, refl, subst, sym, true, false, ℕ, ◌++◌, []}
+use Rattle.std.proofs.Common.{Bool, List, None, Option, Some, ap, arith, map, refl, subst, sym, true, false, ℕ, ◌++◌, ◌<◌, []}
 use Rattle.std.proofs.Common.{◌∙◌, ◌∷◌, ◌≡◌}
 use Rattle.std.specs.Prelude.{Err, Ok, OnErr, Result, is_some, not, slice_get, ◌==◌}
 use Rattle.std.specs.List.{AllByRecursion, remove}
@@ -9,13 +9,16 @@ use Rattle.cf_links.specs.Links.{LinksEntry, LinksPlace}
 use Rattle.cf_serve.proofs.Keeping.{keeps_end, keeps_stay}
 use Rattle.cf_serve.proofs.Numbers.{all_map, all_one, all_others, all_with, all_zip, below, number_within, others, with_it, without_it}
 use Rattle.cf_serve.proofs.Placing.{PhasesAt}
-use Rattle.cf_serve.specs.Debt.{IsMeasured, Refuses, debt_of, debt_with, must_rest}
-use Rattle.cf_serve.specs.Phase.{KeepsPlace, LinkedValue, MayTurn, Phase, SeatDoes, StandsAs, TurnLeaves, debt_at, phase_of}
+use Rattle.cf_serve.proofs.Tallying.{tallied_more}
+use Rattle.cf_serve.specs.Debt.{Admits, IsMeasured, Refuses, debt_of, debt_with, must_rest}
+use Rattle.cf_serve.specs.Minute.{IsTallied, tally_at, tally_with}
+use Rattle.cf_serve.specs.Phase.{KeepsPlace, LinkedValue, MayTurn, Phase, SeatDoes, StandsAs, TurnLeaves, counts_at, debt_at, phase_of}
 use Rattle.cf_serve.specs.Rounds.{Seat, TurnOf, answers_in, lines_in, stays}
 use Rattle.cf_serve.specs.Session.{Listening}
 use Rattle.cf_serve.specs.Table.{IsBetween, IsTable, Keeps, MayGo, MayLeave, StepDoes}
 use Rattle.cf_serve.specs.declared.debt.Debt.{Debt}
 use Rattle.cf_serve.specs.declared.end.SessionEnd.{SessionEnd}
+use Rattle.cf_serve.specs.declared.minute.Tally.{Tally}
 use Rattle.cf_serve.specs.declared.session.Served.{Served}
 
 -- what it leaves, at the only listening of its place
@@ -122,12 +125,25 @@ module _ {xs : List Served} {index : ℕ} {x : Served} (s : PhasesAt xs index x)
       idle = d.idle;
       refuses = subst (λ (z : Seat). (other : Listening) → slice_get places z.place ≡ Some other → Refuses other (answers_in z.session past) d.turn.answers d.turn.refused) (sym d.seat)
           (at_place places x.place at is_at (λ (o : Listening). Refuses o (answers_in x.number past) d.turn.answers d.turn.refused) d.refuses);
+      passive = d.passive;
+      admits = subst (λ (z : Seat). (other : Listening) → slice_get places z.place ≡ Some other → Admits other (answers_in z.session past) d.turn.answers d.turn.admitted) (sym d.seat)
+          (at_place places x.place at is_at (λ (o : Listening). Admits o (answers_in x.number past) d.turn.answers d.turn.admitted) d.admits);
     }
 
-    module _ {moment : ℕ} {told told' : Option (List LinksEntry)} {log log' : Option (List (List ℕ))} (y : Served) where
+    -- its commands among those of its place
+    tallied_it : {moment : ℕ} {told told' : Option (List LinksEntry)} {log log' : Option (List (List ℕ))} (new : Phase) (stays_on : Bool) →
+        (d : SeatDoes at most moment (answers_in x.number past) (lines_in x.number past) told told' log log' (phase_of x) new stays_on) → (tallies : List Tally) → x.place < 256 →
+        IsTallied tallies past →
+        IsTallied (set tallies x.place (tally_with (tally_at tallies x.place) (counts_at (phase_of x).linked) (counts_at new.linked))) (past ++ d.turn ∷ [])
+    tallied_it new stays_on d tallies placed h =
+        subst (λ (z : Seat). IsTallied (set tallies z.place (tally_with (tally_at tallies z.place) (counts_at (phase_of x).linked) (counts_at new.linked))) (past ++ d.turn ∷ [])) d.seat
+        (tallied_more tallies past d.turn (counts_at (phase_of x).linked) (counts_at new.linked) (subst (λ (z : Seat). z.place < 256) (sym d.seat) placed) d.counts.0 d.counts.1 h)
+
+    module _ {moment : ℕ} {told told' : Option (List LinksEntry)} {log log' : Option (List (List ℕ))} (y : Served) (tallies tallies' : List Tally) (placed : x.place < 256)
+        (with_turn : tallies' ≡ set tallies x.place (tally_with (tally_at tallies x.place) (counts_at (phase_of x).linked) (counts_at (phase_of y).linked))) where
       pub step_stays : (stays_on : Bool) → y ≡ record x { linked = y.linked } → stays_on ≡ true →
           SeatDoes at most moment (answers_in x.number past) (lines_in x.number past) told told' log log' (phase_of x) (phase_of y) stays_on →
-          StepDoes places most next moment past index told told' log log' (map phase_of xs) (map phase_of (set xs index y)) stays_on
+          StepDoes places most next moment past index told told' log log' tallies tallies' (map phase_of xs) (map phase_of (set xs index y)) stays_on
       step_stays false same on d = cc
       step_stays true same on d =
           let none : d.turn.end ≡ None = none_of d.turn.end d.ended in
@@ -152,11 +168,12 @@ module _ {xs : List Served} {index : ℕ} {x : Served} (s : PhasesAt xs index x)
                 (λ o k l. keeps_stay places most next past d.turn s.before s.after (phase_of x).linked (phase_of y).linked o k (measured_it (phase_of y) true d)
                 (d.owes none ∙ ap (λ n. debt_with (debt_at (phase_of x).linked) n d.turn.refused) (sym d.is_turn.0)) none l) ordered keeps_it
                 (leaves_at (phase_of y).linked d.turn None none d.leaves));
+            tallied = λ h. subst (λ (ts : List Tally). IsTallied ts (past ++ d.turn ∷ [])) (sym with_turn) (tallied_it (phase_of y) true d tallies placed h);
           }
 
       pub step_ends : (zs : List Served) (stays_on : Bool) → zs ≡ remove (set xs index y) index → stays_on ≡ false →
           SeatDoes at most moment (answers_in x.number past) (lines_in x.number past) told told' log log' (phase_of x) (phase_of y) stays_on →
-          StepDoes places most next moment past index told told' log log' (map phase_of xs) (map phase_of zs) stays_on
+          StepDoes places most next moment past index told told' log log' tallies tallies' (map phase_of xs) (map phase_of zs) stays_on
       step_ends zs true gone off d = cc
       step_ends zs false gone off d =
           let some : (e : SessionEnd) × (d.turn.end ≡ Some e) = some_of d.turn.end d.ended in
@@ -180,6 +197,7 @@ module _ {xs : List Served} {index : ℕ} {x : Served} (s : PhasesAt xs index x)
                 Keeps places most next (past ++ d.turn ∷ []) (s.before ++ s.after)) d.seat
                 (λ o k l. keeps_end places most next past d.turn s.before s.after (phase_of x).linked (phase_of y).linked o k (measured_it (phase_of y) false d) some.0 some.1 l) ordered keeps_it
                 (leaves_at (phase_of y).linked d.turn (Some some.0) some.1 d.leaves));
+            tallied = λ h. subst (λ (ts : List Tally). IsTallied ts (past ++ d.turn ∷ [])) (sym with_turn) (tallied_it (phase_of y) false d tallies placed h);
           }
 
 pub on_err : {A E : Type 0} (r : Result A E) (P : Type 0) → P → OnErr r P

@@ -10,12 +10,14 @@ use Rattle.cf_links.proofs.Projection.{answers_more}
 use Rattle.cf_links.specs.Links.{Came, LinksEntry, Of, Ready, answers_of}
 use Rattle.cf_outside.specs.Pair.{Entry}
 use Rattle.cf_relay.proofs.Turned.{turned_stands}
+use Rattle.cf_relay.specs.declared.directions.Directions.TheVariants as both
 use Rattle.cf_serve.proofs.Numbers.{all_map, all_zip}
 use Rattle.cf_serve.proofs.Rounding.{flat_one, more_twice}
 use Rattle.cf_serve.specs.Phase.{LinkedValue, MayTurn, Phase, StandsAs, listenings}
 use Rattle.cf_serve.specs.Door.{first_lobby}
 use Rattle.cf_serve.specs.Rounds.{AreRounds, AreTurns, Arrival, IsTurn, Round, Seat, TurnOf, answers_in, arrival_entries, left_by}
-use Rattle.cf_serve.specs.Rounds.{round_entries, round_lines, turn_entries, turns_of}
+use Rattle.cf_serve.specs.Rounds.{round_entries, turn_entries, turns_of}
+use Rattle.cf_serve.specs.Minute.{all_lines}
 use Rattle.cf_serve.specs.declared.door.Closing.{Closing}
 use Rattle.cf_serve.specs.declared.door.Lobby.{Lobby}
 use Rattle.cf_serve.specs.Served.{IfEnded, IsClient, OpensDo, Serves, left_of, listen_lines, opened_from}
@@ -24,6 +26,7 @@ use Rattle.cf_serve.specs.Table.{IfOver, IfWhole, IsHeld, IsTable, Keeps, MayGo,
 use Rattle.cf_serve.specs.declared.end.SessionEnd.{SessionEnd}
 use Rattle.cf_serve.specs.declared.fault.ServeFault.{ServeFault}
 use Rattle.cf_serve.specs.declared.fault.ServeFault.TheVariants as fault
+use Rattle.cf_serve.specs.declared.minute.Minutes.{Minutes}
 use Rattle.cf_serve.specs.declared.table.Place.{Place}
 
 -- ---- a session's answers, out of those of all
@@ -120,7 +123,7 @@ module _ (k : ℕ) where
 stands_session : (at : Listening) (most : ℕ) (es : List Entry) (own : List (List ℕ)) (o : Option LinkedValue) → StandsAs at most es own o → MayTurn at most o → StandsSo at most es own
 stands_session at most es own None h may = inl h
 stands_session at most es own (Some v) h may =
-    let t = turned_stands at.asset at.port most v.met h.moment (Some []) h.answers v.now (Some own) (record { count = h.count; does = h.does; stands = h.stands; few = may.0.few }) in
+    let t = turned_stands both.Separate at.asset at.port most v.met h.moment (Some []) h.answers v.now (Some own) (record { count = h.count; does = h.does; stands = h.stands; few = may.0.few }) in
     subst (λ (xs : List Entry). StandsSo at most xs own) (sym h.split) (inr (h.count, (t.0, (t.1.0, same_Some _ _ t.1.1))))
 
 pub all_seats : (P : Seat → Type 0) (ps : List Phase) → AllByRecursion (λ (p : Phase). P p.seat) ps → AllByRecursion P (seats_of ps)
@@ -180,14 +183,14 @@ module _ (places : List Place) (most : ℕ) (told told1 : Option (List LinksEntr
     ),
   )
 
-  pub serves_all : (Made : ℕ → Type 0) (lobby : Lobby) (made : ℕ) (told2 told3 : Option (List LinksEntry)) (log2 : Option (List (List ℕ))) (serves : ℕ → Bool) (ps : List Phase) →
-      Made made → OpensDo places (length places) told told1 log log1 → RoundsDo (listenings places) most first_lobby lobby made [] told1 told2 log1 log2 [] ps →
+  pub serves_all : (Made : ℕ → Type 0) (lobby : Lobby) (minutes : Minutes) (made : ℕ) (told2 told3 : Option (List LinksEntry)) (log2 : Option (List (List ℕ))) (serves : ℕ → Bool) (ps : List Phase) →
+      Made made → OpensDo places (length places) told told1 log log1 → RoundsDo places most first_lobby lobby minutes None made [] told1 told2 log1 log2 [] ps →
       IsTable (listenings places) most serves lobby.next ps → told3 ≡ option_map (λ es. es ++ left_of (seats_of ps)) told2 →
       Serves places most Made told told3 log log2
-  serves_all Made lobby made told2 told3 log2 serves ps so_many o r table left = (
+  serves_all Made lobby minutes made told2 told3 log2 serves ps so_many o r table left = (
     opened_from 0 o.moments ++ (flat_map round_entries r.rounds ++ left_of (seats_of ps)),
     (
-      listen_lines places o.moments ++ flat_map round_lines r.rounds,
+      listen_lines places o.moments ++ all_lines places None [] r.rounds,
       (
         simp (left, r.tells, o.tells, more_twice, append_assoc),
         (

@@ -10,6 +10,7 @@ use Rattle.cf_outside.specs.Lines.{file_lines, file_part}
 use Rattle.cf_outside.specs.Pair.{Entry}
 use Rattle.cf_outside.specs.declared.files.WriteAnswer.TheVariants as write
 use Rattle.cf_relay.specs.Ends.{IsWriteEnd, LogContents}
+use Rattle.cf_relay.specs.declared.directions.Directions.TheVariants as both
 use Rattle.cf_view.specs.declared.Endpoint.{Endpoint}
 use Rattle.std.specs.List.{AllByRecursion, concat, flat_map}
 use Rattle.std.specs.Prelude.{List, None, Option, Some, [], drop, false, length, map, option_map, slice_get, take, true, ℕ, ◌++◌}
@@ -17,8 +18,9 @@ use Rattle.std.specs.Prelude.{◌-◌, ◌<◌, ◌^◌, ◌∷◌, ◌≡◌, �
 use Rattle.cf_serve.specs.Debt.{AreMeasured, debt_of, must_rest}
 use Rattle.cf_serve.specs.Phase.{listenings}
 use Rattle.cf_serve.specs.Door.{first_lobby}
-use Rattle.cf_serve.specs.Rounds.{AreArrivals, AreRounds, AreTurns, Arrival, Round, Seat, TurnOf, answers_in, lines_in, round_entries}
-use Rattle.cf_serve.specs.Rounds.{round_lines, stays, taken_of, turns_of}
+use Rattle.cf_serve.specs.Minute.{all_lines, last_from, minute_lines}
+use Rattle.cf_serve.specs.Rounds.{AreArrivals, AreRounds, AreTurns, Arrival, IsRound, Round, Seat, TurnOf, answers_in, lines_in}
+use Rattle.cf_serve.specs.Rounds.{lobby_behind, round_entries, round_lines, stays, taken_of, turns_of}
 use Rattle.cf_serve.specs.Served.{IfEnded, IsClient, left_of, listen_lines, opened_from}
 use Rattle.cf_serve.specs.Session.{EndsSo, Listening}
 use Rattle.cf_serve.specs.declared.door.Closing.{Closing}
@@ -53,7 +55,7 @@ pub record LastLineFails (at : Listening) (most : ℕ) (client : Endpoint) (es :
 -- or it was the open line, or one amid a turn: the session is a relay whose write failed
 abbrev pub FailsSo : Listening → (most : ℕ) → (client : Endpoint) → List Entry → (own : List (List ℕ)) → (part : List ℕ) → Type 0
 FailsSo at most client es own part =
-    LastLineFails at most client es own part ⊎ IsWriteEnd at.asset at.port most (own_begun own part) es
+    LastLineFails at most client es own part ⊎ IsWriteEnd both.Separate at.asset at.port most (own_begun own part) es
 
 -- a client that failed by its own answers and its own lines alone
 abbrev pub IsFailedClient : List Listening → (most : ℕ) → List TurnOf → Seat → (part : List ℕ) → Type 0
@@ -110,11 +112,27 @@ BreaksInTurns places most past lobby standing r left part =
     AreArrivals places r.moment 0 lobby standing r.arrivals
     × TurnFails places most r.moment past (standing ++ taken_of r.arrivals) r.turns left part
 
--- a round that breaks off, from the sessions that stand to those that are left
-abbrev pub BreaksOff : List Listening → (most : ℕ) → (past : List TurnOf) → (lobby : Lobby) → (standing : List Seat) → Round
-    → (left : List Seat) → (part : List ℕ) → Type 0
-BreaksOff places most past lobby standing r left part =
-    BreaksInArrivals places most past lobby standing r left part ⊎ BreaksInTurns places most past lobby standing r left part
+-- the line of a place failed where a minute was over: the round was whole, the places before have their lines, and those behind have none
+pub record BreaksInMinute (places : List Place) (last : Option ℕ) (most : ℕ) (past : List TurnOf) (lobby : Lobby) (standing : List Seat)
+    (r : Round) (minute : List (List ℕ)) (left : List Seat) (part : List ℕ) : Type 0 where
+  pub is_round : IsRound (listenings places) lobby standing r (lobby_behind lobby r.moment r.arrivals) left
+  pub measured : AreMeasured (listenings places) [] (past ++ r.turns)
+  pub stand : AllByRecursion (λ (s : Seat). IsClient (listenings places) most (past ++ r.turns) s []) left
+  pub before : List (List ℕ)
+  pub line : List ℕ
+  pub behind : List (List ℕ)
+  pub all : minute_lines places last past r ≡ before ++ line ∷ behind
+  pub whole : List (List ℕ)
+  pub are : minute ≡ before ++ whole
+  pub begins : BeginsLine line whole part
+
+-- a round that breaks off, from the sessions that stand to those that are left, with the lines of its minute that the log has
+abbrev pub BreaksOff : List Place → (last : Option ℕ) → (most : ℕ) → (past : List TurnOf) → (lobby : Lobby) → (standing : List Seat) → Round
+    → (minute : List (List ℕ)) → (left : List Seat) → (part : List ℕ) → Type 0
+BreaksOff places last most past lobby standing r minute left part =
+    ((minute ≡ []) × BreaksInArrivals (listenings places) most past lobby standing r left part)
+    ⊎ (((minute ≡ []) × BreaksInTurns (listenings places) most past lobby standing r left part)
+    ⊎ BreaksInMinute places last most past lobby standing r minute left part)
 
 -- ---- the service
 
@@ -141,9 +159,10 @@ pub record RoundFails (places : List Place) (most : ℕ) (entries : List LinksEn
   pub in_turn : AreRounds (listenings places) first_lobby [] rounds lobby standing
   pub round : Round
   pub left : List Seat
-  pub breaks : BreaksOff (listenings places) most (turns_of rounds) lobby standing round left part
+  pub minute : List (List ℕ)
+  pub breaks : BreaksOff places (last_from None rounds) most (turns_of rounds) lobby standing round minute left part
   pub told : entries ≡ opened_from 0 moments ++ (flat_map round_entries (rounds ++ round ∷ []) ++ left_of left)
-  pub logged : lines ≡ listen_lines places moments ++ flat_map round_lines (rounds ++ round ∷ [])
+  pub logged : lines ≡ listen_lines places moments ++ (all_lines places None [] rounds ++ (round_lines round ++ minute))
   pub answers : (session : ℕ) → answers_of session entries ≡ answers_in session (turns_of (rounds ++ round ∷ []))
   pub ended : AllByRecursion (λ (t : TurnOf). IfEnded (listenings places) most (turns_of (rounds ++ round ∷ [])) t t.end)
       (turns_of (rounds ++ round ∷ []))

@@ -2,7 +2,8 @@
 --
 -- Each refused command is one more to pay for, and each second pays for 100. A session that has 100 to pay for rests until a later
 -- second: it has no turn, and loses nothing, and the other sessions have theirs. A clock that goes back pays for nothing.
-use Rattle.cf_lane.specs.Judged.{Judged, is_refused}
+use Rattle.cf_lane.specs.Judged.{Judged, is_admitted, is_refused}
+use Rattle.cf_lane.specs.declared.fate.Fate.{Fate}
 use Rattle.cf_outside.specs.Pair.{Entry}
 use Rattle.cf_relay.specs.Turn.{AreItemsOf}
 use Rattle.std.specs.List.{sum_by}
@@ -46,20 +47,36 @@ debt_from session debt (t ∷ ts) = debt_from session (debt_behind session debt 
 abbrev pub debt_of : (session : ℕ) → List TurnOf → Debt
 debt_of session past = debt_from session no_debt past
 
--- the commands of a session that were refused, by its own answers
+-- the commands of a session that have such a fate, by its own answers
+abbrev pub HasCounted : (is : Fate → Bool) → Listening → List Entry → (count : ℕ) → Type 0
+HasCounted is at es count = (js : List Judged) × (AreItemsOf at.asset es js × (count ≡ count_by (λ j. is j.fate) js))
+
+-- those that it has more once these answers come behind the earlier ones
+abbrev pub Counts : (is : Fate → Bool) → Listening → (before answers : List Entry) → (count : ℕ) → Type 0
+Counts is at before answers count =
+    (earlier all : ℕ) × (HasCounted is at before earlier × (HasCounted is at (before ++ answers) all × (count ≡ all - earlier)))
+
+-- the commands of a session that were refused, and those that were admitted
 abbrev pub HasRefused : Listening → List Entry → (refused : ℕ) → Type 0
-HasRefused at es refused = (js : List Judged) × (AreItemsOf at.asset es js × (refused ≡ count_by (λ j. is_refused j.fate) js))
+HasRefused at es refused = HasCounted is_refused at es refused
 
--- the commands that are refused once these answers come behind the earlier ones
+abbrev pub HasAdmitted : Listening → List Entry → (admitted : ℕ) → Type 0
+HasAdmitted at es admitted = HasCounted is_admitted at es admitted
+
+-- the commands that are refused, and those that are admitted, once these answers come behind the earlier ones
 abbrev pub Refuses : Listening → (before answers : List Entry) → (refused : ℕ) → Type 0
-Refuses at before answers refused =
-    (earlier all : ℕ) × (HasRefused at before earlier × (HasRefused at (before ++ answers) all × (refused ≡ all - earlier)))
+Refuses at before answers refused = Counts is_refused at before answers refused
 
--- a turn behind others: who has too much to pay for is not ready, and what was refused is what its answers say
+abbrev pub Admits : Listening → (before answers : List Entry) → (admitted : ℕ) → Type 0
+Admits at before answers admitted = Counts is_admitted at before answers admitted
+
+-- a turn behind others: who has too much to pay for is not ready, and what was admitted and refused is what its answers say
 pub record IsMeasured (places : List Listening) (past : List TurnOf) (t : TurnOf) : Type 0 where
   pub rests : must_rest (debt_of t.seat.session past) t.moment ≡ true → t.ready ≡ false
   pub idle : t.ready ≡ false → t.refused ≡ 0
   pub refuses : (at : Listening) → slice_get places t.seat.place ≡ Some at → Refuses at (answers_in t.seat.session past) t.answers t.refused
+  pub passive : t.ready ≡ false → t.admitted ≡ 0
+  pub admits : (at : Listening) → slice_get places t.seat.place ≡ Some at → Admits at (answers_in t.seat.session past) t.answers t.admitted
 
 -- turns one after the other, behind others
 abbrev pub AreMeasured : List Listening → (past : List TurnOf) → List TurnOf → Type 0

@@ -6,9 +6,10 @@ use Rattle.cf_outside.specs.Pair.{Entry}
 use Rattle.cf_view.specs.declared.Endpoint.{Endpoint}
 use Rattle.std.specs.List.{AllByRecursion, flat_map}
 use Rattle.std.specs.Prelude.{List, None, Option, [], false, length, option_map, true, ℕ, ◌++◌, ◌∷◌, ◌≡◌}
-use Rattle.cf_serve.specs.Broken.{BreaksOff, ComingFails, FailsSo, IsFailedClient, TurnFails}
+use Rattle.cf_serve.specs.Broken.{BeginsLine, BreaksOff, ComingFails, FailsSo, IsFailedClient, TurnFails}
 use Rattle.cf_serve.specs.Debt.{debt_of, must_rest}
-use Rattle.cf_serve.specs.Phase.{LinkedValue, Phase, StandsAs}
+use Rattle.cf_serve.specs.Minute.{all_lines, last_from}
+use Rattle.cf_serve.specs.Phase.{IsCountedAs, LinkedValue, Phase, StandsAs, listenings}
 use Rattle.cf_serve.specs.Rounds.{AreRounds, Arrival, Round, Seat, TurnOf, arrival_entries, round_entries, round_lines, turn_entries}
 use Rattle.cf_serve.specs.Rounds.{taken_of, turns_of}
 use Rattle.cf_serve.specs.Served.{IfEnded, IsClient}
@@ -17,15 +18,16 @@ use Rattle.cf_serve.specs.Table.{Keeps, seats_of}
 use Rattle.cf_serve.specs.declared.debt.Debt.{Debt}
 use Rattle.cf_serve.specs.declared.door.Lobby.{Lobby}
 use Rattle.cf_serve.specs.declared.end.SessionEnd.{SessionEnd}
+use Rattle.cf_serve.specs.declared.table.Place.{Place}
 
 -- a turn adds answers and lines with which a session ends, once its last line stands behind them
 pub record EndsTurn (at : Listening) (most : ℕ) (client : Endpoint) (told told_after : SessionTold) (log log_after : Option (List (List ℕ)))
-    (line : List ℕ) (old : Option LinkedValue) (end : SessionEnd) : Type 0 where
+    (line : List ℕ) (old new : Option LinkedValue) (end : SessionEnd) : Type 0 where
   pub answers : List Entry
   pub tells : told_after ≡ with_answers told answers
   pub ends : (es : List Entry) (own : List (List ℕ)) → StandsAs at most es own old →
       (lines : List (List ℕ)) × ((log_after ≡ with_lines log lines)
-      × EndsSo at most client (es ++ answers) ((own ++ lines) ++ line ∷ []) end)
+      × (EndsSo at most client (es ++ answers) ((own ++ lines) ++ line ∷ []) end × IsCountedAs at (es ++ answers) new))
 
 -- a line of a turn failed
 pub record MissesTurn (at : Listening) (most : ℕ) (client : Endpoint) (told told_after : SessionTold)
@@ -99,28 +101,40 @@ pub record MissesArrival (places : List Listening) (most moment from : ℕ) (lob
   pub seats : seats_of new ≡ seats_of old ++ taken_of arrivals
   pub keeps : (past : List TurnOf) → Keeps places most lobby.next past old → Keeps places most lobby_after.next past new
 
+-- a line of several failed: the log has those before it
+pub record MissesLine (all : List (List ℕ)) (log log_after : Option (List (List ℕ))) (part : List ℕ) : Type 0 where
+  pub before : List (List ℕ)
+  pub line : List ℕ
+  pub behind : List (List ℕ)
+  pub are : all ≡ before ++ line ∷ behind
+  pub whole : List (List ℕ)
+  pub added : log_after ≡ with_lines log (before ++ whole)
+  pub begins : BeginsLine line whole part
+
 -- a round that breaks off
-pub record MissesRound (places : List Listening) (most : ℕ) (lobby : Lobby) (past : List TurnOf)
+pub record MissesRound (places : List Place) (most : ℕ) (lobby : Lobby) (last : Option ℕ) (past : List TurnOf)
     (told told_after : Option (List LinksEntry)) (log log_after : Option (List (List ℕ)))
     (part : List ℕ) (old new : List Phase) : Type 0 where
   pub round : Round
   pub tells : told_after ≡ option_map (λ entries. entries ++ round_entries round) told
-  pub added : log_after ≡ with_lines log (round_lines round)
-  pub ended : AllByRecursion (λ (t : TurnOf). IfEnded places most (past ++ round.turns) t t.end) (past ++ round.turns)
-  pub breaks : BreaksOff places most past lobby (seats_of old) round (seats_of new) part
+  pub minute : List (List ℕ)
+  pub added : log_after ≡ with_lines log (round_lines round ++ minute)
+  pub ended : AllByRecursion (λ (t : TurnOf). IfEnded (listenings places) most (past ++ round.turns) t t.end) (past ++ round.turns)
+  pub breaks : BreaksOff places last most past lobby (seats_of old) round minute (seats_of new) part
 
 -- rounds, of which the last breaks off
-pub record MissesRounds (places : List Listening) (most : ℕ) (lobby : Lobby) (made : ℕ) (past : List TurnOf)
+pub record MissesRounds (places : List Place) (most : ℕ) (lobby : Lobby) (last : Option ℕ) (made : ℕ) (past : List TurnOf)
     (told told_after : Option (List LinksEntry)) (log log_after : Option (List (List ℕ)))
     (part : List ℕ) (old new : List Phase) : Type 0 where
   pub rounds : List Round
   pub count : length rounds ≡ made
   pub round : Round
   pub tells : told_after ≡ option_map (λ entries. entries ++ flat_map round_entries (rounds ++ round ∷ [])) told
-  pub added : log_after ≡ with_lines log (flat_map round_lines (rounds ++ round ∷ []))
-  pub ended : AllByRecursion (λ (t : TurnOf). IfEnded places most (past ++ turns_of (rounds ++ round ∷ [])) t t.end)
+  pub minute : List (List ℕ)
+  pub added : log_after ≡ with_lines log (all_lines places last past rounds ++ (round_lines round ++ minute))
+  pub ended : AllByRecursion (λ (t : TurnOf). IfEnded (listenings places) most (past ++ turns_of (rounds ++ round ∷ [])) t t.end)
       (past ++ turns_of (rounds ++ round ∷ []))
   pub mid : Lobby
   pub standing : List Seat
-  pub in_turn : AreRounds places lobby (seats_of old) rounds mid standing
-  pub breaks : BreaksOff places most (past ++ turns_of rounds) mid standing round (seats_of new) part
+  pub in_turn : AreRounds (listenings places) lobby (seats_of old) rounds mid standing
+  pub breaks : BreaksOff places (last_from last rounds) most (past ++ turns_of rounds) mid standing round minute (seats_of new) part

@@ -3,6 +3,7 @@ pub mod Debt
 pub mod Door
 pub mod Failing
 pub mod Laws
+pub mod Minute
 pub mod Phase
 pub mod Rounds
 pub mod Served

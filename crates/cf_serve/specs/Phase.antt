@@ -9,16 +9,18 @@ use Rattle.cf_relay.specs.Relaying.{AreClosed, IsSound, RelayingValue, relaying_
 use Rattle.cf_relay.specs.Stands.{StandsFor}
 use Rattle.cf_relay.specs.Turn.{DoesStages, turns}
 use Rattle.cf_view.specs.declared.Endpoint.{Endpoint}
+use Rattle.cf_relay.specs.declared.directions.Directions.TheVariants as both
 use Rattle.cf_relay.specs.declared.stop.Stop.{Stop}
 use Rattle.cf_relay.specs.declared.stop.Stop.TheVariants as stop
 use Rattle.std.specs.Prelude.{Bool, Err, List, None, Ok, Result, false, true, Option, Some, [], is_some, map, not, option_map, ℕ}
 use Rattle.std.specs.Prelude.{◌++◌, ◌-◌, ◌∷◌, ◌≡◌}
-use Rattle.cf_serve.specs.Debt.{Refuses, debt_with, must_rest, no_debt}
+use Rattle.cf_serve.specs.Debt.{Admits, HasAdmitted, HasRefused, Refuses, debt_with, must_rest, no_debt}
 use Rattle.cf_serve.specs.Rounds.{IsTurn, Seat, TurnOf, turn_entries}
 use Rattle.cf_serve.specs.Session.{EndsSo, Listening}
 use Rattle.cf_serve.specs.declared.debt.Debt.{Debt}
 use Rattle.cf_serve.specs.declared.end.SessionEnd.{SessionEnd}
 use Rattle.cf_serve.specs.declared.end.SessionEnd.TheVariants as end
+use Rattle.cf_serve.specs.declared.minute.Tally.{Tally}
 use Rattle.cf_serve.specs.declared.session.Linked.{Linked}
 use Rattle.cf_serve.specs.declared.session.Reached.{Reached}
 use Rattle.cf_serve.specs.declared.session.Reached.TheVariants as reached
@@ -43,6 +45,18 @@ debt_at (Some v) = v.debt
 abbrev pub refused_at : Option LinkedValue → ℕ
 refused_at None = 0
 refused_at (Some v) = v.now.lane.refused
+
+abbrev pub admitted_at : Option LinkedValue → ℕ
+admitted_at None = 0
+admitted_at (Some v) = v.now.lane.admitted
+
+-- both numbers of its commands
+abbrev pub counts_at : Option LinkedValue → Tally
+counts_at linked = record { admitted = admitted_at linked; refused = refused_at linked }
+
+-- both are those of its own answers
+abbrev pub IsCountedAs : Listening → List Entry → Option LinkedValue → Type 0
+IsCountedAs at es linked = HasAdmitted at es (admitted_at linked) × HasRefused at es (refused_at linked)
 
 -- what a turn at a moment leaves of the debt
 abbrev pub Owes : (moment : ℕ) → (old new : Option LinkedValue) → Type 0
@@ -69,7 +83,7 @@ pub record StandsLinked (at : Listening) (most : ℕ) (es : List Entry) (own : L
   pub count : ℕ
   pub answers : List Entry
   pub split : es ≡ met_at at.port at.asset.endpoint v.met ∷ Moment moment ∷ answers
-  pub does : DoesStages at.asset most (turns count) (met_at at.port at.asset.endpoint v.met ∷ Moment moment ∷ []) answers
+  pub does : DoesStages at.asset most (turns both.Separate count) (met_at at.port at.asset.endpoint v.met ∷ Moment moment ∷ []) answers
   pub stands : StandsFor at.asset (Some (line_about at.asset v.met moment Begun ∷ []))
       (met_at at.port at.asset.endpoint v.met ∷ Moment moment ∷ answers) v.now (Some own)
 
@@ -83,11 +97,11 @@ abbrev pub MayTurn : Listening → (most : ℕ) → Option LinkedValue → Type 
 MayTurn at most None = Unit {0}
 MayTurn at most (Some v) = IsSound at.asset most v.now × (AreClosed v.now → ⊥)
 
--- what a turn leaves: a session that stands, or one that ended
+-- what a turn leaves: a session that stands, or one that ended, of which the numbers are kept still
 abbrev pub TurnLeaves : Listening → (most : ℕ) → (client : Endpoint) → List Entry → (own : List (List ℕ)) → Option LinkedValue
     → Option SessionEnd → Type 0
 TurnLeaves at most client es own linked None = StandsAs at most es own linked
-TurnLeaves at most client es own linked (Some end) = EndsSo at most client es own end
+TurnLeaves at most client es own linked (Some end) = EndsSo at most client es own end × IsCountedAs at es linked
 
 -- a turn adds answers, and lines to the log, whatever came before
 pub record TurnDoes (at : Listening) (most : ℕ) (client : Endpoint) (told told_after : SessionTold) (log log_after : Option (List (List ℕ)))
@@ -101,7 +115,7 @@ pub record TurnDoes (at : Listening) (most : ℕ) (client : Endpoint) (told told
 abbrev pub ReachLeaves : Listening → (most : ℕ) → (client : Endpoint) → List Entry → (own : List (List ℕ)) → Reached → Type 0
 ReachLeaves at most client es own reached.Waiting = (es ≡ []) × (own ≡ [])
 ReachLeaves at most client es own (reached.Begun linked) = StandsLinked at most es own (linked_value linked)
-ReachLeaves at most client es own (reached.Ended end) = EndsSo at most client es own end
+ReachLeaves at most client es own (reached.Ended end) = EndsSo at most client es own end × IsCountedAs at es None
 
 -- asking for it adds answers and lines, behind those of the session before
 pub record ReachDoes (at : Listening) (most : ℕ) (client : Endpoint) (before : List Entry) (told told_after : SessionTold)
@@ -159,6 +173,9 @@ pub record SeatDoes (at : Listening) (most moment : ℕ) (es : List Entry) (own 
   pub rests : must_rest (debt_at old.linked) moment ≡ true → turn.ready ≡ false
   pub idle : turn.ready ≡ false → turn.refused ≡ 0
   pub refuses : Refuses at es turn.answers turn.refused
+  pub passive : turn.ready ≡ false → turn.admitted ≡ 0
+  pub admits : Admits at es turn.answers turn.admitted
+  pub counts : (turn.admitted ≡ admitted_at new.linked - admitted_at old.linked) × (turn.refused ≡ refused_at new.linked - refused_at old.linked)
   pub owes : turn.end ≡ None → debt_at new.linked ≡ debt_with (debt_at old.linked) moment turn.refused
   pub tells : told_after ≡ option_map (λ entries. entries ++ turn_entries turn) told
   pub added : log_after ≡ with_lines log turn.lines

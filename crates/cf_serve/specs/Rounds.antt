@@ -32,14 +32,15 @@ pub record Arrival : Type 0 where
   pub closed : Option Closing
   pub lines : List (List ℕ)
 
--- what a round was to one session: the moment of the round, its answers, the lines that it got, how many of its commands were refused,
--- and its end where this was its last
+-- what a round was to one session: the moment of the round, its answers, the lines that it got, how many of its commands were admitted and
+-- how many refused, and its end where this was its last
 pub record TurnOf : Type 0 where
   pub seat : Seat
   pub moment : ℕ
   pub ready : Bool
   pub answers : List Entry
   pub lines : List (List ℕ)
+  pub admitted : ℕ
   pub refused : ℕ
   pub end : Option SessionEnd
 

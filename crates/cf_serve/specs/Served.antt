@@ -8,7 +8,8 @@ use Rattle.std.specs.Prelude.{◌<◌, ◌^◌, ◌∷◌, ◌≡◌, ◌⊎◌}
 use Rattle.cf_serve.specs.Debt.{AreMeasured}
 use Rattle.cf_serve.specs.Phase.{listenings}
 use Rattle.cf_serve.specs.Door.{first_lobby}
-use Rattle.cf_serve.specs.Rounds.{AreRounds, Round, Seat, TurnOf, answers_in, ends_in, lines_in, round_entries, round_lines}
+use Rattle.cf_serve.specs.Minute.{all_lines}
+use Rattle.cf_serve.specs.Rounds.{AreRounds, Round, Seat, TurnOf, answers_in, ends_in, lines_in, round_entries}
 use Rattle.cf_serve.specs.Rounds.{turns_of}
 use Rattle.cf_serve.specs.Session.{IsSession, Listening}
 use Rattle.cf_serve.specs.declared.door.Lobby.{Lobby}
@@ -49,7 +50,8 @@ pub record IsServed (places : List Place) (most : ℕ) (entries : List LinksEntr
   pub lobby : Lobby
   pub standing : List Seat
   pub told : entries ≡ opened_from 0 moments ++ (flat_map round_entries rounds ++ left_of standing)
-  pub logged : lines ≡ listen_lines places moments ++ flat_map round_lines rounds
+  -- behind each round at which a minute is over stands the line of each place
+  pub logged : lines ≡ listen_lines places moments ++ all_lines places None [] rounds
   -- no round begins before every place was opened
   pub opened : (length moments ≡ length places) ⊎ (rounds ≡ [])
   pub in_turn : AreRounds (listenings places) first_lobby [] rounds lobby standing

@@ -7,7 +7,8 @@ use Rattle.std.specs.Prelude.{Bool, Err, Ok, Result, List, None, Option, Some, [
 use Rattle.std.specs.Prelude.{slice_get, true, ℕ, ◌++◌, ◌+◌, ◌<◌}
 use Rattle.std.specs.Prelude.{◌∷◌, ◌≡◌, ◌≤◌, ◌==◌}
 use Rattle.cf_serve.specs.Debt.{AreMeasured, debt_of}
-use Rattle.cf_serve.specs.Phase.{MayTurn, Phase, StandsAs, debt_at}
+use Rattle.cf_serve.specs.Minute.{IsTallied, all_lines, last_behind, last_from, minute_lines}
+use Rattle.cf_serve.specs.Phase.{MayTurn, Phase, StandsAs, debt_at, listenings}
 use Rattle.cf_serve.specs.Rounds.{AreArrivals, AreRounds, AreTurns, Arrival, IsRound, IsTurn, Round, Seat, TurnOf, answers_in}
 use Rattle.cf_serve.specs.Rounds.{arrival_entries, ends_in, lines_in, lobby_behind, round_entries, round_lines, stays, taken_of}
 use Rattle.cf_serve.specs.Rounds.{turn_entries, turns_of}
@@ -16,6 +17,9 @@ use Rattle.cf_serve.specs.declared.door.Lobby.{Lobby}
 use Rattle.cf_serve.specs.declared.end.SessionEnd.{SessionEnd}
 use Rattle.cf_serve.specs.declared.fault.ServeFault.{ServeFault}
 use Rattle.cf_serve.specs.declared.fault.ServeFault.TheVariants as fault
+use Rattle.cf_serve.specs.declared.minute.Minutes.{Minutes}
+use Rattle.cf_serve.specs.declared.minute.Tally.{Tally}
+use Rattle.cf_serve.specs.declared.table.Place.{Place}
 
 -- numbers count up, from one on and below another
 abbrev pub IsBetween : (low high : ℕ) → List Phase → Type 0
@@ -66,7 +70,7 @@ pub record Keeps (places : List Listening) (most : ℕ) (next : ℕ) (past : Lis
 
 -- a session in its place had its turn: it stays there, or it is there no longer
 pub record StepDoes (places : List Listening) (most next moment : ℕ) (past : List TurnOf) (index : ℕ) (told told_after : Option (List LinksEntry))
-    (log log_after : Option (List (List ℕ))) (old new : List Phase) (stays_on : Bool) : Type 0 where
+    (log log_after : Option (List (List ℕ))) (tallies tallies_after : List Tally) (old new : List Phase) (stays_on : Bool) : Type 0 where
   pub before : List Phase
   pub it : Phase
   pub after : List Phase
@@ -82,10 +86,11 @@ pub record StepDoes (places : List Listening) (most next moment : ℕ) (past : L
   pub stay : map (λ (p : Phase). p.seat) left ≡ stays turn
   pub count : length left ≡ (if stays_on then 1 else 0)
   pub keeps : Keeps places most next (past ++ turn ∷ []) new
+  pub tallied : IsTallied tallies past → IsTallied tallies_after (past ++ turn ∷ [])
 
 -- each session that stands had its turn, in their order
 pub record TurnsDo (places : List Listening) (most next moment : ℕ) (past : List TurnOf) (told told_after : Option (List LinksEntry))
-    (log log_after : Option (List (List ℕ))) (old new : List Phase) : Type 0 where
+    (log log_after : Option (List (List ℕ))) (tallies tallies_after : List Tally) (old new : List Phase) : Type 0 where
   pub turns : List TurnOf
   pub tells : told_after ≡ option_map (λ entries. entries ++ flat_map turn_entries turns) told
   pub added : log_after ≡ with_lines log (flat_map (λ (t : TurnOf). t.lines) turns)
@@ -93,11 +98,12 @@ pub record TurnsDo (places : List Listening) (most next moment : ℕ) (past : Li
   pub each : AreTurns moment turns
   pub stay : map (λ (p : Phase). p.seat) new ≡ flat_map stays turns
   pub keeps : Keeps places most next (past ++ turns) new
+  pub tallied : IsTallied tallies past → IsTallied tallies_after (past ++ turns)
 
 -- the first of them had theirs, the rest not yet
 pub record TurnsBegin (places : List Listening) (most next moment : ℕ) (past : List TurnOf) (index : ℕ)
     (told told_after : Option (List LinksEntry))
-    (log log_after : Option (List (List ℕ))) (old new : List Phase) : Type 0 where
+    (log log_after : Option (List (List ℕ))) (tallies tallies_after : List Tally) (old new : List Phase) : Type 0 where
   pub done : List Phase
   pub rest : List Phase
   pub was : new ≡ done ++ rest
@@ -109,6 +115,7 @@ pub record TurnsBegin (places : List Listening) (most next moment : ℕ) (past :
   pub each : AreTurns moment turns
   pub stay : map (λ (p : Phase). p.seat) done ≡ flat_map stays turns
   pub keeps : Keeps places most next (past ++ turns) new
+  pub tallied : IsTallied tallies past → IsTallied tallies_after (past ++ turns)
 
 -- the seats of the sessions that stand
 abbrev pub seats_of : List Phase → List Seat
@@ -130,24 +137,33 @@ pub record Arrive (places : List Listening) (most moment from upto : ℕ) (lobby
   pub counts : lobby_after ≡ lobby_behind lobby moment arrivals
   pub keeps : (past : List TurnOf) → Keeps places most lobby.next past old → Keeps places most lobby_after.next past new
 
+-- what is kept for the lines of a minute: from when the next minute counts, and the commands of these turns
+pub record IsMinuteOf (minutes : Minutes) (last : Option ℕ) (past : List TurnOf) : Type 0 where
+  pub last_is : minutes.last ≡ last
+  pub tallied : IsTallied minutes.tallies past
+
 -- a whole round, whatever came before
-pub record RoundDoes (places : List Listening) (most : ℕ) (lobby lobby_after : Lobby) (past : List TurnOf)
-    (told told_after : Option (List LinksEntry)) (log log_after : Option (List (List ℕ))) (old new : List Phase) : Type 0 where
+pub record RoundDoes (places : List Place) (most : ℕ) (lobby lobby_after : Lobby) (minutes_after : Minutes) (last : Option ℕ)
+    (past : List TurnOf) (told told_after : Option (List LinksEntry)) (log log_after : Option (List (List ℕ)))
+    (old new : List Phase) : Type 0 where
   pub round : Round
   pub tells : told_after ≡ option_map (λ entries. entries ++ round_entries round) told
-  pub added : log_after ≡ with_lines log (round_lines round)
-  pub is_round : IsRound places lobby (seats_of old) round lobby_after (seats_of new)
-  pub keeps : Keeps places most lobby_after.next (past ++ round.turns) new
+  pub added : log_after ≡ with_lines log (round_lines round ++ minute_lines places last past round)
+  pub is_round : IsRound (listenings places) lobby (seats_of old) round lobby_after (seats_of new)
+  pub keeps : Keeps (listenings places) most lobby_after.next (past ++ round.turns) new
+  pub minutes : IsMinuteOf minutes_after (last_behind last round.moment) (past ++ round.turns)
 
 -- round after round, so many of them
-pub record RoundsDo (places : List Listening) (most : ℕ) (lobby lobby_after : Lobby) (made : ℕ) (past : List TurnOf)
-    (told told_after : Option (List LinksEntry)) (log log_after : Option (List (List ℕ))) (old new : List Phase) : Type 0 where
+pub record RoundsDo (places : List Place) (most : ℕ) (lobby lobby_after : Lobby) (minutes_after : Minutes) (last : Option ℕ) (made : ℕ)
+    (past : List TurnOf) (told told_after : Option (List LinksEntry)) (log log_after : Option (List (List ℕ)))
+    (old new : List Phase) : Type 0 where
   pub rounds : List Round
   pub count : length rounds ≡ made
   pub tells : told_after ≡ option_map (λ entries. entries ++ flat_map round_entries rounds) told
-  pub added : log_after ≡ with_lines log (flat_map round_lines rounds)
-  pub in_turn : AreRounds places lobby (seats_of old) rounds lobby_after (seats_of new)
-  pub keeps : Keeps places most lobby_after.next (past ++ turns_of rounds) new
+  pub added : log_after ≡ with_lines log (all_lines places last past rounds)
+  pub in_turn : AreRounds (listenings places) lobby (seats_of old) rounds lobby_after (seats_of new)
+  pub keeps : Keeps (listenings places) most lobby_after.next (past ++ turns_of rounds) new
+  pub minutes : IsMinuteOf minutes_after (last_from last rounds) (past ++ turns_of rounds)
 
 -- the service goes on, or its wait failed: all rounds were whole
 abbrev pub IfWhole : Result Unit ServeFault → Type 0 → Type 0

@@ -21,7 +21,7 @@ const ANY_MICROS: u64 = 1_000_000;
 const AWAY_MICROS: u64 = 1_000_000;
 
 /// How many places a service listens at, at most.
-const PLACES: usize = 256;
+pub(crate) const PLACES: usize = 256;
 
 /// Why a client is closed as it comes.
 #[derive(Clone, Copy)]

@@ -6,6 +6,7 @@ mod door;
 mod end;
 mod fault;
 mod laws;
+mod minute;
 mod session;
 mod table;
 mod top;

@@ -15,12 +15,13 @@ ghost use Rattle.cf_relay.specs.declared.limit.TheConstants.{MOST_BYTES};
 ghost use Rattle.cf_relay.specs.Stands.{IsNewLane};
 ghost use Rattle.cf_serve.specs.Failing.{MissesReach, MissesTurn};
 ghost use Rattle.cf_serve.specs.Debt.{must_rest};
-ghost use Rattle.cf_serve.specs.Phase.{BeginsFree, IsSoundBegun, MayTurn, Owes, Phase, ReachDoes, TurnDoes, debt_at, end_of, last_value};
+ghost use Rattle.cf_serve.specs.Phase.{BeginsFree, IsSoundBegun, MayTurn, Owes, Phase, ReachDoes, TurnDoes, counts_at, debt_at, end_of, last_value};
 ghost use Rattle.cf_serve.specs.Phase.{linked_value, listening_of, phase_of};
 ghost use Rattle.cf_view.specs.declared.Endpoint.{Endpoint as EndpointOf};
 
 use crate::debt::Debt;
 use crate::end::SessionEnd;
+use crate::minute::Tally;
 use cf_audit::What;
 use cf_driver::log_line;
 use cf_lane::Lane;
@@ -28,7 +29,7 @@ use cf_links::{Links, ReachAnswer};
 use cf_outq::Outq;
 use cf_outside::{Desk, MomentAnswer};
 use cf_policy::Asset;
-use cf_relay::{Relaying, Stop};
+use cf_relay::{Directions, Relaying, Stop};
 use cf_view::{Endpoint, NoMemory, WriteFault};
 use std::alloc::Global;
 
@@ -265,9 +266,15 @@ impl Linked {
         ensures buffer { length buf.new ≡ MOST_BYTES }
     {
         let earlier = self.relaying.refused();
-        let answer = self
-            .relaying
-            .turn(terms.asset, terms.most, buf, session, links, desk);
+        let answer = self.relaying.turn(
+            terms.asset,
+            Directions::Separate,
+            terms.most,
+            buf,
+            session,
+            links,
+            desk,
+        );
         let end = match end_by(answer, self.relaying.is_closed())? {
             Some(end) => end,
             None => {
@@ -290,6 +297,22 @@ impl Served {
         match &self.linked {
             Some(linked) => linked.debt.must_rest(moment),
             None => false,
+        }
+    }
+
+    /// How many of its commands were admitted and refused so far.
+    pub(crate) fn counts(&self) -> Tally
+        ensures { result ≡ counts_at (Phase.linked (phase_of self.now)) }
+    {
+        match &self.linked {
+            Some(linked) => Tally {
+                admitted: linked.relaying.admitted(),
+                refused: linked.relaying.refused(),
+            },
+            None => Tally {
+                admitted: 0,
+                refused: 0,
+            },
         }
     }
 

@@ -1,8 +1,9 @@
 //! The sessions of a service that stand, and their turns in a round.
 //! A round is data: its moment, the clients that came, and a turn for each session that stands.
 ghost use Rattle.std.specs.Prelude.{◌≡◌, ◌<◌, ◌≤◌, ◌+◌, ◌-◌, false, ◌^◌, ◌++◌, ◌∷◌, [], if◌then◌else◌, IfOk, Err, IsErr, List, OnErr};
-ghost use Rattle.std.specs.Prelude.{OnOk, Some, length, map, option_map, slice_get, true, vec_capacity, vec_len, ℕ};
+ghost use Rattle.std.specs.Prelude.{OnOk, Option, Some, length, map, option_map, slice_get, true, vec_capacity, vec_len, ℕ};
 ghost use Rattle.cf_lane.specs.Handled.{WritesLog};
+ghost use Rattle.cf_lane.specs.Log.{with_lines};
 ghost use Rattle.cf_links.specs.Links.{LinksPlace};
 ghost use Rattle.cf_outside.specs.Desk.{DeskValue};
 ghost use Rattle.cf_outside.specs.Faults.{HasCause};
@@ -10,17 +11,19 @@ ghost use Rattle.cf_outside.specs.Pair.{Entry, FaultsBy};
 ghost use Rattle.cf_policy.specs.Within.{IsAssetWithin};
 ghost use Rattle.cf_relay.specs.declared.limit.TheConstants.{MOST_BYTES};
 ghost use Rattle.cf_serve.specs.Phase.{KeepsPlace, MayTurn, Phase, SeatDoes, StandsAs, debt_at, listening_at, listening_of, listenings, phase_of};
-ghost use Rattle.cf_serve.specs.Failing.{MissesArrival, MissesRound, MissesRounds, MissesSeat, MissesStep, MissesTurns};
+ghost use Rattle.cf_serve.specs.Failing.{MissesArrival, MissesLine, MissesRound, MissesRounds, MissesSeat, MissesStep, MissesTurns};
 ghost use Rattle.cf_serve.specs.Served.{HasMade, left_of};
 ghost use Rattle.cf_serve.specs.Door.{first_lobby};
-ghost use Rattle.cf_serve.specs.Rounds.{TurnOf, closing_of, has_place};
-ghost use Rattle.cf_serve.specs.Table.{Arrive, IfWhole, IsTable, Keeps, MayLeave, RoundDoes, RoundsDo, StepDoes, TurnsDo, new_phase};
+ghost use Rattle.cf_serve.specs.Minute.{last_behind, lines_at, no_minutes, stands_lines, tally_at};
+ghost use Rattle.cf_serve.specs.Rounds.{TurnOf, closing_of, count_of, has_place};
+ghost use Rattle.cf_serve.specs.Table.{Arrive, IfWhole, IsMinuteOf, IsTable, Keeps, MayLeave, RoundDoes, RoundsDo, StepDoes, TurnsDo, new_phase};
 ghost use Rattle.cf_serve.specs.Table.{seats_of};
 ghost use Rattle.cf_serve.specs.declared.table.Place.{Place as PlaceOf};
 ghost use Rattle.std.specs.List.{AllByRecursion};
 
 use crate::door::{Closing, Lobby, names_client};
 use crate::fault::ServeFault;
+use crate::minute::Minutes;
 use crate::session::{Served, Terms};
 use cf_audit::What;
 use cf_driver::log_line;
@@ -109,11 +112,13 @@ fn turn_one<L: Service, D: Desk>(
     }
 }
 
-/// The sessions that stand, in the order in which they came, and what is kept of all clients that came.
+/// The sessions that stand, in the order in which they came, what is kept of all clients that came, and what is kept for the lines of a
+/// minute.
 #[derive(Drop)]
 pub(crate) struct Table {
     pub(crate) sessions: Vec<Served>,
     pub(crate) lobby: Lobby,
+    pub(crate) minutes: Minutes,
 }
 
 impl Table {
@@ -121,12 +126,14 @@ impl Table {
     pub(crate) fn new(alloc: Global) -> Result<Table, AllocError>
         ensures none { IfOk result (λ table. (Table.sessions table).items ≡ []) }
         ensures lobby { IfOk result (λ table. Table.lobby table ≡ first_lobby) }
+        ensures minutes { IfOk result (λ table. Table.minutes table ≡ no_minutes) }
         ensures room { IfOk result (λ table. 256 ≤ vec_capacity (Table.sessions table)) }
     {
         let sessions = Vec::with_capacity(alloc, SESSION_LIMIT)?;
         Ok(Table {
             sessions,
             lobby: Lobby::new(),
+            minutes: Minutes::new(),
         })
     }
 
@@ -155,6 +162,7 @@ impl Table {
         desk: &mut D,
     ) -> Result<bool, WriteFault>
         requires index { index < length self.old.sessions.items }
+        requires few { length places.now ≤ 256 }
         requires table { IsTable (listenings places.now) most (LinksPlace.serves (L.place links.old)) self.old.lobby.next
             (map phase_of self.old.sessions.items) }
         requires within { AllByRecursion (λ place. IsAssetWithin (PlaceOf.asset place).now) places.now }
@@ -166,7 +174,7 @@ impl Table {
         ensures does { IfOk result (λ stays. (past : List TurnOf)
             → Keeps (listenings places.now) most self.old.lobby.next past (map phase_of self.old.sessions.items)
             → StepDoes (listenings places.now) most self.old.lobby.next moment past index (L.told links.old) (L.told links.new)
-            (DeskValue.lines (D.value desk.old)) (DeskValue.lines (D.value desk.new))
+            (DeskValue.lines (D.value desk.old)) (DeskValue.lines (D.value desk.new)) self.old.minutes.tallies self.new.minutes.tallies
             (map phase_of self.old.sessions.items) (map phase_of self.new.sessions.items) stays) }
         ensures breaks { OnErr result ((past : List TurnOf)
             → Keeps (listenings places.now) most self.old.lobby.next past (map phase_of self.old.sessions.items)
@@ -178,6 +186,7 @@ impl Table {
         ensures leave { OnErr result (MayLeave (LinksPlace.serves (L.place links.new)) self.new.lobby.next
             (map phase_of self.new.sessions.items)) }
         ensures lobby { self.new.lobby ≡ self.old.lobby }
+        ensures last { self.new.minutes.last ≡ self.old.minutes.last }
         ensures round { LinksPlace.round_faults (L.place links.new) ≡ LinksPlace.round_faults (L.place links.old) }
         ensures whole { OnOk result (DeskValue.whole (D.value desk.new) ≡ true) }
         ensures log { WritesLog (D.value desk.old) (D.value desk.new) }
@@ -185,14 +194,18 @@ impl Table {
         ensures buffer { length buf.new ≡ MOST_BYTES }
     {
         let served = &mut self.sessions[index];
-        let place = place_of(places, served.place);
+        let number = served.place;
+        let place = place_of(places, number);
         let terms = Terms {
             asset: place.asset,
             port: place.at.port,
             moment,
             most,
         };
+        let before = served.counts();
         let stays = turn_one(served, alloc, &terms, buf, links, desk)?;
+        let after = served.counts();
+        self.minutes.add(number, before, after);
         if !stays {
             self.sessions.remove(index);
         }
@@ -211,6 +224,7 @@ impl Table {
     ) -> Result<(), WriteFault>
         requires table { IsTable (listenings places.now) most (LinksPlace.serves (L.place links.old)) self.old.lobby.next
             (map phase_of self.old.sessions.items) }
+        requires few { length places.now ≤ 256 }
         requires within { AllByRecursion (λ place. IsAssetWithin (PlaceOf.asset place).now) places.now }
         requires most { 0 < most }
         requires whole { DeskValue.whole (D.value desk.old) ≡ true }
@@ -219,7 +233,7 @@ impl Table {
         ensures does { OnOk result ((past : List TurnOf)
             → Keeps (listenings places.now) most self.old.lobby.next past (map phase_of self.old.sessions.items)
             → TurnsDo (listenings places.now) most self.old.lobby.next moment past (L.told links.old) (L.told links.new)
-            (DeskValue.lines (D.value desk.old)) (DeskValue.lines (D.value desk.new))
+            (DeskValue.lines (D.value desk.old)) (DeskValue.lines (D.value desk.new)) self.old.minutes.tallies self.new.minutes.tallies
             (map phase_of self.old.sessions.items) (map phase_of self.new.sessions.items)) }
         ensures breaks { OnErr result ((past : List TurnOf)
             → Keeps (listenings places.now) most self.old.lobby.next past (map phase_of self.old.sessions.items)
@@ -229,6 +243,7 @@ impl Table {
         ensures leave { OnErr result (MayLeave (LinksPlace.serves (L.place links.new)) self.new.lobby.next
             (map phase_of self.new.sessions.items)) }
         ensures lobby { self.new.lobby ≡ self.old.lobby }
+        ensures last { self.new.minutes.last ≡ self.old.minutes.last }
         ensures round { LinksPlace.round_faults (L.place links.new) ≡ LinksPlace.round_faults (L.place links.old) }
         ensures room { vec_capacity self.new.sessions ≡ vec_capacity self.old.sessions }
         ensures whole { OnOk result (DeskValue.whole (D.value desk.new) ≡ true) }
@@ -245,9 +260,9 @@ impl Table {
         Ok(())
     }
 
-    /// Whether there is a place for one more client of a listening place.
-    fn has_place(&self, place: usize) -> bool
-        ensures { result ≡ has_place (seats_of (map phase_of self.now.sessions.items)) place }
+    /// How many sessions of a listening place stand.
+    fn count_at(&self, place: usize) -> usize
+        ensures { result ≡ count_of place (seats_of (map phase_of self.now.sessions.items)) }
     {
         let mut count = 0;
         for served in self.sessions.iter() {
@@ -255,7 +270,14 @@ impl Table {
                 count += 1;
             }
         }
-        self.sessions.len() < SESSION_LIMIT && count < PLACE_LIMIT
+        count
+    }
+
+    /// Whether there is a place for one more client of a listening place.
+    fn has_place(&self, place: usize) -> bool
+        ensures { result ≡ has_place (seats_of (map phase_of self.now.sessions.items)) place }
+    {
+        self.sessions.len() < SESSION_LIMIT && self.count_at(place) < PLACE_LIMIT
     }
 
     /// Why a client of this address is closed as it comes to a listening place of the asset, if it is.
@@ -297,6 +319,7 @@ impl Table {
         ensures breaks { OnErr result ((most : ℕ) → MissesArrival (listenings places.now) most moment place self.old.lobby self.new.lobby
             (L.told links.old) (L.told links.new) (DeskValue.lines (D.value desk.old)) (DeskValue.lines (D.value desk.new))
             (DeskValue.line_part (D.value desk.new)) (map phase_of self.old.sessions.items) (map phase_of self.new.sessions.items)) }
+        ensures minutes { self.new.minutes ≡ self.old.minutes }
         ensures room { vec_capacity self.old.sessions ≤ vec_capacity self.new.sessions }
         ensures whole { OnOk result (DeskValue.whole (D.value desk.new) ≡ true) }
         ensures log { WritesLog (D.value desk.old) (D.value desk.new) }
@@ -328,6 +351,7 @@ impl Table {
         ensures items { map phase_of self.new.sessions.items ≡ map phase_of self.old.sessions.items
             ++ new_phase self.old.lobby.next place client ∷ [] }
         ensures lobby { self.new.lobby ≡ record self.old.lobby { next = self.old.lobby.next + 1 } }
+        ensures minutes { self.new.minutes ≡ self.old.minutes }
         ensures room { vec_capacity self.old.sessions ≤ vec_capacity self.new.sessions }
     {
         let served = Served {
@@ -363,6 +387,7 @@ impl Table {
         ensures breaks { OnErr result ((most : ℕ) → MissesArrival (listenings places.now) most moment 0 self.old.lobby self.new.lobby
             (L.told links.old) (L.told links.new) (DeskValue.lines (D.value desk.old)) (DeskValue.lines (D.value desk.new))
             (DeskValue.line_part (D.value desk.new)) (map phase_of self.old.sessions.items) (map phase_of self.new.sessions.items)) }
+        ensures minutes { self.new.minutes ≡ self.old.minutes }
         ensures room { vec_capacity self.old.sessions ≤ vec_capacity self.new.sessions }
         ensures whole { OnOk result (DeskValue.whole (D.value desk.new) ≡ true) }
         ensures log { WritesLog (D.value desk.old) (D.value desk.new) }
@@ -374,7 +399,73 @@ impl Table {
         Ok(())
     }
 
-    /// One round: a client at most is taken or closed at each place, and then each session has its turn.
+    /// Puts the line of each listening place: how many of its sessions stand, and how many of its commands were admitted and refused.
+    fn put_stands<D: Desk>(
+        &self,
+        places: &[Place<'_>],
+        moment: u64,
+        desk: &mut D,
+    ) -> Result<(), WriteFault>
+        requires few { length places.now ≤ 256 }
+        requires within { AllByRecursion (λ place. IsAssetWithin (PlaceOf.asset place).now) places.now }
+        requires whole { DeskValue.whole (D.value desk.old) ≡ true }
+        ensures lines { OnOk result (DeskValue.lines (D.value desk.new) ≡ with_lines (DeskValue.lines (D.value desk.old))
+            (stands_lines places.now 0 (seats_of (map phase_of self.now.sessions.items)) (tally_at self.now.minutes.tallies) moment)) }
+        ensures breaks { OnErr result (MissesLine
+            (stands_lines places.now 0 (seats_of (map phase_of self.now.sessions.items)) (tally_at self.now.minutes.tallies) moment)
+            (DeskValue.lines (D.value desk.old)) (DeskValue.lines (D.value desk.new)) (DeskValue.line_part (D.value desk.new))) }
+        ensures whole { OnOk result (DeskValue.whole (D.value desk.new) ≡ true) }
+        ensures log { WritesLog (D.value desk.old) (D.value desk.new) }
+        ensures cause { HasCause (DeskValue.faults (D.value desk.old)) (DeskValue.faults (D.value desk.new)) (IsErr result) }
+    {
+        for number in 0..places.len() {
+            let place = place_of(places, number);
+            let tally = self.minutes.tally_at(number);
+            let what = What::Stands {
+                standing: self.count_at(number) as u64,
+                admitted: tally.admitted,
+                refused: tally.refused,
+            };
+            log_line(place.asset, place.at, moment, what, desk)?;
+        }
+        Ok(())
+    }
+
+    /// Puts those lines where a minute is over behind a round at a moment.
+    fn end_round<D: Desk>(
+        &mut self,
+        places: &[Place<'_>],
+        moment: u64,
+        desk: &mut D,
+    ) -> Result<(), WriteFault>
+        requires few { length places.now ≤ 256 }
+        requires within { AllByRecursion (λ place. IsAssetWithin (PlaceOf.asset place).now) places.now }
+        requires whole { DeskValue.whole (D.value desk.old) ≡ true }
+        ensures lines { OnOk result (DeskValue.lines (D.value desk.new) ≡ with_lines (DeskValue.lines (D.value desk.old))
+            (lines_at places.now self.old.minutes.last (seats_of (map phase_of self.old.sessions.items))
+            (tally_at self.old.minutes.tallies) moment)) }
+        ensures breaks { OnErr result (MissesLine
+            (lines_at places.now self.old.minutes.last (seats_of (map phase_of self.old.sessions.items))
+            (tally_at self.old.minutes.tallies) moment)
+            (DeskValue.lines (D.value desk.old)) (DeskValue.lines (D.value desk.new)) (DeskValue.line_part (D.value desk.new))) }
+        ensures same { self.new ≡ record self.old {
+          minutes = record self.old.minutes {
+            last = last_behind self.old.minutes.last moment;
+          };
+        } }
+        ensures whole { OnOk result (DeskValue.whole (D.value desk.new) ≡ true) }
+        ensures log { WritesLog (D.value desk.old) (D.value desk.new) }
+        ensures cause { HasCause (DeskValue.faults (D.value desk.old)) (DeskValue.faults (D.value desk.new)) (IsErr result) }
+    {
+        if self.minutes.note(moment) {
+            self.put_stands(places, moment, desk)
+        } else {
+            Ok(())
+        }
+    }
+
+    /// One round: a client at most is taken or closed at each place, then each session has its turn, and where a minute is over each
+    /// place has its line.
     pub(crate) fn round<L: Service, D: Desk>(
         &mut self,
         alloc: Global,
@@ -394,12 +485,14 @@ impl Table {
             (map phase_of self.new.sessions.items)) }
         ensures does { OnOk result ((past : List TurnOf)
             → Keeps (listenings places.now) most self.old.lobby.next past (map phase_of self.old.sessions.items)
-            → RoundDoes (listenings places.now) most self.old.lobby self.new.lobby past (L.told links.old) (L.told links.new)
+            → (last : Option ℕ) → IsMinuteOf self.old.minutes last past
+            → RoundDoes places.now most self.old.lobby self.new.lobby self.new.minutes last past (L.told links.old) (L.told links.new)
             (DeskValue.lines (D.value desk.old)) (DeskValue.lines (D.value desk.new))
             (map phase_of self.old.sessions.items) (map phase_of self.new.sessions.items)) }
         ensures breaks { result ≡ Err ServeFault.Write → (past : List TurnOf)
             → Keeps (listenings places.now) most self.old.lobby.next past (map phase_of self.old.sessions.items)
-            → MissesRound (listenings places.now) most self.old.lobby past (L.told links.old) (L.told links.new)
+            → (last : Option ℕ) → IsMinuteOf self.old.minutes last past
+            → MissesRound places.now most self.old.lobby last past (L.told links.old) (L.told links.new)
             (DeskValue.lines (D.value desk.old)) (DeskValue.lines (D.value desk.new)) (DeskValue.line_part (D.value desk.new))
             (map phase_of self.old.sessions.items) (map phase_of self.new.sessions.items) }
         ensures leave { OnErr result (MayLeave (LinksPlace.serves (L.place links.new)) self.new.lobby.next
@@ -425,6 +518,10 @@ impl Table {
             Err(_) => return Err(ServeFault::Write),
         }
         match self.turns(alloc, places, moment, most, links, desk) {
+            Ok(()) => {}
+            Err(_) => return Err(ServeFault::Write),
+        }
+        match self.end_round(places, moment, desk) {
             Ok(()) => Ok(()),
             Err(_) => Err(ServeFault::Write),
         }
@@ -450,12 +547,14 @@ impl Table {
             (map phase_of self.new.sessions.items)) }
         ensures does { IfWhole result ((made : ℕ) × (HasMade result made × ((past : List TurnOf)
             → Keeps (listenings places.now) most self.old.lobby.next past (map phase_of self.old.sessions.items)
-            → RoundsDo (listenings places.now) most self.old.lobby self.new.lobby made past (L.told links.old) (L.told links.new)
+            → (last : Option ℕ) → IsMinuteOf self.old.minutes last past
+            → RoundsDo places.now most self.old.lobby self.new.lobby self.new.minutes last made past (L.told links.old) (L.told links.new)
             (DeskValue.lines (D.value desk.old)) (DeskValue.lines (D.value desk.new))
             (map phase_of self.old.sessions.items) (map phase_of self.new.sessions.items)))) }
         ensures breaks { result ≡ Err ServeFault.Write → (made : ℕ) × ((made < 2 ^ 64 - 1) × ((past : List TurnOf)
             → Keeps (listenings places.now) most self.old.lobby.next past (map phase_of self.old.sessions.items)
-            → MissesRounds (listenings places.now) most self.old.lobby made past (L.told links.old) (L.told links.new)
+            → (last : Option ℕ) → IsMinuteOf self.old.minutes last past
+            → MissesRounds places.now most self.old.lobby last made past (L.told links.old) (L.told links.new)
             (DeskValue.lines (D.value desk.old)) (DeskValue.lines (D.value desk.new)) (DeskValue.line_part (D.value desk.new))
             (map phase_of self.old.sessions.items) (map phase_of self.new.sessions.items))) }
         ensures leave { MayLeave (LinksPlace.serves (L.place links.new)) self.new.lobby.next (map phase_of self.new.sessions.items) }

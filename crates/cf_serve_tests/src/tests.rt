@@ -8,6 +8,7 @@ mod door;
 mod flood;
 mod full;
 mod logs;
+mod minutes;
 mod runs;
 mod sessions;
 mod set_back;

@@ -19,6 +19,7 @@ mod Steady
 mod Heards
 mod Assembled
 mod Counts
+mod Misfits
 mod Final
 mod FinalAmid
 mod Quiet

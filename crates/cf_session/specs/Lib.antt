@@ -9,3 +9,4 @@ pub mod Parts
 pub mod Stands
 pub mod Turn
 pub mod Laws
+pub mod Misfit

@@ -8,6 +8,7 @@ mod handing;
 mod hearing;
 mod laws;
 mod life;
+mod misfit;
 mod packet;
 mod session;
 mod speaking;
@@ -18,4 +19,5 @@ pub use laws::{
     sessions_send_what_is_let_in, work_is_of_what_was_taken,
 };
 pub use life::Life;
+pub use misfit::Misfit;
 pub use session::{BeginFault, Session};

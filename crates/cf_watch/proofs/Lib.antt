@@ -1,12 +1,15 @@
+mod Apart
 mod ForAssets
 mod Leading
 mod Lengths
 mod Letters
 mod OneStream
 mod Pieces
+mod Runs
 mod Seen
 mod SoFar
 mod Standing
+mod StretchFlows
 mod Tables
 mod Tags
 mod Taking

@@ -1,7 +1,8 @@
 -- The records of a capture that were watched so far.
 use Rattle.std.proofs.Common.{◌≡◌, ◌+◌, ◌≤◌, ℕ, suc, All, List, [], ◌∷◌, ◌++◌, ◌∙◌, ap, length, map, reverse, slice_get, Some, Ok, refl, sym, subst, arith}
+use Rattle.std.specs.List.{AllByRecursion}
 use Rattle.std.proofs.lemmas.List.{map-append, reverse-append}
-use Rattle.std.proofs.lemmas.List.Elements.{All-from_recursion}
+use Rattle.std.proofs.lemmas.List.Elements.{All-from_recursion, All-nil}
 use Rattle.cf_outside.specs.Files.{Content, IsAtEnd}
 use Rattle.cf_policy.specs.declared.Asset.{Asset}
 use Rattle.cf_records.proofs.Behind.{StandsBehind}
@@ -12,17 +13,19 @@ use Rattle.cf_records.specs.declared.Form.{Form}
 use Rattle.cf_records.specs.declared.Form.TheVariants as form
 use Rattle.cf_records.specs.declared.NextRecord.TheVariants as next
 use Rattle.cf_watch.specs.Flow.{AreFlowsOf}
-use Rattle.cf_watch.specs.FlowValue.{IsForAsset, flow_value}
+use Rattle.cf_watch.specs.FlowValue.{AreStretchesFor, FlowValue, IsForAsset, StretchValue, flow_value}
 use Rattle.cf_watch.specs.Trail.{IsHeard, IsWatchOf}
 use Rattle.cf_watch.specs.Seen.{seen_by}
-use Rattle.cf_watch.specs.Watch.{EndsAt, IsRecordingFor, kinds_by}
+use Rattle.cf_watch.specs.Watch.{EndsAt, IsRecordingFor, kinds_by, stretches_by}
 use Rattle.cf_watch.specs.Watched.{Watched}
 use Rattle.cf_watch.specs.declared.scope.Scope.{Scope}
+use Rattle.cf_watch.specs.declared.scope.Scope.TheVariants as scope
 use Rattle.cf_watch.specs.declared.fault.TheConstants.{CAPTURE_LIMIT}
 use Rattle.cf_watch.specs.declared.flow.Flow.{Flow}
 use Rattle.cf_watch.specs.declared.watching.Trail.{Trail}
 use Rattle.cf_watch.specs.declared.watching.Watch.{Watch}
 use Rattle.cf_watch.proofs.ForAssets.{are_for_seen}
+use Rattle.cf_watch.proofs.StretchFlows.{stretches_are_for}
 use Rattle.cf_watch.proofs.Leading.{Leads, leads_first, leads_on, leads_to}
 
 -- these records stand in front of a reader's place, the newest first, and their flows and stamps are kept
@@ -59,6 +62,11 @@ are_flows (w ∷ ws) [] ts a b each = absurd (omega (arith, a))
 are_flows (w ∷ ws) (f ∷ fs) [] a b each = absurd (omega (arith, b))
 are_flows (w ∷ ws) (f ∷ fs) (t ∷ ts) a b each = ((each 0 f t w refl refl refl).flow, are_flows ws fs ts (omega (arith, a)) (omega (arith, b)) (λ i g u v x y z. each (suc i) g u v x y z))
 
+by_scope : (scope : Scope) (assets : List Asset) (ws : List Watched) (flows : List FlowValue) → AllByRecursion (IsForAsset assets) flows →
+    AreStretchesFor assets (stretches_by scope ws flows)
+by_scope scope.Connections assets ws flows h = All-nil (IsForAsset assets)
+by_scope scope.Recording assets ws flows h = stretches_are_for assets ws flows h
+
 module _ {scope : Scope} {assets : List Asset} {file : Content} {start : Form} {reader : ReaderValue} {number : ℕ} {watch : Watch} {stamps : List ℕ} (so : SoFar scope assets file start reader number watch stamps) where
   pub so_far_on : (new_reader : ReaderValue) (stamp : ℕ) (new : Watch) (new_stamps : List ℕ) → FindsRecord file reader new_reader (next.Whole stamp) →
       IsWatchOf (number + 1) new (seen_by scope assets (record { stamp = stamp; link = new_reader.link; body = new_reader.body } ∷ so.newest)) → new_stamps ≡ stamps ++ stamp ∷ [] →
@@ -88,15 +96,26 @@ module _ {scope : Scope} {assets : List Asset} {file : Content} {start : Form} {
   flows_now : AreFlowsOf (seen_by scope assets so.newest) (map flow_value watch.flows.items)
   flows_now = are_flows (seen_by scope assets so.newest) watch.flows.items watch.trails.items so.heard.flow_count so.heard.trail_count so.heard.each
 
-  pub is_recording : (place : ℕ) → IsAtEnd file CAPTURE_LIMIT → StandsBehind file reader place FileEnd → IsRecordingFor scope assets file (map flow_value watch.flows.items) stamps
-  is_recording place short stands = record {
+  pub is_recording : (place : ℕ) (flows : List FlowValue) (stretches : List StretchValue) → IsAtEnd file CAPTURE_LIMIT → StandsBehind file reader place FileEnd →
+      flows ≡ map flow_value watch.flows.items → stretches ≡ stretches_by scope (seen_by scope assets so.newest) (map flow_value watch.flows.items) →
+      IsRecordingFor scope assets file flows stretches stamps
+  is_recording place flows stretches short stands same others = record {
     newest = so.newest;
     place = place;
     ends = ends_at place FileEnd short stands tt;
     are_newest = refl;
-    are_flows = flows_now;
+    are_flows = subst (AreFlowsOf (seen_by scope assets so.newest)) (sym same) flows_now;
+    are_stretches = others ∙ ap (stretches_by scope (seen_by scope assets so.newest)) (sym same);
     are_stamps = so.stamped;
   }
 
-  pub for_assets : All (IsForAsset assets) (map flow_value watch.flows.items)
-  for_assets = All-from_recursion (IsForAsset assets) (map flow_value watch.flows.items) (are_for_seen scope assets so.newest (map flow_value watch.flows.items) flows_now)
+  flows_for : AllByRecursion (IsForAsset assets) (map flow_value watch.flows.items)
+  flows_for = are_for_seen scope assets so.newest (map flow_value watch.flows.items) flows_now
+
+  pub for_assets : (flows : List FlowValue) → flows ≡ map flow_value watch.flows.items → All (IsForAsset assets) flows
+  for_assets flows same = subst (All (IsForAsset assets)) (sym same) (All-from_recursion (IsForAsset assets) (map flow_value watch.flows.items) flows_for)
+
+  pub for_assets_too : (stretches : List StretchValue) → stretches ≡ stretches_by scope (seen_by scope assets so.newest) (map flow_value watch.flows.items) →
+      AreStretchesFor assets stretches
+  for_assets_too stretches is =
+      subst (AreStretchesFor assets) (sym is) (by_scope scope assets (seen_by scope assets so.newest) (map flow_value watch.flows.items) flows_for)

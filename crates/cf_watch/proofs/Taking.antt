@@ -1,5 +1,5 @@
 -- What letters of a packet do to a flow, taken in two parts.
-use Rattle.std.proofs.Common.{◌≡◌, ◌≢◌, ◌==◌, if◌then◌else◌, ◌+◌, ◌≤◌, ◌+ℤ◌, ◌⊎◌, ℕ, ℤ, pos, Bool, true, false, List, [], ◌∷◌, ◌++◌, length, replicate, Option, Some, None, refl, sym, ap, ◌∙◌, vec_items, is_some, nat_lt, get_or, option_map, inl, inr, arith, subst, length-append, append_assoc}
+use Rattle.std.proofs.Common.{◌≡◌, ◌≢◌, ◌==◌, if◌then◌else◌, ◌+◌, ◌^◌, ◌≤◌, ◌+ℤ◌, ◌⊎◌, ℕ, ℤ, pos, Bool, true, false, List, [], ◌∷◌, ◌++◌, length, replicate, Option, Some, None, refl, sym, ap, ◌∙◌, vec_items, is_some, nat_lt, get_or, option_map, inl, inr, arith, subst, length-append, append_assoc}
 use Rattle.std.proofs.lemmas.Bool.{cases_eq, cases_lt, eq-eqb, true≢false}
 use Rattle.std.proofs.lemmas.Bool.Decides.{nat_tests}
 use Rattle.std.proofs.lemmas.Int.{ints}
@@ -10,11 +10,14 @@ use Rattle.std.specs.Ordering.{nat_cmp}
 use Rattle.std.specs.Option.{option_or}
 use Rattle.cf_stream.specs.Stream.{Letter, letter_from}
 use Rattle.cf_watch.specs.Carried.{Carried, Differs, IsConflictAfter, IsConflictOf, letter_of}
-use Rattle.cf_watch.specs.Kept.{Grows, Takes, TakesOut, known, letter_value, stream_of}
+use Rattle.cf_watch.specs.Kept.{Grows, Holds, Takes, TakesOut, came_value, kept, known, letter_value, stream_of}
+use Rattle.cf_watch.specs.Stretches.{is_own}
 use Rattle.cf_watch.specs.declared.flow.Conflict.{Conflict}
 use Rattle.cf_watch.specs.declared.flow.Flow.{Flow}
+use Rattle.cf_watch.specs.declared.letter.Came.{Came}
 use Rattle.cf_watch.specs.declared.letter.Letter.{Letter as Heard}
 use Rattle.cf_watch.specs.declared.letter.Letter.TheVariants as heard
+use Rattle.cf_watch.proofs.Apart.{came_kept, came_not, holds_both, known_kept, own_not}
 use Rattle.cf_watch.proofs.Letters.{from_append, from_none, from_one, is_behind, is_within, none_of_bytes}
 
 pub or_none : (x : Option Letter) → option_or x None ≡ x
@@ -112,12 +115,19 @@ module _ (number : ℕ) (at : ℤ) (xs ys : List ℕ) (ended : Bool) (f : ℕ �
     order = λ p q x y. omega (arith, ints, is_within at xs p x.other x.is, is_behind (at +ℤ pos (length xs)) (record { bytes = ys; ended = ended }) q y.other y.is);
   }
 
-pub takes_both : (number : ℕ) (at : ℤ) (xs ys : List ℕ) (ended : Bool) (old mid new : Flow) (a b c : BTreeMap ℕ Heard) →
+-- the bytes get no fewer
+pub longer_by : (number : ℕ) (old new : Flow) → Grows number old new → length old.bytes.items ≤ length new.bytes.items
+longer_by number old new g =
+    let n : length new.bytes.items ≡ length old.bytes.items + length g.more = ap length g.bytes ∙ length-append old.bytes.items g.more in
+    omega (arith, n)
+
+pub takes_both : (number : ℕ) (at : ℤ) (xs ys : List ℕ) (ended : Bool) (old mid new : Flow) (a b c : BTreeMap ℕ Came) →
     Takes (bytes_from number at xs) old a mid b → Takes (letters_from number (at +ℤ pos (length xs)) ys ended) mid b new c →
     Takes (letters_from number at (xs ++ ys) ended) old a new c
 takes_both number at xs ys ended old mid new a b c h i = record {
   knows = λ p. i.knows p ∙ ap (λ (o : Option Letter). option_or o (letter_of (letters_from number (at +ℤ pos (length xs)) ys ended) p)) (h.knows p)
       ∙ or_assoc (known old.bytes.items a p) (letter_of (bytes_from number at xs) p) _ ∙ ap (option_or (known old.bytes.items a p)) (sym (from_append at xs ys ended p));
+  holds = holds_both number at xs ys ended a b c (length mid.bytes.items) (length new.bytes.items) (longer_by number mid new i.grows) h.holds i.holds;
   conflicts =
       conflict_both (known old.bytes.items a) (known mid.bytes.items b) _ _ _ (parts_of number at xs ys ended (known old.bytes.items a) (known mid.bytes.items b) h.knows)
       old.conflict mid.conflict new.conflict h.conflicts i.conflicts;
@@ -146,11 +156,13 @@ no_conflict f c (Some k) new same none = same
 no_conflict f c None new same none = subst (λ (k : Option Conflict). IsConflictOf f c k) (sym same) none
 
 -- a letter where none was known
-pub takes_new : (number place : ℕ) (l : Heard) (old new : Flow) (a b : BTreeMap ℕ Heard) → known old.bytes.items a place ≡ None →
+pub takes_new : (number place : ℕ) (l : Heard) (old new : Flow) (a b : BTreeMap ℕ Came) → known old.bytes.items a place ≡ None →
     ((p : ℕ) → known new.bytes.items b p ≡ (if p == place then Some (letter_value l) else known old.bytes.items a p)) → Grows number old new → new.conflict ≡ old.conflict →
+    Holds (record { number = number; at = pos place; text = stream_of l }) a (length new.bytes.items) b →
     Takes (record { number = number; at = pos place; text = stream_of l }) old a new b
-takes_new number place l old new a b blank knows grows same = record {
+takes_new number place l old new a b blank knows grows same holds = record {
   knows = λ p. knows p ∙ new_letter place l (known old.bytes.items a) blank p;
+  holds = holds;
   conflicts = no_conflict (known old.bytes.items a) _ old.conflict new.conflict same (λ p x.
       elim (cases_eq p place) [
         | inl e ↦ none-some x.first (sym blank ∙ ap (known old.bytes.items a) (sym e) ∙ x.was)
@@ -159,12 +171,24 @@ takes_new number place l old new a b blank knows grows same = record {
   grows = grows;
 }
 
+-- a letter of a place where one is known is kept there, or stands among the bytes
+holds_known : (number place : ℕ) (l : Heard) (first : Letter) (bytes : List ℕ) (a : BTreeMap ℕ Came) → known bytes a place ≡ Some first →
+    Holds (record { number = number; at = pos place; text = stream_of l }) a (length bytes) a
+holds_known number place l first bytes a is q none =
+    elim (cases_eq q (place + 2 ^ 31)) [
+      | inl e ↦
+          let past = own_not (length bytes) place (subst (λ (k : ℕ). is_own (length bytes) k ≡ false) e none) in
+          came_kept number (pos place) l a (place + 2 ^ 31) (omega (arith, ints)) (known_kept bytes a place first is past) q
+      | inr d ↦ came_not number (pos place) l a q (λ x. d (omega (arith, ints, x)))
+    ]
+
 -- a letter where one was known
-pub takes_known : (number place : ℕ) (l first : Heard) (old new : Flow) (a : BTreeMap ℕ Heard) → known old.bytes.items a place ≡ Some (letter_value first) →
+pub takes_known : (number place : ℕ) (l first : Heard) (old new : Flow) (a : BTreeMap ℕ Came) → known old.bytes.items a place ≡ Some (letter_value first) →
     new.bytes ≡ old.bytes → Grows number old new → IsConflictAfter (known old.bytes.items a) (record { number = number; at = pos place; text = stream_of l }) old.conflict new.conflict →
     Takes (record { number = number; at = pos place; text = stream_of l }) old a new a
 takes_known number place l first old new a is same grows conflicts = record {
   knows = λ p. ap (λ bs. known (vec_items bs) a p) same ∙ old_letter place l (letter_value first) (known old.bytes.items a) is p;
+  holds = λ q none. holds_known number place l (letter_value first) old.bytes.items a is q (subst (λ bs. is_own (length (vec_items bs)) q ≡ false) same none);
   conflicts = conflicts;
   grows = grows;
 }
@@ -187,7 +211,7 @@ conflict_first f c (Some k) now new e i h = absurd (none-some k (sym e))
 conflict_first f c None now new e i h = subst (λ (k : Option Conflict). IsConflictOf f c k) (sym i) h
 
 -- a letter that differs from the one that was known
-pub takes_conflict : (number place : ℕ) (l first : Heard) (old new : Flow) (a : BTreeMap ℕ Heard) → known old.bytes.items a place ≡ Some (letter_value first) → letter_value l ≢ letter_value first →
+pub takes_conflict : (number place : ℕ) (l first : Heard) (old new : Flow) (a : BTreeMap ℕ Came) → known old.bytes.items a place ≡ Some (letter_value first) → letter_value l ≢ letter_value first →
     new.bytes ≡ old.bytes → Grows number old new → old.conflict ≡ None → new.conflict ≡ Some (record { at_record = number; position = pos place }) →
     Takes (record { number = number; at = pos place; text = stream_of l }) old a new a
 takes_conflict number place l first old new a is d same grows fresh now =
@@ -199,7 +223,7 @@ none_of None h = refl
 none_of (Some k) h = absurd (true≢false h)
 
 -- the byte that came ahead goes after the others
-pub knows_on : (old bytes : List ℕ) (b : ℕ) (a c : BTreeMap ℕ Heard) → bytes ≡ old ++ b ∷ [] → TakesOut (length old) b a c → (p : ℕ) → known bytes c p ≡ known old a p
+pub knows_on : (old bytes : List ℕ) (b : ℕ) (a c : BTreeMap ℕ Came) → bytes ≡ old ++ b ∷ [] → TakesOut (length old) b a c → (p : ℕ) → known bytes c p ≡ known old a p
 knows_on old bytes b a c e t p =
     let n : length bytes ≡ length old + 1 = ap length e ∙ length_push old b in
     elim (cases_lt p (length old)) [
@@ -212,9 +236,18 @@ knows_on old bytes b a c e t p =
           elim (cases_eq p (length old)) [
             | inl i ↦ (let g : get_or bytes p 0 ≡ b = ap (λ (xs : List ℕ). get_or xs p 0) e ∙ get_or_push old b 0 p (sym i) in
                 let l : nat_lt p (length bytes) ≡ true = rw n (grind (arith, nat_tests, i)) in
-                let w : get nat_cmp a p ≡ Some (heard.Byte b) = ap (get nat_cmp a) i ∙ t.was in
+                let w : get nat_cmp a (p + 2 ^ 31) ≡ Some (record { letter = heard.Byte b; number = t.number }) = ap (λ (k : ℕ). get nat_cmp a (k + 2 ^ 31)) i ∙ t.was in
                 rw (l, m, g, w) refl)
             | inr d ↦ (let l : nat_lt p (length bytes) ≡ false = rw n (grind (arith, nat_tests, v, d)) in
-                rw (l, m) (ap (option_map letter_value) (t.others p d)))
+                rw (l, m) (ap (option_map (λ c. letter_value c.letter)) (t.others (p + 2 ^ 31) (λ x. d (omega (arith, x))))))
           ]
     ]
+
+-- and all others are kept
+pub holds_on : (old bytes : List ℕ) (b : ℕ) (a c : BTreeMap ℕ Came) → bytes ≡ old ++ b ∷ [] → TakesOut (length old) b a c → (q : ℕ) →
+    is_own (length bytes) q ≡ false → kept c q ≡ kept a q
+holds_on old bytes b a c e t q none =
+    let n : length bytes ≡ length old + 1 = ap length e ∙ length_push old b in
+    ap (option_map came_value) (t.others q (λ x.
+    let past = own_not (length bytes) (length old) (subst (λ (k : ℕ). is_own (length bytes) k ≡ false) x none) in
+    absurd (omega (arith, n, past))))

@@ -1,9 +1,10 @@
--- What a contract sees of a `Flow`: FlowValue.
-use Rattle.std.specs.Prelude.{◌≡◌, ◌<◌, ℕ, List, length, Option}
+-- What a contract sees of a `Flow` and of a `Stretch`: FlowValue, StretchValue.
+use Rattle.std.specs.Prelude.{◌≡◌, ◌<◌, ℕ, ℤ, List, All, length, map, Option}
 use Rattle.cf_policy.specs.declared.Asset.{Asset}
 use Rattle.cf_view.specs.declared.Endpoint.{Endpoint}
 use Rattle.cf_watch.specs.declared.flow.Conflict.{Conflict}
 use Rattle.cf_watch.specs.declared.flow.Flow.{Flow}
+use Rattle.cf_watch.specs.declared.flow.Stretch.{Stretch}
 
 -- a flow: its client, the place of its asset in the policy, the record with which it begins where that is amid its stream, its bytes,
 -- for each of them the number of the record with which they reached it, and its first conflict
@@ -30,3 +31,16 @@ flow_value f = record {
 pub record IsForAsset (assets : List Asset) (f : FlowValue) : Type 0 where
   pub asset : f.asset < length assets
   pub born : length f.born ≡ length f.bytes
+
+-- bytes of a flow that do not follow on its first ones, as a flow that begins amid its stream; and of the first of these stretches the
+-- position of the gap
+pub record StretchValue : Type 0 where
+  pub flow : FlowValue
+  pub gap : Option ℤ
+
+abbrev pub stretch_value : Stretch → StretchValue
+stretch_value s = record { flow = flow_value s.flow; gap = s.gap }
+
+-- stretches whose flows are so
+abbrev pub AreStretchesFor : List Asset → List StretchValue → Type 0
+AreStretchesFor assets stretches = All (IsForAsset assets) (map (λ s. s.flow) stretches)

@@ -1,5 +1,5 @@
 -- Steps of the proof: how flows in memory stand for those that were watched: `IsWatchOf`.
-use Rattle.std.specs.Prelude.{◌≡◌, ◌*◌, ◌≤◌, ◌^◌, ℕ, List, length, slice_get, Some}
+use Rattle.std.specs.Prelude.{◌≡◌, ◌*◌, ◌≤◌, ◌^◌, ℕ, List, length, slice_get, Some, false}
 use Rattle.std.specs.BTreeMap.{BTreeMap, get}
 use Rattle.std.specs.Ordering.{nat_cmp, ordering_then}
 use Rattle.std.specs.declared.cmp.Ordering.{Ordering}
@@ -7,7 +7,8 @@ use Rattle.cf_view.specs.declared.Endpoint.{Endpoint}
 use Rattle.cf_watch.specs.Carried.{copy_of, top_of}
 use Rattle.cf_watch.specs.FlowValue.{flow_value}
 use Rattle.cf_watch.specs.Flow.{IsFlowOf}
-use Rattle.cf_watch.specs.Kept.{known}
+use Rattle.cf_watch.specs.Kept.{kept, known}
+use Rattle.cf_watch.specs.Stretches.{first_letter, is_own}
 use Rattle.cf_watch.specs.Watched.{Watched, last_place}
 use Rattle.cf_watch.specs.declared.flow.Flow.{Flow}
 use Rattle.cf_watch.specs.declared.watching.FlowKey.{FlowKey}
@@ -21,6 +22,7 @@ pub record IsHeard (f : Flow) (t : Trail) (w : Watched) : Type 0 where
   pub answered : t.answered ≡ w.answered
   pub top : t.top ≡ top_of w.carried
   pub knows : (p : ℕ) → known f.bytes.items t.ahead p ≡ copy_of w.carried p
+  pub holds : (q : ℕ) → is_own (length f.bytes.items) q ≡ false → kept t.ahead q ≡ first_letter w.carried q
 
 -- the order of flows: by client address, then port, then asset
 abbrev pub key_cmp : FlowKey → FlowKey → Ordering

@@ -41,10 +41,23 @@ impl Flow {
     }
 }
 
+/// Bytes of a flow one after the other that do not follow on its first ones, which are those of `Flow`: they stand behind a gap, as where a
+/// packet was not recorded, or below position 0, as behind a SYN that its controller never took. This project's own.
+#[derive(Drop)]
+pub struct Stretch {
+    /// The bytes as a flow that begins amid its stream, with the first of them; it has no conflict, since that of the flow is of all its
+    /// bytes.
+    pub flow: Flow,
+    /// Of the first stretch of a flow the position at which its first bytes end.
+    pub gap: Option<i64>,
+}
+
 /// What a capture shows: its flows to the assets of a policy, in the order of their beginning, and the stamp of each record.
 #[derive(Drop)]
 pub struct Recording {
     pub flows: Vec<Flow>,
+    /// The bytes of these flows that do not follow on their first ones: flow by flow, in the order of their places.
+    pub stretches: Vec<Stretch>,
     /// That of the record with the number 1 first, in microseconds since the epoch.
     pub stamps: Vec<u64>,
 }

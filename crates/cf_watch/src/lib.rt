@@ -10,12 +10,13 @@ mod letter;
 mod place;
 mod reading;
 mod scope;
+mod stretches;
 mod tag;
 mod watching;
 
 pub use born::Born;
 pub use fault::{CAPTURE_LIMIT, WatchFault, WatchRefusal};
-pub use flow::{Conflict, Flow, Recording};
+pub use flow::{Conflict, Flow, Recording, Stretch};
 pub use laws::{flows_are_for_assets, one_stream_is_seen};
 pub use reading::{watch, watch_recording};
 pub use scope::Scope;

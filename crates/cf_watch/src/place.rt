@@ -1,6 +1,6 @@
 //! Places of the letters of a packet.
 //! A packet without letters, or whose text stands wholly below position 0, leaves the place near which numbers are read; an octet
-//! below position 0 is not used.
+//! below position 0 is none of the first bytes of its flow.
 ghost use Rattle.std.specs.Prelude.{◌≡◌, ◌==◌, ◌+◌, ◌^◌, ◌<◌, ◌≤◌, ◌/◌, ◌%◌, ◌≤ℤ◌, ◌<ℤ◌, ◌-ℤ◌, pos, max};
 ghost use Rattle.cf_packet.specs.Packet.{packet_value};
 ghost use Rattle.cf_leg.specs.Segment.{has_fin, is_opening};

@@ -5,13 +5,16 @@ ghost use Rattle.cf_outside.specs.Frames.{OnlyReads};
 ghost use Rattle.cf_outside.specs.Files.{IsAtEnd, IsLongerThan};
 ghost use Rattle.cf_records.specs.Form.{first_place};
 ghost use Rattle.cf_records.specs.Reader.{HasFormIn};
-ghost use Rattle.cf_watch.specs.FlowValue.{IsForAsset, flow_value};
+ghost use Rattle.cf_watch.specs.FlowValue.{AreStretchesFor, IsForAsset, flow_value, stretch_value};
+ghost use Rattle.cf_watch.specs.Trail.{IsWatchOf};
+ghost use Rattle.cf_watch.specs.Watched.{Watched};
 ghost use Rattle.cf_view.specs.declared.LinkSet.TheVariants as set;
-ghost use Rattle.cf_watch.specs.Watch.{FailsAs, IsRecordingFor, IsRecordingOf, WatchesAs, kinds_by};
+ghost use Rattle.cf_watch.specs.Watch.{FailsAs, IsRecordingFor, IsRecordingOf, WatchesAs, kinds_by, stretches_by};
 
 use crate::fault::{CAPTURE_LIMIT, WatchFault, WatchRefusal};
-use crate::flow::{Flow, Recording};
+use crate::flow::{Flow, Recording, Stretch};
 use crate::scope::Scope;
+use crate::stretches::stretches_in;
 use crate::watching::Watch;
 use cf_outside::{Files, ReadAnswer};
 use cf_policy::{Asset, Policy};
@@ -45,8 +48,9 @@ pub fn watch<F: Files>(
 
 /// What a review reads of such a capture: its flows to the assets of a policy, also those whose beginning it does not have, and the stamp
 /// of each record, in microseconds. Linux cooked captures are read too, frames without their VLAN tags, and a partial TCP checksum counts
-/// as right. A flow without a SYN begins with its first packet with text that has neither SYN nor RST, and goes on up to the next SYN. The
-/// errors are those of `watch`. Changes no file. This project's own.
+/// as right. A flow without a SYN begins with its first packet with text that has neither SYN nor RST, and goes on up to the next SYN. What
+/// does not follow on the first bytes of a flow is told too, stretch by stretch. The errors are those of `watch`. Changes no file. This
+/// project's own.
 ///
 /// It keeps the stamps besides.
 pub fn watch_recording<F: Files>(
@@ -57,8 +61,9 @@ pub fn watch_recording<F: Files>(
 ) -> Result<Recording, WatchFault>
     requires assets { length policy.now.assets < 2 ^ 32 }
     ensures watched { IfOk result (λ r. IsRecordingOf policy.now.assets (F.content files.old capture.now) (map flow_value r.flows.items)
-        r.stamps.items) }
+        (map stretch_value r.stretches.items) r.stamps.items) }
     ensures for_assets { IfOk result (λ r. All (IsForAsset policy.now.assets) (map flow_value r.flows.items)) }
+    ensures stretches_for_assets { IfOk result (λ r. AreStretchesFor policy.now.assets (map stretch_value r.stretches.items)) }
     ensures fault { IfErr result (λ fault. FailsAs set.Recorded (F.content files.old capture.now) fault) }
     ensures reads { OnlyReads capture.now F.content F.read_faults F.write_faults files.old files.new (IsErrOf result WatchFault.Read) }
 {
@@ -75,8 +80,9 @@ fn watch_for<F: Files>(
 ) -> Result<Recording, WatchFault>
     requires assets { length policy.now.assets < 2 ^ 32 }
     ensures watched { IfOk result (λ r. (all : List ℕ) × IsRecordingFor scope policy.now.assets (F.content files.old capture.now)
-        (map flow_value r.flows.items) all × (scope ≡ Scope.Recording → r.stamps.items ≡ all)) }
+        (map flow_value r.flows.items) (map stretch_value r.stretches.items) all × (scope ≡ Scope.Recording → r.stamps.items ≡ all)) }
     ensures for_assets { IfOk result (λ r. All (IsForAsset policy.now.assets) (map flow_value r.flows.items)) }
+    ensures stretches_for_assets { IfOk result (λ r. AreStretchesFor policy.now.assets (map stretch_value r.stretches.items)) }
     ensures fault { IfErr result (λ fault. FailsAs (kinds_by scope) (F.content files.old capture.now) fault) }
     ensures reads { OnlyReads capture.now F.content F.read_faults F.write_faults files.old files.new (IsErrOf result WatchFault.Read) }
 {
@@ -145,9 +151,11 @@ fn watch_records<F: Files>(
     requires form { HasFormIn (kinds_by scope) (F.content files.old name.now) (Ok reader.old.form) }
     requires place { reader.old.place ≡ first_place reader.old.form }
     ensures watched { IfOk result (λ r. (all : List ℕ)
-        × IsRecordingFor scope assets.now (F.content files.old name.now) (map flow_value r.flows.items) all
+        × IsRecordingFor scope assets.now (F.content files.old name.now) (map flow_value r.flows.items)
+        (map stretch_value r.stretches.items) all
         × (scope ≡ Scope.Recording → r.stamps.items ≡ all)) }
     ensures for_assets { IfOk result (λ r. All (IsForAsset assets.now) (map flow_value r.flows.items)) }
+    ensures stretches_for_assets { IfOk result (λ r. AreStretchesFor assets.now (map stretch_value r.stretches.items)) }
     ensures fault { IfErr result (λ fault. FailsAs (kinds_by scope) (F.content files.old name.now) fault) }
     ensures reads { OnlyReads name.now F.content F.read_faults F.write_faults files.old files.new (IsErrOf result WatchFault.Read) }
 {
@@ -171,10 +179,10 @@ fn watch_records<F: Files>(
                 }
             }
             NextRecord::End => {
-                return Ok(Recording {
-                    flows: watch.flows,
-                    stamps: kept,
-                });
+                return match recorded(alloc, scope, watch, kept) {
+                    Ok(recording) => Ok(recording),
+                    Err(_) => Err(WatchFault::NoMemory),
+                };
             }
             NextRecord::Cut => return Err(WatchFault::Cut(reader.place())),
             NextRecord::Refused(refusal) => {
@@ -183,6 +191,43 @@ fn watch_records<F: Files>(
             NextRecord::TooLong => return Err(WatchFault::Refused(WatchRefusal::TooLong)),
             NextRecord::Large => return Err(WatchFault::Refused(WatchRefusal::Long)),
             NextRecord::Failed => return Err(WatchFault::Read),
+        }
+    }
+}
+
+/// What is kept of all records, as a recording.
+fn recorded(
+    alloc: Global,
+    scope: Scope,
+    mut watch: Watch,
+    stamps: Vec<u64>,
+) -> Result<Recording, NoMemory>
+    requires { length watch.flows.items ≡ length watch.trails.items }
+    ensures flows { IfOk result (λ r. r.flows ≡ watch.flows) }
+    ensures stamps { IfOk result (λ r. r.stamps ≡ stamps) }
+    ensures stretches { IfOk result (λ r. (number : ℕ) (ws : List Watched) → IsWatchOf number watch ws
+        → map stretch_value r.stretches.items ≡ stretches_by scope ws (map flow_value watch.flows.items)) }
+{
+    let stretches = stretches_by(alloc, scope, &mut watch)?;
+    Ok(Recording {
+        flows: watch.flows,
+        stretches,
+        stamps,
+    })
+}
+
+/// What is told besides of what does not follow on the first bytes of flows.
+fn stretches_by(alloc: Global, scope: Scope, watch: &mut Watch) -> Result<Vec<Stretch>, NoMemory>
+    requires { length watch.old.flows.items ≡ length watch.old.trails.items }
+    ensures stretches { IfOk result (λ stretches. (number : ℕ) (ws : List Watched) → IsWatchOf number watch.old ws
+        → map stretch_value stretches.items ≡ stretches_by scope ws (map flow_value watch.old.flows.items)) }
+    ensures flows { watch.new.flows ≡ watch.old.flows }
+{
+    match scope {
+        Scope::Connections => Ok(Vec::new(alloc)),
+        Scope::Recording => {
+            let stretches = stretches_in(alloc, watch)?;
+            Ok(stretches)
         }
     }
 }

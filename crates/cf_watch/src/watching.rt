@@ -1,6 +1,6 @@
 //! The flows of records, taken one after the other.
 //! A packet without text may be a keep-alive, whose number is before the next byte, so it begins no flow amid its stream; what
-//! comes later with a lower number than such a flow's first is not used.
+//! comes later with a lower number than such a flow's first is none of its first bytes.
 ghost use Rattle.std.specs.Prelude.{◌≡◌, ◌+◌, ◌-◌, ◌*◌, cond, ◌^◌, ◌<◌, ◌≤◌, ◌++◌, ◌∷◌, ◌||◌, List, [], OnOk};
 ghost use Rattle.std.specs.Prelude.{IfOk, IfSome, Some, None, length, slice_get};
 ghost use Rattle.cf_packet.specs.Packet.{packet_answer, packet_value};

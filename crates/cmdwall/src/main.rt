@@ -81,7 +81,8 @@ fn run_box(
 ) -> u8 {
     let mut out = RealSink::new(io::writer(rt), printing);
     let mut pair = LinkPair::new(rt);
-    let done = box_main(rt.alloc(), words, files, &mut out, &mut pair);
+    let mut told = None;
+    let done = box_main(rt.alloc(), words, files, &mut out, &mut pair, &mut told);
     pair.leave();
     // What was gathered is part of the work: where it cannot be written, the work is not done, and nothing of it is printed.
     let status = if files.finish() && out.finish() {
@@ -90,7 +91,15 @@ fn run_box(
         WRITE_FAULT
     };
     let printed = str::from_utf8(out.last()).unwrap_or("");
-    explain(rt, words, status, printed, files, pair.fault());
+    explain(
+        rt,
+        words,
+        status,
+        printed,
+        told.as_ref(),
+        files,
+        pair.fault(),
+    );
     status
 }
 

@@ -191,7 +191,8 @@ admitted 0
 refused 0
 cuts 1
 cmdwall: note: 1 of 6 records dropped: no TCP, as UDP or ICMP; the first is record 6
-cmdwall: note: 1 of 5 packets came behind a cut, long behind a closing, or for a session that was not begun
+cmdwall: note: 1 of 5 packets were of no session: they came without the SYN of their connection, behind a cut, long behind a closing, \
+or for a session that was not begun
 
 run: a packet to another port, and one without its SYN
 words: run p c o l
@@ -440,10 +441,19 @@ fn told(machine: &Machine<'_>, words: &[String]) -> Result<String, Fail> {
     };
     let mut out = RealSink::new(io::sink(), Printing::AtOnce);
     let mut pair = MemoryPair::new(alloc);
-    let status = box_main(alloc, words, &mut files, &mut out, &mut pair);
+    let mut told = None;
+    let status = box_main(alloc, words, &mut files, &mut out, &mut pair, &mut told);
     let is_written = files.finish();
     let printed = str::from_utf8(out.last()).unwrap_or("");
-    explain(machine, words, status, printed, &mut files, None);
+    explain(
+        machine,
+        words,
+        status,
+        printed,
+        told.as_ref(),
+        &mut files,
+        None,
+    );
     let mark = if is_expected && is_written {
         ""
     } else {

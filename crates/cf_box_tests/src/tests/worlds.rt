@@ -23,7 +23,7 @@ fn printed(alloc: Global, words: &str, files: &mut MemoryFiles) -> Result<String
     }
     let mut out = MemorySink::new(alloc);
     let mut pair = MemoryPair::new(alloc);
-    match box_main(alloc, &spelled, files, &mut out, &mut pair) {
+    match box_main(alloc, &spelled, files, &mut out, &mut pair, &mut None) {
         0 => Ok(String::from_utf8_lossy(alloc, out.bytes.as_slice())?),
         _ => Err("the status is not 0".into()),
     }

@@ -85,7 +85,11 @@ came 125 turns 0 left 125
 log
 8.000000 10.0.0.8:49152 pump stranger came 1
 68.000000 10.0.0.8:49152 pump stranger came 60
+68.000000 10.0.0.1:5020 pump stands 0 admitted 0 refused 0
+68.000000 10.0.0.1:5021 shut stands 0 admitted 0 refused 0
 128.000000 10.0.0.8:49152 pump stranger came 60
+128.000000 10.0.0.1:5020 pump stands 0 admitted 0 refused 0
+128.000000 10.0.0.1:5021 shut stands 0 admitted 0 refused 0
 
 two strangers by turns: a line a second
 place: 0
@@ -117,6 +121,8 @@ came 1001 turns 0 left 1001
 log
 7.060000 10.0.0.8:49152 pump stranger came 1
 67.060000 10.0.0.8:49152 pump stranger came 1000
+67.060000 10.0.0.1:5020 pump stands 0 admitted 0 refused 0
+67.060000 10.0.0.1:5021 shut stands 0 admitted 0 refused 0
 
 two strangers by turns for ten seconds
 place: 0
@@ -147,6 +153,8 @@ came 3 turns 0 left 3
 log
 12.000000 10.0.0.8:49152 pump stranger came 1
 5.000000 10.0.0.8:49152 pump stranger came 1
+5.000000 10.0.0.1:5020 pump stands 0 admitted 0 refused 0
+5.000000 10.0.0.1:5021 shut stands 0 admitted 0 refused 0
 
 a stranger where there is no place for anybody
 place: 0

@@ -14,7 +14,7 @@ pub const ROWS: &str = "\
 row: a header alone
 capture: d4c3b2a1020004000000000000000000 0000040065000000
 leaves:
-Ok(Summary { records: 0, dropped: 0, outside: 0, full: 0, sessions: 0, admitted: 0, refused: 0, cuts: 0 })
+Ok(Summary { records: 0, dropped: 0, outside: 0, full: 0, sessions: 0, admitted: 0, refused: 0, cuts: 0, foreign: 0, closed: 0, above: 0, beyond: 0 })
 24 d4c3b2a10200040000000000000000000000040065000000
 
 row: a write of 100 to register 40, and its echo: SYN, SYN ACK, ACK, the write and the echo, 10 milliseconds apart
@@ -30,7 +30,7 @@ capture: 4500003400004000400626b70a0000050a000009c00001f6000003e9000013895018fff
 capture: 01000000 409c0000 34000000 34000000
 capture: 4500003400004000400626b70a0000090a00000501f6c00000001389000003f55018ffffc0a50000 000100000006010600280064
 leaves:
-Ok(Summary { records: 5, dropped: 0, outside: 0, full: 0, sessions: 1, admitted: 1, refused: 0, cuts: 0 })
+Ok(Summary { records: 5, dropped: 0, outside: 0, full: 0, sessions: 1, admitted: 1, refused: 0, cuts: 0, foreign: 0, closed: 0, above: 0, beyond: 0 })
 448 d4c3b2a1020004000000000000000000000004006500000001000000000000002c0000002c000000\
 4500002c00004000400626bf0a0000050a000009c00001f6000003e800000000600240007e3a0000020405b4
 1.000000 10.0.0.5:49152 pump open
@@ -48,7 +48,7 @@ capture: 4500003400004000400626b70a0000050a000009c00001f6000003e9000013895018fff
 capture: 01000000 409c0000 34000000 34000000
 capture: 4500003400004000400626b70a0000090a00000501f6c00000001389000003f55018ffffc0a500000001000000060106002800
 leaves:
-Err(Cut { at: 268, summary: Summary { records: 4, dropped: 0, outside: 0, full: 0, sessions: 1, admitted: 1, refused: 0, cuts: 0 } })
+Err(Cut { at: 268, summary: Summary { records: 4, dropped: 0, outside: 0, full: 0, sessions: 1, admitted: 1, refused: 0, cuts: 0, foreign: 0, closed: 0, above: 0, beyond: 0 } })
 324 d4c3b2a1020004000000000000000000000004006500000001000000000000002c0000002c000000\
 4500002c00004000400626bf0a0000050a000009c00001f6000003e800000000600240007e3a0000020405b4
 1.000000 10.0.0.5:49152 pump open
@@ -73,7 +73,7 @@ capture: 01000000 00000000 02000000 02000000
 capture: 6162
 capture: 02000000 00000000 02000000 02000000
 leaves:
-Err(Cut { at: 42, summary: Summary { records: 1, dropped: 1, outside: 0, full: 0, sessions: 0, admitted: 0, refused: 0, cuts: 0 } })
+Err(Cut { at: 42, summary: Summary { records: 1, dropped: 1, outside: 0, full: 0, sessions: 0, admitted: 0, refused: 0, cuts: 0, foreign: 0, closed: 0, above: 0, beyond: 0 } })
 24 d4c3b2a10200040000000000000000000000040065000000
 ";
 

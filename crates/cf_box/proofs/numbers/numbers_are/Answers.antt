@@ -13,6 +13,7 @@ returns c = record {
     too_many = λ seen sorted same ascends many. record { sorted = sorted; same = same; ascends = ascends; many = many };
   };
   bytes = refl;
+  back = refl;
   shown = refl;
   name = refl;
 }

@@ -26,7 +26,7 @@ returns-clause-stops g c =
     (sym c.stop_of.ensures)
     (stops_of w (g.L.Links.told c.args.links.now) (g.L.Links.told c.serve.new.links) (LinksPlace.round_faults (g.L.Links.place c.args.links.now))
     (LinksPlace.round_faults (g.L.Links.place c.serve.new.links)) (files_value g.F.Files c.args.files.now) (files_value g.F.Files c.serve.new.files)
-    c.args.policy.now c.as_slice-2.result.now c.requires.has
+    c.args.policy.now c.as_slice-2.result.now c.requires.has c.requires.apart
     (found_places c.args.policy.now c.args.service.now.places.items c.as_slice.result.now c.as_slice.ensures.value c.new-places.result.items
     c.find_places.new.places.items c.as_slice-2.result.now c.new-places.ensures.items c.as_slice-2.ensures.value c.in_ok-find_places.ensures.found)
     c.in-Err.fault _ refl c.in-Err.ensures.serves c.in-Err.ensures.breaks c.in-Err.ensures.write c.in-Err.ensures.loops c.in-Err.ensures.memory)

@@ -9,17 +9,17 @@ use Rattle.cf_box.proofs.serve.serve_policy.Goals as goal
 
 pub returns-in-Ok-clause-serves : goal.returns-in-Ok-clause-serves
 returns-in-Ok-clause-serves g c =
-    all_served (service_value c.args.service.now) (g.L.Links.told c.args.links.now) (g.L.Links.told c.serve_places.new.links)
-    (LinksPlace.round_faults (g.L.Links.place c.args.links.now)) (LinksPlace.round_faults (g.L.Links.place c.serve_places.new.links))
-    (files_value g.F.Files c.args.files.now) (files_value g.F.Files c.load_policy.new.files) (files_value g.F.Files c.serve_places.new.files)
-    c.load_policy.ensures.only (λ made. made ≡ 2 ^ 64 - 1) c.serve_places.result c.serve_places.ensures.serves
+    all_served (service_value c.args.service.now) (g.L.Links.told c.args.links.now) (g.L.Links.told c.serve_read.new.links)
+    (LinksPlace.round_faults (g.L.Links.place c.args.links.now)) (LinksPlace.round_faults (g.L.Links.place c.serve_read.new.links))
+    (files_value g.F.Files c.args.files.now) (files_value g.F.Files c.load_policy.new.files) (files_value g.F.Files c.serve_read.new.files)
+    c.load_policy.ensures.only (λ made. made ≡ 2 ^ 64 - 1) c.serve_read.result c.serve_read.ensures.serves
 
 pub returns-in-Ok-clause-stops : goal.returns-in-Ok-clause-stops
 returns-in-Ok-clause-stops g c =
-    all_stopped (service_value c.args.service.now) (g.L.Links.told c.args.links.now) (g.L.Links.told c.serve_places.new.links)
-    (LinksPlace.round_faults (g.L.Links.place c.args.links.now)) (LinksPlace.round_faults (g.L.Links.place c.serve_places.new.links))
-    (files_value g.F.Files c.args.files.now) (files_value g.F.Files c.load_policy.new.files) (files_value g.F.Files c.serve_places.new.files)
-    c.load_policy.ensures.only c.serve_places.result c.serve_places.ensures.stops
+    all_stopped (service_value c.args.service.now) (g.L.Links.told c.args.links.now) (g.L.Links.told c.serve_read.new.links)
+    (LinksPlace.round_faults (g.L.Links.place c.args.links.now)) (LinksPlace.round_faults (g.L.Links.place c.serve_read.new.links))
+    (files_value g.F.Files c.args.files.now) (files_value g.F.Files c.load_policy.new.files) (files_value g.F.Files c.serve_read.new.files)
+    c.load_policy.ensures.only c.serve_read.result c.serve_read.ensures.stops
 
 pub returns-in-Err-clause-stops : goal.returns-in-Err-clause-stops
 returns-in-Err-clause-stops g c =

@@ -7,7 +7,7 @@ end-requires-clause-limit g c = may_end c.args.side _ _ c.requires.client_limit 
 
 pub returns-in-Idle-clause-takes : goal.returns-in-Idle-clause-takes
 returns-in-Idle-clause-takes g c =
-    takes_idle _ _ c.args.most c.args.side _ _ _ _ _ _ _ (g.D.Desk.value c.args.desk.now) c.count_idle.result (c.may_take.ensures.0 c.if-not-may_take.false) c.requires.little c.requires.of_asset c.requires.debt
+    takes_idle _ _ _ c.args.most c.args.side _ _ _ _ _ _ _ (g.D.Desk.value c.args.desk.now) c.count_idle.result (c.may_take.ensures.0 c.if-not-may_take.false) c.requires.little c.requires.of_asset c.requires.debt
     c.count_idle.ensures.counted c.in-Idle.ensures.entry c.count_idle.ensures.goes c.count_idle.ensures.stops c.count_idle.ensures.error
 
 pub returns-in-Err-clause-takes : goal.returns-in-Err-clause-takes

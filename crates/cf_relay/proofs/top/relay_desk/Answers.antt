@@ -7,11 +7,12 @@ use Rattle.cf_relay.proofs.OnePair.{all_none, told_two}
 use Rattle.cf_relay.proofs.Starting.{link_first, link_met, new_lane, write_told}
 use Rattle.cf_relay.specs.Relaying.{RelayingValue, relaying_value}
 use Rattle.cf_relay.specs.Stands.{StandsFor}
+use Rattle.cf_relay.specs.declared.directions.Directions.TheVariants as both
 use Rattle.cf_relay.proofs.top.relay_desk.Goals as goal
 
 pub returns-in-Failed-clause-ends : goal.returns-in-Failed-clause-ends
 returns-in-Failed-clause-ends g c =
-    ([], c.in-Failed.ensures.entry ∙ all_none _, link_first c.args.asset.now c.args.listen c.args.most c.requires.most _ (lines_none _, c.requires.whole))
+    ([], c.in-Failed.ensures.entry ∙ all_none _, link_first both.Together c.args.asset.now c.args.listen c.args.most c.requires.most _ (lines_none _, c.requires.whole))
 
 pub returns-in-Err-clause-ends : goal.returns-in-Err-clause-ends
 returns-in-Err-clause-ends g c =
@@ -21,14 +22,14 @@ pub returns-in-Failed-moment-clause-ends : goal.returns-in-Failed-moment-clause-
 returns-in-Failed-moment-clause-ends g c = (
   met_at c.args.listen c.args.asset.now.endpoint c.in-Met.client ∷ [],
   c.in-Failed-moment.ensures.entry ∙ c.in-Met.ensures.entry,
-  link_met c.args.asset.now c.args.listen c.args.most c.requires.most _ c.in-Met.client (lines_none _, c.requires.whole),
+  link_met both.Together c.args.asset.now c.args.listen c.args.most c.requires.most _ c.in-Met.client (lines_none _, c.requires.whole),
 )
 
 pub returns-in-Err-log_line-clause-ends : goal.returns-in-Err-log_line-clause-ends
 returns-in-Err-log_line-clause-ends g c = (
   met_at c.args.listen c.args.asset.now.endpoint c.in-Met.client ∷ Moment c.in-Told.moment ∷ [],
   told_two _ _ _ _ _ _ [] c.in-Met.ensures.entry c.in-Told.ensures.entry (all_none _),
-  write_told c.args.asset.now c.args.listen c.args.most c.requires.most _ c.in-Met.client c.in-Told.moment _ (g.D.Desk.value c.log_line.new.desk).lines (g.D.Desk.value c.log_line.new.desk).line_part c.in-Err-log_line.ensures.fails (λ ls b. b),
+  write_told both.Together c.args.asset.now c.args.listen c.args.most c.requires.most _ c.in-Met.client c.in-Told.moment _ (g.D.Desk.value c.log_line.new.desk).lines (g.D.Desk.value c.log_line.new.desk).line_part c.in-Err-log_line.ensures.fails (λ ls b. b),
 )
 
 pub returns-clause-ends : goal.returns-clause-ends

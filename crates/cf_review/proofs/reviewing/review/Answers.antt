@@ -1,69 +1,32 @@
-use Rattle.std.proofs.Common.{rules, ◌≡◌, ◌+◌, ◌<◌, ◌++◌, ◌∷◌, [], ◌∙◌, sym, ap, subst, refl, arith, take, map, length, Some, min, ◌^◌, ◌-◌, slice_get, get_or}
-use Rattle.std.proofs.lemmas.List.{length-map, map_more, take_all}
+use Rattle.std.proofs.Common.{rules, ◌≡◌, ◌++◌, ◌∙◌, sym, ap, map, List}
+use Rattle.std.proofs.lemmas.List.{length-map}
 use Rattle.std.proofs.lemmas.List.Sorted.{IsNonDecreasingBy-from_sort_by_key, answers_always}
-use Rattle.std.proofs.lemmas.Option.{slice_get_read}
-use Rattle.cf_policy.specs.Within.{IsAssetWithin}
+use Rattle.cf_judge.specs.Objections.{commands_in}
 use Rattle.cf_watch.specs.FlowValue.{flow_value}
-use Rattle.cf_review.specs.FirstUnit.{AreReadParts}
-use Rattle.cf_review.specs.Remark.{remark_value}
+use Rattle.cf_review.specs.Remark.{RemarkValue, remark_value}
+use Rattle.cf_review.specs.Review.{remarks_behind, remarks_on}
 use Rattle.cf_review.specs.declared.remark.Remark.{Remark}
 use Rattle.cf_review.proofs.Ordering.{in_order, when_done}
-use Rattle.cf_review.proofs.Reading.{ReviewedSoFar, for_asset, reviewed_first, reviewed_on}
 use Rattle.cf_review.proofs.reviewing.review.Goals as goal
-
-pub loop-flow-init : goal.loop-flow-init
-loop-flow-init c = reviewed_first c.args.policy.now.assets _ (ap (map remark_value) c.new-remarks.ensures.items)
-
-pub bounds-assets-flow : goal.bounds-assets-flow
-bounds-assets-flow c =
-    let here = for_asset c.args.policy.now.assets c.args.flows.now c.requires.flows c.loop-flow.flow-index c.flow-item.result c.loop-flow-test.true c.flow-item.is in
-    omega (arith, here.asset, ap length c.as_slice-assets.ensures)
-
-pub review_flow-requires-clause-within : goal.review_flow-requires-clause-within
-review_flow-requires-clause-within c =
-    let asset = c.index-assets-flow.result in
-    let here = for_asset c.args.policy.now.assets c.args.flows.now c.requires.flows c.loop-flow.flow-index c.flow-item.result c.loop-flow-test.true c.flow-item.is in
-    subst IsAssetWithin (sym (c.index-assets-flow.is ∙ ap (λ xs. get_or xs c.flow-item.result.asset asset) c.as_slice-assets.ensures))
-    (c.requires.within.each c.flow-item.result.asset asset (omega (arith, here.asset)))
-
-pub review_flow-requires-clause-born : goal.review_flow-requires-clause-born
-review_flow-requires-clause-born c = (for_asset c.args.policy.now.assets c.args.flows.now c.requires.flows c.loop-flow.flow-index c.flow-item.result c.loop-flow-test.true c.flow-item.is).born
-
-pub loop-flow-preserved : goal.loop-flow-preserved
-loop-flow-preserved c =
-    let assets = c.args.policy.now.assets in
-    let flows = c.args.flows.now in
-    let i = c.loop-flow.flow-index in
-    let f = c.flow-item.result in
-    let inside : i < length flows = c.loop-flow-test.true in
-    let values : map flow_value (take i flows) ++ flow_value f ∷ [] ≡ map flow_value (take (i + 1) flows) =
-    ap (λ g. map flow_value (take i flows) ++ flow_value g ∷ []) c.flow-item.is ∙ sym (map_more flow_value flows i f inside) in
-    let at : slice_get assets f.asset ≡ Some c.index-assets-flow.result =
-    let here = for_asset assets flows c.requires.flows i f inside c.flow-item.is in
-    let lent = c.as_slice-assets.result.now in
-    let same : lent ≡ assets = c.as_slice-assets.ensures in
-    let below : f.asset < length lent = omega (arith, here.asset, ap length same) in
-    subst (λ xs. slice_get xs f.asset ≡ Some c.index-assets-flow.result) same (slice_get_read lent (length lent) f.asset c.index-assets-flow.result refl below c.index-assets-flow.is) in
-    let next = reviewed_on assets (map flow_value (take i flows)) c.loop-flow.admitted c.in_ok-more.more (map remark_value c.loop-flow.remarks.items) (map remark_value c.review_flow.new.remarks.items) (flow_value f)
-    c.index-assets-flow.result c.loop-flow.invariant at c.in_ok-more.ensures in
-    let counted : min (c.loop-flow.admitted + c.in_ok-more.more) (2 ^ 64 - 1) ≡ c.saturating_add-admitted.result = sym c.saturating_add-admitted.ensures in
-    subst (λ fs. ReviewedSoFar assets fs c.saturating_add-admitted.result (map remark_value c.review_flow.new.remarks.items)) values
-    (subst (λ n. ReviewedSoFar assets (map flow_value (take i flows) ++ flow_value f ∷ []) n (map remark_value c.review_flow.new.remarks.items)) counted next)
 
 pub returns : goal.returns
 returns c =
-    let inv = c.loop-flow.invariant in
-    let flows = c.args.flows.now in
+    let first = c.in_ok-of_flows.ensures in
+    let more = c.in_ok-admitted.ensures in
     let key = λ (r : Remark). r.at_record in
-    let all : map flow_value (take c.loop-flow.flow-index flows) ≡ map flow_value flows = ap (map flow_value) (take_all c.loop-flow.flow-index flows (omega (arith, c.loop-flow-test.false))) in
+    let assets = c.args.policy.now.assets in
+    let all : map remark_value c.review_stretches.new.remarks.items ≡ remarks_on assets first.readings ++ remarks_behind assets more.behind =
+    more.remarks ∙ ap (λ (xs : List RemarkValue). xs ++ remarks_behind assets more.behind) first.remarks_are in
     record {
       reviewed = record {
-        readings = inv.readings;
-        of_flows = subst (λ fs. AreReadParts c.args.policy.now.assets fs (map (λ r. r.flow) inv.readings)) all inv.of_flows;
-        are_read = inv.are_read;
-        counts = sym (length-map flows flow_value);
-        admitted = inv.admitted_is;
-        remarks = in_order _ c.loop-flow.remarks.items c.sort_by_key.new.self.items (sym inv.remarks_are)
+        readings = first.readings;
+        of_flows = first.of_flows;
+        are_read = first.are_read;
+        counts = sym (length-map c.args.flows.now flow_value);
+        behind = more.behind;
+        are_read_behind = more.are_read;
+        admitted = more.admitted_is ∙ ap (λ n. commands_in n (map (λ b. b.reading) more.behind)) first.admitted_is;
+        remarks = in_order _ c.review_stretches.new.remarks.items c.sort_by_key.new.self.items (sym all)
             (IsNonDecreasingBy-from_sort_by_key key c.sort_by_key.new.self.items (when_done c.sort_by_key.result (sym c.if-is_err.ensures.value) c.sort_by_key.ensures.sorted) (λ a r q k. search rules))
             (c.sort_by_key.ensures.stable key (answers_always _ _ _ (λ q a r q2 k. search rules)));
       };

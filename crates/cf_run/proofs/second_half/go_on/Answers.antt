@@ -1,6 +1,8 @@
 use Rattle.std.proofs.Common.{◌≡◌, ◌+◌, ◌-◌, ℕ, List, true, false, sym, ap, ◌∙◌, subst, arith}
 use Rattle.std.specs.Prelude.{slice_set}
 use Rattle.std.specs.List.{remove}
+use Rattle.std.specs.Option.{is_some}
+use Rattle.cf_lane.specs.Judged.{one_if}
 use Rattle.std.proofs.lemmas.Option.{slice_get_within}
 use Rattle.std.proofs.lemmas.List.{drop-set-lt, take-set}
 use Rattle.cf_policy.specs.declared.Asset.{Asset}
@@ -73,11 +75,13 @@ returns-else-not-stays-clause-goes g c = λ table ticked all.
     (told (g.D.Desk.value c.args.desk.now)) (told (g.D.Desk.value c.on_packet.new.desk)) x c.on_packet.new.self c.due-due.result c.asset_of-asset.result.now at c.asset_of-asset.ensures
     all ticked c.requires.moment.0 c.admitted-admitted.result c.refused-refused.result c.admitted-admitted.ensures.counts c.refused-refused.ensures.counts
     (λ flow earlier event s. sym c.admitted.ensures.value ∙ c.admitted.ensures.counts flow earlier event s) (λ flow earlier event s. sym c.refused.ensures.value ∙ c.refused.ensures.counts flow earlier event s)
+    c.is_closed-was_closed.result (λ flow earlier event s. c.is_closed-was_closed.ensures ∙ ap is_some s.closed) c.misfit-misfit.result c.misfit-misfit.ensures.value
     c.in-Ok.life (λ flow earlier half served stands tick now.
     subst (λ n. HearsBy flow n earlier half c.args.side (packet_value c.args.packet.now) c.on_packet.new.self (told (g.D.Desk.value c.args.desk.now)) (told (g.D.Desk.value c.on_packet.new.desk)) c.in-Ok.life)
     one.limit_is (c.in-Ok.ensures.hears flow earlier half served stands tick now))
-    true (sym c.stays.ensures ∙ c.if-not-stays.false) c.saturating_sub.result c.saturating_sub-2.result c.cuts.result
+    true (sym c.stays.ensures ∙ c.if-not-stays.false) c.saturating_sub.result c.saturating_sub-2.result c.cuts.result c.closes.result c.one_if.result c.one_if-2.result
     (c.saturating_sub.ensures ∙ ap (λ n. n - c.admitted-admitted.result) c.admitted.ensures.value) (c.saturating_sub-2.ensures ∙ ap (λ n. n - c.refused-refused.result) c.refused.ensures.value) c.cuts.ensures
+    c.closes.ensures (c.one_if.ensures ∙ ap one_if c.is_above.ensures) (c.one_if-2.ensures ∙ ap one_if c.is_beyond.ensures)
 
 pub returns-then-not-stays-clause-goes : goal.returns-then-not-stays-clause-goes
 returns-then-not-stays-clause-goes g c = λ table ticked all.
@@ -90,11 +94,13 @@ returns-then-not-stays-clause-goes g c = λ table ticked all.
     (told (g.D.Desk.value c.args.desk.now)) (told (g.D.Desk.value c.on_packet.new.desk)) x c.on_packet.new.self c.due-due.result c.asset_of-asset.result.now at c.asset_of-asset.ensures
     all ticked c.requires.moment.0 c.admitted-admitted.result c.refused-refused.result c.admitted-admitted.ensures.counts c.refused-refused.ensures.counts
     (λ flow earlier event s. sym c.admitted.ensures.value ∙ c.admitted.ensures.counts flow earlier event s) (λ flow earlier event s. sym c.refused.ensures.value ∙ c.refused.ensures.counts flow earlier event s)
+    c.is_closed-was_closed.result (λ flow earlier event s. c.is_closed-was_closed.ensures ∙ ap is_some s.closed) c.misfit-misfit.result c.misfit-misfit.ensures.value
     c.in-Ok.life (λ flow earlier half served stands tick now.
     subst (λ n. HearsBy flow n earlier half c.args.side (packet_value c.args.packet.now) c.on_packet.new.self (told (g.D.Desk.value c.args.desk.now)) (told (g.D.Desk.value c.on_packet.new.desk)) c.in-Ok.life)
     one.limit_is (c.in-Ok.ensures.hears flow earlier half served stands tick now))
-    false (sym c.stays.ensures ∙ c.if-not-stays.true) c.saturating_sub.result c.saturating_sub-2.result c.cuts.result
-    (c.saturating_sub.ensures ∙ ap (λ n. n - c.admitted-admitted.result) c.admitted.ensures.value) (c.saturating_sub-2.ensures ∙ ap (λ n. n - c.refused-refused.result) c.refused.ensures.value) c.cuts.ensures)
+    false (sym c.stays.ensures ∙ c.if-not-stays.true) c.saturating_sub.result c.saturating_sub-2.result c.cuts.result c.closes.result c.one_if.result c.one_if-2.result
+    (c.saturating_sub.ensures ∙ ap (λ n. n - c.admitted-admitted.result) c.admitted.ensures.value) (c.saturating_sub-2.ensures ∙ ap (λ n. n - c.refused-refused.result) c.refused.ensures.value) c.cuts.ensures
+    c.closes.ensures (c.one_if.ensures ∙ ap one_if c.is_above.ensures) (c.one_if-2.ensures ∙ ap one_if c.is_beyond.ensures))
 
 pub returns-in-Err-clause-broken : goal.returns-in-Err-clause-broken
 returns-in-Err-clause-broken g c = λ e.

@@ -1,4 +1,5 @@
 use Rattle.std.proofs.Common.{sym, ap, ◌∙◌, refl, Err}
+use Rattle.cf_lane.specs.Judged.{one_if}
 use Rattle.cf_packet.specs.Packet.{packet_value}
 use Rattle.cf_session.specs.Told.{told}
 use Rattle.cf_run.specs.Entries.{entry_match}
@@ -17,7 +18,8 @@ returns-in-Full-clause-received g c = λ table ticked all.
 pub returns-in-Outside-clause-received : goal.returns-in-Outside-clause-received
 returns-in-Outside-clause-received g c = λ table ticked all.
     outside c.args.assets.now c.args.limit c.args.moment (packet_value c.args.packet.now) c.args.table.now.sessions.items c.args.table.now.sessions.items
-    (told (g.D.Desk.value c.args.desk.now)) (told (g.D.Desk.value c.args.desk.now)) table ticked all refl refl (ap (λ xs. entry_match c.args.assets.now xs (packet_value c.args.packet.now)) (sym c.deref.ensures.value) ∙ sym c.match_packet.ensures ∙ c.in-Outside.is)
+    (told (g.D.Desk.value c.args.desk.now)) (told (g.D.Desk.value c.args.desk.now)) table ticked all refl refl c.one_if.result (c.one_if.ensures ∙ ap one_if c.is_foreign.ensures)
+    (ap (λ xs. entry_match c.args.assets.now xs (packet_value c.args.packet.now)) (sym c.deref.ensures.value) ∙ sym c.match_packet.ensures ∙ c.in-Outside.is)
 
 pub returns-in-Ok-clause-received : goal.returns-in-Ok-clause-received
 returns-in-Ok-clause-received g c = λ table ticked all.

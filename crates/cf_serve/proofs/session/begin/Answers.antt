@@ -4,6 +4,7 @@ use Rattle.cf_lane.specs.Log.{line_about}
 use Rattle.cf_links.specs.LinkValue.{told_of}
 use Rattle.cf_outside.specs.Pair.{Moment, met_at}
 use Rattle.cf_serve.proofs.Missing.{end_missed, open_fails, reach_missed}
+use Rattle.cf_serve.proofs.Owing.{met_commands}
 use Rattle.cf_serve.proofs.Reaching.{lost_first, told_none}
 use Rattle.cf_serve.proofs.Stepping.{on_err}
 use Rattle.cf_serve.specs.Phase.{listening_of}
@@ -16,7 +17,7 @@ returns-in-Err-clause-does g c = λ client. record {
   lines = line_about c.args.terms.now.asset.now c.args.met c.args.terms.now.moment NoMemory ∷ [];
   tells = told_none c.args.session (g.L.Links.told c.args.links.now);
   added = c.in_ok-log_line-in-Err.ensures.lines;
-  leaves = (c.args.met, (refl, (c.args.terms.now.moment, refl)));
+  leaves = ((c.args.met, (refl, (c.args.terms.now.moment, refl))), met_commands (listening_of c.args.terms.now) c.args.met);
 }
 
 pub returns-in_ok-log_line-in-Told-clause-does : goal.returns-in_ok-log_line-in-Told-clause-does
@@ -42,7 +43,7 @@ returns-in_ok-log_line-in-Failed-clause-does g c = λ client. record {
   lines = line_about c.args.terms.now.asset.now c.args.met 0 (Lost 0 0) ∷ [];
   tells = c.in-Failed.ensures.entry ∙ told_none c.args.session (g.L.Links.told c.args.links.now);
   added = c.in_ok-log_line-in-Failed.ensures.lines;
-  leaves = lost_first (listening_of c.args.terms.now) c.args.terms.now.most client c.requires.most c.args.met;
+  leaves = (lost_first (listening_of c.args.terms.now) c.args.terms.now.most client c.requires.most c.args.met, met_commands (listening_of c.args.terms.now) c.args.met);
 }
 
 pub returns-in_err-log_line-in-Err-clause-breaks : goal.returns-in_err-log_line-in-Err-clause-breaks

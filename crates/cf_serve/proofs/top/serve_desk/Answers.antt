@@ -1,11 +1,12 @@
-use Rattle.std.proofs.Common.{Err, ap, arith, map, subst, ◌*◌}
+use Rattle.std.proofs.Common.{Err, None, Option, ap, arith, map, subst, ℕ, ◌*◌}
 use Rattle.cf_links.specs.Links.{LinksPlace}
 use Rattle.cf_serve.proofs.Breaking.{breaks_all}
+use Rattle.cf_serve.proofs.Minuting.{minute_start}
 use Rattle.cf_serve.proofs.Whole.{from_start, serves_all, serves_none, whole_one, whole_two}
 use Rattle.cf_serve.specs.Failing.{MissesRounds}
 use Rattle.cf_serve.specs.Phase.{listenings, phase_of}
 use Rattle.cf_serve.specs.Served.{HasMade}
-use Rattle.cf_serve.specs.Table.{IsTable, RoundsDo}
+use Rattle.cf_serve.specs.Table.{IsMinuteOf, IsTable, RoundsDo}
 use Rattle.cf_serve.proofs.top.serve_desk.Goals as goal
 
 pub returns-in-Err-open_places-clause-serves : goal.returns-in-Err-open_places-clause-serves
@@ -31,9 +32,11 @@ returns-clause-serves g c =
     let log2 = (g.D.Desk.value c.rounds-ended.new.desk).lines in
     whole_two c.rounds-ended.result c.rounds-ended.ensures.does c.rounds-ended.ensures.table
     (λ d t. serves_all c.args.places.now most (g.L.Links.told c.args.links.now) told1 (g.D.Desk.value c.args.desk.now).lines log1
-    (HasMade c.rounds-ended.result) lobby d.0 told2 (g.L.Links.told c.leave_all.new.links) log2 serves ps d.1.0 c.in-Ok-open_places.ensures.all
-    (from_start places most (λ m n past q. RoundsDo places m n lobby d.0 past told1 told2 log1 log2 q ps) (2 * c.from-most.result) c.in-Ok.table.lobby
-    (map phase_of c.in-Ok.table.sessions.items) same c.in-Ok.ensures.lobby (ap (map phase_of) c.in-Ok.ensures.none) d.1.1)
+    (HasMade c.rounds-ended.result) lobby c.rounds-ended.new.self.minutes d.0 told2 (g.L.Links.told c.leave_all.new.links) log2 serves ps d.1.0 c.in-Ok-open_places.ensures.all
+    (from_start places most (λ m n past q. (last : Option ℕ) → IsMinuteOf c.in-Ok.table.minutes last past →
+    RoundsDo c.args.places.now m n lobby c.rounds-ended.new.self.minutes last d.0 past told1 told2 log1 log2 q ps) (2 * c.from-most.result) c.in-Ok.table.lobby
+    (map phase_of c.in-Ok.table.sessions.items) same c.in-Ok.ensures.lobby (ap (map phase_of) c.in-Ok.ensures.none) d.1.1 None
+    (minute_start c.in-Ok.table.minutes c.in-Ok.ensures.minutes))
     (subst (λ m. IsTable places m serves lobby.next ps) same t) c.leave_all.ensures.told)
 
 pub returns-clause-breaks : goal.returns-clause-breaks
@@ -50,6 +53,8 @@ returns-clause-breaks g c = λ is.
     let d = c.rounds-ended.ensures.breaks is in
     breaks_all c.args.places.now most d.0 (g.L.Links.told c.args.links.now) told1 told2 (g.L.Links.told c.leave_all.new.links)
     (g.D.Desk.value c.args.desk.now).lines log1 log2 part ps d.1.0 c.in-Ok-open_places.ensures.all
-    (from_start places most (λ m n past q. MissesRounds places m n d.0 past told1 told2 log1 log2 part q ps) (2 * c.from-most.result) c.in-Ok.table.lobby
-    (map phase_of c.in-Ok.table.sessions.items) same c.in-Ok.ensures.lobby (ap (map phase_of) c.in-Ok.ensures.none) d.1.1)
+    (from_start places most (λ m n past q. (last : Option ℕ) → IsMinuteOf c.in-Ok.table.minutes last past →
+    MissesRounds c.args.places.now m n last d.0 past told1 told2 log1 log2 part q ps) (2 * c.from-most.result) c.in-Ok.table.lobby
+    (map phase_of c.in-Ok.table.sessions.items) same c.in-Ok.ensures.lobby (ap (map phase_of) c.in-Ok.ensures.none) d.1.1 None
+    (minute_start c.in-Ok.table.minutes c.in-Ok.ensures.minutes))
     c.leave_all.ensures.told

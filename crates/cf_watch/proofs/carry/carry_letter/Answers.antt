@@ -13,7 +13,7 @@ returns-in_ok-keep-in-None c =
     record {
       takes = subst (λ (z : ℤ). Takes (record { number = c.args.number; at = z; text = stream_of c.args.letter }) c.args.flow.now c.args.ahead.now c.keep.new.flow c.keep.new.ahead) e
           (takes_new c.args.number place c.args.letter c.args.flow.now c.keep.new.flow c.args.ahead.now c.keep.new.ahead blank
-          c.in_ok-keep-in-None.ensures.knows c.in_ok-keep-in-None.ensures.grows c.in_ok-keep-in-None.ensures.conflict);
+          c.in_ok-keep-in-None.ensures.knows c.in_ok-keep-in-None.ensures.grows c.in_ok-keep-in-None.ensures.conflict c.in_ok-keep-in-None.ensures.holds);
     }
 
 pub returns-then-differ : goal.returns-then-differ

@@ -1,4 +1,4 @@
-use Rattle.std.proofs.Common.{rules, ◌≡◌, ◌+◌, ◌-◌, ◌++◌, ◌∷◌, [], ◌∙◌, ℕ, List, Result, length, refl, sym, subst, ap, arith}
+use Rattle.std.proofs.Common.{rules, ◌≡◌, ◌+◌, ◌-◌, ◌++◌, ◌∷◌, [], ◌∙◌, ℕ, List, Result, length, map, vec_items, refl, sym, subst, ap, arith}
 use Rattle.cf_outside.specs.Files.{Content}
 use Rattle.cf_outside.proofs.Frames.{reads_none, reads_on}
 use Rattle.cf_packet.specs.Packet.{PacketValue}
@@ -7,11 +7,12 @@ use Rattle.cf_records.proofs.Behind.{StandsBehind, stands_cut, stands_end, stand
 use Rattle.cf_records.specs.Capture.{Cut, FileEnd, Large, Refused, TooLong}
 use Rattle.cf_records.specs.Reader.{FindsRecord, ReaderValue}
 use Rattle.cf_records.specs.declared.NextRecord.TheVariants as next
+use Rattle.cf_watch.specs.FlowValue.{flow_value, stretch_value}
 use Rattle.cf_watch.specs.Trail.{IsWatchOf}
 use Rattle.cf_watch.specs.Watch.{EndsAt, kinds_by}
 use Rattle.cf_watch.specs.Seen.{packet_by, seen_by, with_frame}
 use Rattle.cf_watch.proofs.Lengths.{large_is_long, read_inside}
-use Rattle.cf_watch.proofs.SoFar.{ends_at, first_low, for_assets, is_recording, so_far_first, so_far_on}
+use Rattle.cf_watch.proofs.SoFar.{ends_at, first_low, for_assets, for_assets_too, is_recording, so_far_first, so_far_on}
 use Rattle.cf_watch.proofs.reading.watch_records.Goals as goal
 
 pub records-init : goal.records-init
@@ -62,16 +63,6 @@ returns-then-place-gt-CAPTURE_LIMIT-clause-fault g c =
     read_inside (g.F.Files.content c.args.files.now c.args.name.now) c.records.reader c.next.new.self stamp 67108864 found
     (omega (arith, c.if-place-gt-CAPTURE_LIMIT.true, c.place.ensures))
 
-pub returns-in-End-clause-watched : goal.returns-in-End-clause-watched
-returns-in-End-clause-watched g c =
-    let before = c.records.invariant in
-    let stands = subst (λ (content : List ℕ → Content). StandsBehind (content c.args.name.now) c.records.reader c.next.new.self.place FileEnd) before.reads.same
-    (stands_end (g.F.Files.content c.records.files c.args.name.now) c.records.reader c.next.new.self c.in-End.ensures.found) in
-    (before.all, is_recording before.so c.next.new.self.place c.requires.short stands, before.kept)
-
-pub returns-in-End-clause-for_assets : goal.returns-in-End-clause-for_assets
-returns-in-End-clause-for_assets g c = for_assets c.records.invariant.so
-
 pub returns-in-Cut-clause-fault : goal.returns-in-Cut-clause-fault
 returns-in-Cut-clause-fault g c =
     let before = c.records.invariant in
@@ -100,3 +91,26 @@ returns-in-Large-clause-fault g c =
     let stands = subst (λ (content : List ℕ → Content). StandsBehind (content c.args.name.now) c.records.reader c.next.new.self.place Large) before.reads.same
     (stands_large (g.F.Files.content c.records.files c.args.name.now) c.records.reader c.next.new.self c.in-Large.ensures.found) in
     large_is_long (g.F.Files.content c.args.files.now c.args.name.now) c.records.reader c.next.new.self.place 67108864 stands c.in-Large.ensures.near (omega arith)
+
+pub returns-in-Ok-recorded-clause-watched : goal.returns-in-Ok-recorded-clause-watched
+returns-in-Ok-recorded-clause-watched g c =
+    let before = c.records.invariant in
+    let recording = c.in-Ok-recorded.recording in
+    let stands = subst (λ (content : List ℕ → Content). StandsBehind (content c.args.name.now) c.records.reader c.next.new.self.place FileEnd) before.reads.same
+    (stands_end (g.F.Files.content c.records.files c.args.name.now) c.records.reader c.next.new.self c.in-End.ensures.found) in
+    let kept = c.in-Ok-recorded.ensures.stamps in (
+      before.all,
+      is_recording before.so c.next.new.self.place (map flow_value recording.flows.items) (map stretch_value recording.stretches.items) c.requires.short stands
+          (ap (λ fs. map flow_value (vec_items fs)) c.in-Ok-recorded.ensures.flows)
+          (c.in-Ok-recorded.ensures.stretches c.records.number (seen_by c.args.scope c.args.assets.now before.so.newest) before.so.heard),
+      λ is. ap (λ xs. vec_items xs) kept ∙ before.kept is,
+    )
+
+pub returns-in-Ok-recorded-clause-for_assets : goal.returns-in-Ok-recorded-clause-for_assets
+returns-in-Ok-recorded-clause-for_assets g c =
+    for_assets c.records.invariant.so (map flow_value c.in-Ok-recorded.recording.flows.items) (ap (λ fs. map flow_value (vec_items fs)) c.in-Ok-recorded.ensures.flows)
+
+pub returns-in-Ok-recorded-clause-stretches_for_assets : goal.returns-in-Ok-recorded-clause-stretches_for_assets
+returns-in-Ok-recorded-clause-stretches_for_assets g c =
+    for_assets_too c.records.invariant.so (map stretch_value c.in-Ok-recorded.recording.stretches.items)
+    (c.in-Ok-recorded.ensures.stretches c.records.number (seen_by c.args.scope c.args.assets.now c.records.invariant.so.newest) c.records.invariant.so.heard)

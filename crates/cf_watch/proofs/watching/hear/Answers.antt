@@ -6,7 +6,7 @@ use Rattle.cf_watch.specs.Carried.{end_after, end_of, top_of}
 use Rattle.cf_watch.specs.Kept.{Takes}
 use Rattle.cf_leg.specs.Segment.{has_ack, has_fin}
 use Rattle.cf_watch.specs.Watched.{carried_by, text_place}
-use Rattle.cf_watch.proofs.Standing.{all_grow, born_now, bytes_now, conflict_now, knows_now}
+use Rattle.cf_watch.proofs.Standing.{all_grow, born_now, bytes_now, conflict_now, holds_now, knows_now}
 use Rattle.cf_watch.proofs.Taking.{letters_from}
 use Rattle.cf_watch.proofs.watching.hear.Goals as goal
 
@@ -48,5 +48,6 @@ returns-clause-heard c w h =
       origin = h.origin;
       answered = c.is_answered-trail.ensures ∙ ap (λ (x : Bool). x || has_ack packet) h.answered;
       top = c.top_after-trail.ensures ∙ top;
+      holds = holds_now w.carried one old mid new a b d h.holds takes after.grows after.holds;
       knows = knows_now w.carried one old mid new a b d h.knows takes after.knows after.grows after.stops after.conflict;
     }

@@ -13,7 +13,7 @@ pub returns-in_err-take_from-clause-stops : goal.returns-in_err-take_from-clause
 returns-in_err-take_from-clause-stops g c =
     let n = c.take_from.new in
     let e = c.take_from.ensures in
-    take_broke c.streams_go_on.ensures.go_on c.streams_go_on.ensures.quiet c.args.asset.now c.args.most c.args.side c.args.self.now c.of_mut.result.now n.heard n.lane n.to_client n.to_controller n.idle
+    take_broke c.streams_go_on.ensures.go_on c.streams_go_on.ensures.quiet c.args.directions c.args.asset.now c.args.most c.args.side c.args.self.now c.of_mut.result.now n.heard n.lane n.to_client n.to_controller n.idle
     (link_value g.L.Links c.args.session c.args.links.now) (link_value g.L.Links c.args.session n.links) (g.D.Desk.value c.args.desk.now) (g.D.Desk.value n.desk) c.requires.sound c.of_mut.ensures.value e.idles e.log c.take_from.result e.link e.write
     c.from_residual.result c.in_err-take_from.field-0.0 c.from_residual.ensures.1 c.in_err-take_from.was c.in_err-take_from.ensures.takes
 
@@ -22,7 +22,7 @@ returns g c =
     let n = c.take_from.new in
     let e = c.take_from.ensures in
     let limit = c.check_limit.ensures in
-    let t = taken c.streams_go_on.ensures.go_on c.streams_go_on.ensures.quiet c.args.asset.now c.args.most c.args.side c.args.self.now c.of_mut.result.now n.heard n.lane n.to_client n.to_controller n.idle
+    let t = taken c.streams_go_on.ensures.go_on c.streams_go_on.ensures.quiet c.args.directions c.args.asset.now c.args.most c.args.side c.args.self.now c.of_mut.result.now n.heard n.lane n.to_client n.to_controller n.idle
     (link_value g.L.Links c.args.session c.args.links.now) (link_value g.L.Links c.args.session n.links) (g.D.Desk.value c.args.desk.now) (g.D.Desk.value n.desk) c.requires.sound c.of_mut.ensures.value e.idles e.log c.take_from.result e.link e.write
     c.in_ok-take_from.field-0 c.in_ok-take_from.was c.in_ok-take_from.ensures.takes c.check_limit.result limit.limit limit.short limit.to_client limit.to_controller in
     record { place = search rules; goes = t.goes; stops = t.stops; sound = t.sound; moves = t.moves; whole = search rules; buffer = search rules }

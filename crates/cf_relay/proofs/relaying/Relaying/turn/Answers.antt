@@ -53,6 +53,6 @@ returns-clause-stops g c =
 pub returns-clause-moves : goal.returns-clause-moves
 returns-clause-moves g c =
     on_ok c.serve-2.result _ _
-    (turn_moves c.args.most _ (relaying_value c.tell.new.self) (relaying_value c.take.new.self) (relaying_value c.take-2.new.self) (relaying_value c.serve.new.self) _ c.tell.ensures.unmoved c.in_ok-take.ensures.moves c.in_ok-take-2.ensures.moves
+    (turn_moves c.args.directions c.args.most _ (relaying_value c.tell.new.self) (relaying_value c.take.new.self) (relaying_value c.take-2.new.self) (relaying_value c.serve.new.self) _ c.tell.ensures.unmoved c.in_ok-take.ensures.moves c.in_ok-take-2.ensures.moves
     c.in_ok-serve.ensures.moves)
     c.serve-2.ensures.moves

@@ -36,7 +36,6 @@ returns-clause-does g c = λ client.
     last_put (ending (listening_of c.args.terms.now) c.args.terms.now.most client c.args.self.now.met _ _ _ _ _ _ c.requires.may.0.few
     c.args.self.now.debt c.turn-answer.result c.is_closed.result c.in-Some.end c.turn-answer.ensures.goes
     c.turn-answer.ensures.sound c.turn-answer.ensures.stops c.is_closed.ensures (sym c.in_ok-end.ensures.end ∙ c.in-Some.is))
-    _
     (subst (λ l. (g.D.Desk.value c.log_line.new.desk).lines ≡ with_lines (g.D.Desk.value c.turn-answer.new.desk).lines (l ∷ []))
     (said c.args.terms.now.asset.now c.args.self.now.met _ _ _ c.in-Some.end _ _ _ _ c.moment.ensures c.last_what-what.ensures c.admitted.ensures c.refused-2.ensures)
     c.in_ok-log_line.ensures.lines)

@@ -14,6 +14,7 @@ invariant-loop-place g l =
           IsTable (listenings l.fn.places) most (LinksPlace.serves (g.L.Links.place l.links)) l.self.lobby.next (map phase_of l.self.sessions.items);
       does : (most : ℕ) → Arrive (listenings l.fn.places) most l.fn.moment 0 l.place l.fn.self.lobby l.self.lobby (g.L.Links.told l.fn.links) (g.L.Links.told l.links)
           (g.D.Desk.value l.fn.desk).lines (g.D.Desk.value l.desk).lines (map phase_of l.fn.self.sessions.items) (map phase_of l.self.sessions.items);
+      minutes : l.self.minutes ≡ l.fn.self.minutes;
       round : LinksPlace.round_faults (g.L.Links.place l.links) ≡ LinksPlace.round_faults (g.L.Links.place l.fn.links);
       room : vec_capacity l.fn.self.sessions ≤ vec_capacity l.self.sessions;
       whole : (g.D.Desk.value l.desk).whole ≡ true;

@@ -9,8 +9,8 @@ loop-made-preserved g c =
     let i = c.loop-made.invariant in
     record {
       table = c.in-Ok.ensures.table;
-      does = λ past keeps.
-          rounds_then _ _ _ past _ _ _ _ _ _ _ _ _ _ _ _ (i.does past keeps) c.in-Ok.ensures.does;
+      does = λ past keeps last is.
+          rounds_then _ _ _ last past _ _ _ _ _ _ _ _ _ _ _ _ _ _ (i.does past keeps last is) c.in-Ok.ensures.does;
       round = c.round.ensures.loops.still (λ is. let e = sym c.in-Ok.is ∙ is in cc) ∙ i.round;
       room = omega (arith, i.room, c.round.ensures.room);
       whole = c.in-Ok.ensures.whole;
@@ -27,6 +27,6 @@ returns-in-Err-clause-breaks g c = λ is. (
   c.loop-made._made,
   (
     omega (arith, c.loop-made.auto),
-    λ past keeps. rounds_fail _ _ _ past _ _ _ _ _ _ _ _ _ _ _ _ (c.loop-made.invariant.does past keeps) (c.in-Err.ensures.breaks is),
+    λ past keeps last its. rounds_fail _ _ _ last past _ _ _ _ _ _ _ _ _ _ _ _ _ (c.loop-made.invariant.does past keeps last its) (c.in-Err.ensures.breaks is),
   ),
 )

@@ -3,6 +3,7 @@ use Rattle.std.proofs.lemmas.List.{length-map}
 use Rattle.cf_links.specs.Links.{LinksPlace}
 use Rattle.cf_serve.proofs.Breaking.{step_missed}
 use Rattle.cf_serve.proofs.Placing.{phases_at}
+use Rattle.cf_serve.proofs.Tallying.{few_of, tallies_are}
 use Rattle.cf_serve.proofs.Stepping.{at_place, leave_it, may_go, on_err, step_ends, step_stays, stood, table_ends, table_stays}
 use Rattle.cf_serve.specs.Phase.{MayTurn, listening_at, listenings, phase_of}
 use Rattle.cf_serve.specs.Session.{Listening}
@@ -34,16 +35,25 @@ returns-then-not-stays-clause-table g c =
     table_ends s c.requires.table c.turn_one.new.served _ (g.L.Links.place c.args.links.now) (g.L.Links.place c.turn_one.new.links) c.in_ok-stays.stays c.remove.ensures.items refl
     c.if-not-stays.true c.in_ok-stays.ensures.place
 
+pub add-requires : goal.add-requires
+add-requires g c =
+    few_of (listenings c.args.places.now) c.args.places.now _ (length-map c.args.places.now listening_at)
+    (may_go (phases_at _ _ _ c.requires.index c.index_mut-served.ensures.value) c.requires.table).placed c.requires.few
+
 pub returns-else-not-stays-clause-does : goal.returns-else-not-stays-clause-does
 returns-else-not-stays-clause-does g c = λ past keeps.
     let s = phases_at _ _ _ c.requires.index c.index_mut-served.ensures.value in
-    step_stays s c.requires.table keeps c.place_of-place.ensures.place c.turn_one.new.served _ c.turn_one.ensures.same c.if-not-stays.false
+    step_stays s c.requires.table keeps c.place_of-place.ensures.place c.turn_one.new.served _ _
+    (few_of (listenings c.args.places.now) c.args.places.now _ (length-map c.args.places.now listening_at) (may_go s c.requires.table).placed c.requires.few)
+    (tallies_are _ _ _ _ _ _ _ c.add.ensures c.counts-before.ensures c.counts-after.ensures) _ c.turn_one.ensures.same c.if-not-stays.false
     (c.in_ok-stays.ensures.does _ _ (stood s c.requires.table keeps c.place_of-place.ensures.place))
 
 pub returns-then-not-stays-clause-does : goal.returns-then-not-stays-clause-does
 returns-then-not-stays-clause-does g c = λ past keeps.
     let s = phases_at _ _ _ c.requires.index c.index_mut-served.ensures.value in
-    step_ends s c.requires.table keeps c.place_of-place.ensures.place c.turn_one.new.served _ _ c.remove.ensures.items c.if-not-stays.true
+    step_ends s c.requires.table keeps c.place_of-place.ensures.place c.turn_one.new.served _ _
+    (few_of (listenings c.args.places.now) c.args.places.now _ (length-map c.args.places.now listening_at) (may_go s c.requires.table).placed c.requires.few)
+    (tallies_are _ _ _ _ _ _ _ c.add.ensures c.counts-before.ensures c.counts-after.ensures) _ _ c.remove.ensures.items c.if-not-stays.true
     (c.in_ok-stays.ensures.does _ _ (stood s c.requires.table keeps c.place_of-place.ensures.place))
 
 pub returns-in_err-stays-clause-leave : goal.returns-in_err-stays-clause-leave

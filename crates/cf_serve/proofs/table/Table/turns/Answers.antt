@@ -11,8 +11,9 @@ pub loop-index-init : goal.loop-index-init
 loop-index-init g c =
     record {
       table = c.requires.table;
-      does = λ past keeps. turns_begin _ _ _ _ past _ _ _ keeps;
+      does = λ past keeps. turns_begin _ _ _ _ past _ _ _ _ keeps;
       lobby = refl;
+      last = refl;
       round = refl;
       room = refl;
       within = omega arith;
@@ -28,9 +29,10 @@ loop-index-preserved-then-branch g c =
     record {
       table = rw (ap (λ (f : Lobby). f.next) (c.turn_at.ensures.lobby ∙ i.lobby)) at c.in_ok-turn_at.ensures.table;
       does = λ past keeps.
-          turns_step _ _ _ _ past _ _ _ _ _ _ _ (i.does past keeps) c.loop-index.self.lobby.next _ _ _ c.in_ok-turn_at.field-0 _ (ap (λ (f : Lobby). f.next) i.lobby)
+          turns_step _ _ _ _ past _ _ _ _ _ _ _ _ _ (i.does past keeps) c.loop-index.self.lobby.next _ _ _ _ c.in_ok-turn_at.field-0 _ (ap (λ (f : Lobby). f.next) i.lobby)
           c.in_ok-turn_at.ensures.does (ap (λ (b : Bool). c.loop-index.index + (if b then 1 else 0)) (sym c.if-branch.true));
       lobby = c.turn_at.ensures.lobby ∙ i.lobby;
+      last = c.turn_at.ensures.last ∙ i.last;
       round = c.turn_at.ensures.round ∙ i.round;
       room = c.turn_at.ensures.room ∙ i.room;
       within = within_on _ _ _ c.in_ok-turn_at.field-0 c.if-branch.true c.in_ok-turn_at.ensures.len (omega (arith, c.loop-index-test.true, c.len.ensures));
@@ -46,9 +48,10 @@ loop-index-preserved g c =
     record {
       table = rw (ap (λ (f : Lobby). f.next) (c.turn_at.ensures.lobby ∙ i.lobby)) at c.in_ok-turn_at.ensures.table;
       does = λ past keeps.
-          turns_step _ _ _ _ past _ _ _ _ _ _ _ (i.does past keeps) c.loop-index.self.lobby.next _ _ _ c.in_ok-turn_at.field-0 _ (ap (λ (f : Lobby). f.next) i.lobby)
+          turns_step _ _ _ _ past _ _ _ _ _ _ _ _ _ (i.does past keeps) c.loop-index.self.lobby.next _ _ _ _ c.in_ok-turn_at.field-0 _ (ap (λ (f : Lobby). f.next) i.lobby)
           c.in_ok-turn_at.ensures.does (no_step c.loop-index.index ∙ ap (λ (b : Bool). c.loop-index.index + (if b then 1 else 0)) (sym c.if-branch.false));
       lobby = c.turn_at.ensures.lobby ∙ i.lobby;
+      last = c.turn_at.ensures.last ∙ i.last;
       round = c.turn_at.ensures.round ∙ i.round;
       room = c.turn_at.ensures.room ∙ i.room;
       within = within_off _ _ _ c.in_ok-turn_at.field-0 c.if-branch.false c.in_ok-turn_at.ensures.len (omega (arith, c.loop-index-test.true, c.len.ensures));
@@ -63,5 +66,5 @@ returns-in_err-turn_at-clause-breaks g c =
     let i = c.loop-index.invariant in
     on_err c.from_residual.result _ (λ past keeps.
     let b = i.does past keeps in
-    turns_missed _ _ _ _ past _ _ _ _ _ _ _ b _ _ _ _
+    turns_missed _ _ _ _ past _ _ _ _ _ _ _ _ _ b _ _ _ _
     (c.in_err-turn_at.ensures.breaks (past ++ b.turns) (rw (ap (λ (f : Lobby). f.next) i.lobby) b.keeps)))

@@ -14,8 +14,9 @@ invariant-loop-index g l =
       table : IsTable (listenings l.fn.places) l.fn.most (LinksPlace.serves (g.L.Links.place l.links)) l.fn.self.lobby.next (map phase_of l.self.sessions.items);
       does : (past : List TurnOf) → Keeps (listenings l.fn.places) l.fn.most l.fn.self.lobby.next past (map phase_of l.fn.self.sessions.items) →
           TurnsBegin (listenings l.fn.places) l.fn.most l.fn.self.lobby.next l.fn.moment past l.index (g.L.Links.told l.fn.links) (g.L.Links.told l.links)
-          (g.D.Desk.value l.fn.desk).lines (g.D.Desk.value l.desk).lines (map phase_of l.fn.self.sessions.items) (map phase_of l.self.sessions.items);
+          (g.D.Desk.value l.fn.desk).lines (g.D.Desk.value l.desk).lines l.fn.self.minutes.tallies l.self.minutes.tallies (map phase_of l.fn.self.sessions.items) (map phase_of l.self.sessions.items);
       lobby : l.self.lobby ≡ l.fn.self.lobby;
+      last : l.self.minutes.last ≡ l.fn.self.minutes.last;
       round : LinksPlace.round_faults (g.L.Links.place l.links) ≡ LinksPlace.round_faults (g.L.Links.place l.fn.links);
       room : vec_capacity l.self.sessions ≡ vec_capacity l.fn.self.sessions;
       within : l.index ≤ vec_len l.self.sessions;

@@ -1,0 +1,218 @@
+//! The bytes of flows that do not follow on their first ones.
+ghost use Rattle.std.specs.Prelude.{◌≡◌, ◌∷◌, [], ◌++◌, ◌^◌, ◌≤◌, List, IfOk, OnOk, Option, Some, None, if◌then◌else◌, length, map, pos, reverse, ◌==◌, ◌+◌};
+ghost use Rattle.std.specs.Prelude.{ℕ, slice_get, IfSome};
+ghost use Rattle.std.specs.BTreeMap.{get};
+ghost use Rattle.std.specs.Ordering.{nat_cmp};
+ghost use Rattle.cf_watch.specs.FlowValue.{flow_value, stretch_value};
+ghost use Rattle.cf_watch.specs.Kept.{HasRuns, IsFirst, came_value, run_value};
+ghost use Rattle.cf_watch.specs.Stretches.{all_stretches, is_nil, is_own, longer, run_at, stretch_of, stretches_from, stretches_of, with_byte, with_place};
+ghost use Rattle.cf_watch.specs.Trail.{IsHeard, IsWatchOf};
+ghost use Rattle.cf_watch.specs.Watched.{Watched};
+
+use crate::born::Born;
+use crate::carry::{Ahead, BELOW};
+use crate::flow::{Flow, Stretch};
+use crate::letter::{Came, Letter};
+use crate::watching::{Trail, Watch};
+use cf_view::NoMemory;
+use std::alloc::Global;
+
+/// Bytes at places one after the other.
+#[derive(Drop)]
+pub(crate) struct Run {
+    /// The place of the first, counted from `BELOW` places below position 0.
+    start: u64,
+    /// The record of the first.
+    first: u32,
+    bytes: Vec<u8>,
+    /// For each byte the last record with which those up to it came.
+    born: Born,
+    /// The last of these.
+    newest: u32,
+}
+
+/// Whether a place, so counted, is one of the first bytes of a flow, so many.
+fn is_own(count: usize, place: u64) -> bool
+    ensures { result ≡ is_own count place }
+{
+    BELOW <= place && place - BELOW < count as u64
+}
+
+/// A run without a byte yet.
+fn run_at(alloc: Global, place: u64, number: u32) -> Run
+    ensures { run_value result ≡ run_at place number }
+{
+    Run {
+        start: place,
+        first: number,
+        bytes: Vec::new(alloc),
+        born: Born::new(alloc),
+        newest: 0,
+    }
+}
+
+/// Puts a byte after the others of a run.
+fn go_on(run: &mut Run, byte: u8, number: u32) -> Result<(), NoMemory>
+    ensures { OnOk result (run_value run.new ≡ longer (run_value run.old) byte number) }
+{
+    run.newest = run.newest.max(number);
+    if run.bytes.push(byte).is_err() || run.born.push(u64::from(run.newest)).is_err() {
+        return Err(NoMemory);
+    }
+    Ok(())
+}
+
+/// Whether a run goes on at a place.
+fn reaches(run: &Run, place: u64) -> bool
+    ensures { result ≡ ((run_value run.now).start + length (run_value run.now).bytes == place) }
+{
+    run.start.checked_add(run.bytes.len() as u64) == Some(place)
+}
+
+/// Puts a byte among the runs of all before it.
+fn put_byte(
+    alloc: Global,
+    runs: &mut Vec<Run>,
+    place: u64,
+    byte: u8,
+    number: u32,
+) -> Result<(), NoMemory>
+    ensures { OnOk result (reverse (map run_value runs.new.items) ≡ with_byte place byte number (reverse (map run_value runs.old.items))) }
+{
+    let mut run = match runs.pop() {
+        Some(run) => run,
+        None => run_at(alloc, place, number),
+    };
+    if !reaches(&run, place) {
+        push_run(runs, run)?;
+        run = run_at(alloc, place, number);
+    }
+    go_on(&mut run, byte, number)?;
+    push_run(runs, run)
+}
+
+/// Puts a run after the others.
+fn push_run(runs: &mut Vec<Run>, run: Run) -> Result<(), NoMemory>
+    ensures { OnOk result (runs.new.items ≡ runs.old.items ++ run ∷ []) }
+{
+    match runs.push(run) {
+        Ok(()) => Ok(()),
+        Err(_) => Err(NoMemory),
+    }
+}
+
+/// Puts a letter among the runs of all before it, but for End, and the place of a byte of the flow itself, of which it has so many.
+fn put_letter(
+    alloc: Global,
+    runs: &mut Vec<Run>,
+    count: usize,
+    place: u64,
+    came: Came,
+) -> Result<(), NoMemory>
+    ensures { OnOk result (reverse (map run_value runs.new.items) ≡ with_place place
+        (if is_own count place then None else Some (came_value came)) (reverse (map run_value runs.old.items))) }
+{
+    match came.letter {
+        Letter::Byte(byte) if !is_own(count, place) => {
+            put_byte(alloc, runs, place, byte, came.number)
+        }
+        Letter::Byte(_) | Letter::End => Ok(()),
+    }
+}
+
+/// The runs of the bytes that stand apart from those of a flow, which has so many, in the order of their places.
+fn runs_in(alloc: Global, count: usize, ahead: &mut Ahead) -> Result<Vec<Run>, NoMemory>
+    ensures { IfOk result (λ runs. HasRuns count ahead.old (reverse (map run_value runs.items))) }
+{
+    let mut runs = Vec::new(alloc);
+    'letters: loop {
+        match take_first(ahead) {
+            Some((place, came)) => put_letter(alloc, &mut runs, count, place, came)?,
+            None => return Ok(runs),
+        }
+    }
+}
+
+/// Takes the letter of the lowest place out, if there is one.
+fn take_first(ahead: &mut Ahead) -> Option<(u64, Came)>
+    ensures some { IfSome result (λ p. IsFirst p.0 p.1 ahead.old ahead.new) }
+    ensures none { result ≡ None → (q : ℕ) → get nat_cmp ahead.old q ≡ None }
+{
+    ahead.pop_first()
+}
+
+/// The position of the gap, which the first run of a flow tells.
+fn gap_of(flow: &Flow, before: &[Run]) -> Option<i64>
+    ensures { result ≡ (if is_nil (map run_value before.now) then Some (pos (length flow.now.bytes.items)) else None) }
+{
+    if before.is_empty() {
+        Some(flow.bytes.len() as i64)
+    } else {
+        None
+    }
+}
+
+/// Adds a run as a stretch of its flow.
+fn add_stretch(
+    flow: &Flow,
+    gap: Option<i64>,
+    run: Run,
+    stretches: &mut Vec<Stretch>,
+) -> Result<(), NoMemory>
+    ensures { OnOk result (map stretch_value stretches.new.items ≡ map stretch_value stretches.old.items
+        ++ stretch_of (flow_value flow.now) gap (run_value run) ∷ []) }
+{
+    let stretch = Stretch {
+        flow: Flow {
+            client: flow.client,
+            asset: flow.asset,
+            midstream: Some(u64::from(run.first)),
+            bytes: run.bytes,
+            born: run.born,
+            conflict: None,
+        },
+        gap,
+    };
+    match stretches.push(stretch) {
+        Ok(()) => Ok(()),
+        Err(_) => Err(NoMemory),
+    }
+}
+
+/// Adds the stretches of a flow.
+fn add_stretches(
+    alloc: Global,
+    flow: &Flow,
+    trail: &mut Trail,
+    stretches: &mut Vec<Stretch>,
+) -> Result<(), NoMemory>
+    ensures { OnOk result ((w : Watched) → IsHeard flow.now trail.old w → map stretch_value stretches.new.items
+        ≡ map stretch_value stretches.old.items ++ stretches_of w (flow_value flow.now)) }
+{
+    let mut runs = runs_in(alloc, flow.bytes.len(), &mut trail.ahead)?;
+    'runs: loop {
+        match runs.pop() {
+            Some(run) => add_stretch(flow, gap_of(flow, runs.as_slice()), run, stretches)?,
+            None => return Ok(()),
+        }
+    }
+}
+
+/// The stretches of all flows of a watch, flow by flow.
+pub(crate) fn stretches_in(alloc: Global, watch: &mut Watch) -> Result<Vec<Stretch>, NoMemory>
+    requires { length watch.old.flows.items ≡ length watch.old.trails.items }
+    ensures stretches { IfOk result (λ stretches. (number : ℕ) (ws : List Watched) → IsWatchOf number watch.old ws
+        → map stretch_value stretches.items ≡ all_stretches ws (map flow_value watch.old.flows.items)) }
+    ensures flows { watch.new.flows ≡ watch.old.flows }
+{
+    let mut stretches = Vec::new(alloc);
+    for place in 0..watch.flows.len() {
+        add_stretches(
+            alloc,
+            &watch.flows[place],
+            &mut watch.trails[place],
+            &mut stretches,
+        )?;
+    }
+    Ok(stretches)
+}
