@@ -26,7 +26,8 @@ use Rattle.cf_session.proofs.Events.{heard_is_packet, is_event}
 use Rattle.cf_session.proofs.Heards.{are_taken, cut_is, done_is, ended_as, full_of, room_is, tick_closed}
 use Rattle.cf_session.proofs.Legs.{right_of}
 use Rattle.cf_session.proofs.Telling.{then_told}
-use Rattle.cf_session.specs.Cuts.{cut_by, is_reset, packet_cut}
+use Rattle.cf_session.specs.CutBy.{cut_by}
+use Rattle.cf_session.specs.Cuts.{is_reset, packet_cut}
 use Rattle.cf_session.specs.Event.{AreEvents, IsPacket, IsTick, came_controller}
 use Rattle.cf_session.specs.Parts.{AreParts, IsLaneAfter, SessionValue}
 use Rattle.cf_session.specs.Sent.{at, first_line, last_line, late, line, new_lines, sent_second}

@@ -25,7 +25,8 @@ use Rattle.cf_session.proofs.Final.{HeardAt, close_line, cut_event, cut_packet, 
 use Rattle.cf_session.proofs.Heards.{Suits, full_of, hello_any, resets_is}
 use Rattle.cf_outside.specs.Frames.{EmitsAndLogs}
 use Rattle.cf_session.specs.Broken.{BreaksAmid, BreaksPacket}
-use Rattle.cf_session.specs.Cuts.{cut_by, is_reset, packet_cut}
+use Rattle.cf_session.specs.CutBy.{cut_by}
+use Rattle.cf_session.specs.Cuts.{is_reset, packet_cut}
 use Rattle.cf_session.specs.Event.{IsPacket, IsTick, came_controller}
 use Rattle.cf_session.specs.Parts.{SessionValue}
 use Rattle.cf_session.specs.Sent.{at, first_line, last_line, line, new_lines, sent_second}

@@ -24,7 +24,8 @@ use Rattle.cf_view.specs.declared.Side.{Side}
 use Rattle.cf_view.specs.declared.Side.TheVariants as side
 use Rattle.cf_session.proofs.Events.{before_history}
 use Rattle.cf_session.proofs.Options.{later_same}
-use Rattle.cf_session.specs.Cuts.{cut_by, is_reset, packet_cut, reset_by, reset_cut, resets}
+use Rattle.cf_session.specs.CutBy.{cut_by, reset_by}
+use Rattle.cf_session.specs.Cuts.{is_reset, packet_cut, reset_cut, resets}
 use Rattle.cf_lane.specs.Limit.{limit_by, limit_cut}
 use Rattle.cf_session.specs.Event.{AreTaken, IsTick, came_controller}
 use Rattle.cf_session.specs.Parts.{SessionValue}

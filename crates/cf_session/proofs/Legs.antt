@@ -15,7 +15,8 @@ use Rattle.cf_outq.specs.SendQueue.{IsQueueOf, Queue}
 use Rattle.cf_outside.specs.Desk.{SentValue}
 use Rattle.cf_stream.specs.Stream.{Stream}
 use Rattle.cf_session.proofs.Telling.{told_by}
-use Rattle.cf_session.specs.Cuts.{gives_up, is_no_answer}
+use Rattle.cf_session.specs.CutBy.{is_no_answer}
+use Rattle.cf_session.specs.Cuts.{gives_up}
 use Rattle.cf_session.specs.Parts.{IsLegBetween, SessionValue}
 use Rattle.cf_session.specs.Sent.{at}
 use Rattle.cf_session.specs.Session.{Flow, client_ends, controller_ends}

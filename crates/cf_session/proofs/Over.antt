@@ -3,7 +3,6 @@ use Rattle.std.proofs.Common.{◌≡◌, ℕ, ◌^◌, ◌≤◌, min, ◌&&◌,
 use Rattle.std.proofs.lemmas.Bool.{false≢true}
 use Rattle.std.proofs.lemmas.List.{append-nil}
 use Rattle.cf_audit.specs.declared.CutReason.{CutReason}
-use Rattle.cf_lane.specs.History.{taken}
 use Rattle.cf_lane.specs.Laws.{QuietBehindEnd, StreamsGoOn}
 use Rattle.cf_leg.specs.Event.{Came, Ending, LegEvent, Nothing, is_idle, is_settled, is_spoken, is_unspoken, stream_after, stream_at}
 use Rattle.cf_leg.specs.Heard.{end_state, offers, offers_by, opened, shown}

@@ -13,7 +13,8 @@ use Rattle.cf_policy.specs.declared.Asset.{Asset}
 use Rattle.cf_rebuild.specs.ReceiveWindow.{Window, base_of}
 use Rattle.cf_view.specs.declared.Side.{Side}
 use Rattle.cf_session.proofs.Heards.{full_of}
-use Rattle.cf_session.specs.Cuts.{cut_by, is_reset}
+use Rattle.cf_session.specs.CutBy.{cut_by}
+use Rattle.cf_session.specs.Cuts.{is_reset}
 use Rattle.cf_session.specs.Parts.{SessionValue}
 use Rattle.cf_session.specs.Stands.{IsSound}
 use Rattle.cf_session.specs.Turn.{IsShort, IsSteady, OnlySpeaks, is_done_now}

@@ -8,12 +8,9 @@ use Rattle.cf_lane.specs.Limit.{limit_cut}
 use Rattle.cf_leg.specs.Event.{LegEvent, Came, Nothing, Greeting, Packet}
 use Rattle.cf_leg.specs.Heard.{answer_to, end_state}
 use Rattle.cf_leg.specs.Timer.{fires, tries}
-use Rattle.cf_leg.specs.declared.ClockAnswer.{ClockAnswer}
-use Rattle.cf_leg.specs.declared.ClockAnswer.TheVariants as clock
 use Rattle.cf_leg.specs.declared.LegAnswer.{LegAnswer}
 use Rattle.cf_leg.specs.declared.LegAnswer.TheVariants as answer
 use Rattle.cf_leg.specs.declared.Role.{Role}
-use Rattle.cf_view.specs.declared.Side.{Side}
 use Rattle.cf_view.specs.declared.Side.TheVariants as side
 use Rattle.cf_session.specs.Session.{Flow, SessionEvent, client_ends, clients, controller_ends, controllers, history, was_closed}
 
@@ -57,17 +54,3 @@ packet_cut flow limit earlier event =
     if was_closed flow earlier then None
     else option_or (reset_cut flow earlier event)
     (option_or event.work.cut (limit_cut limit (history (event ∷ earlier)) event.work.to_client event.work.to_controller))
-
--- ---- the same in what a session in memory has
-
-abbrev pub is_no_answer : ClockAnswer → Bool
-is_no_answer clock.NoAnswer = true
-is_no_answer _ = false
-
-abbrev pub reset_by : Side → CutReason
-reset_by side.Client = reason.ResetByClient
-reset_by side.Controller = reason.ResetByController
-
--- whether it is closed, whether the packet of a side resets its leg, why the lane cuts, and why a full stream does
-abbrev pub cut_by : (closed resets : Bool) → Side → (lane full : Option CutReason) → Option CutReason
-cut_by closed resets s lane full = if closed then None else option_or (if resets then Some (reset_by s) else None) (option_or lane full)

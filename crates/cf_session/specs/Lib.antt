@@ -1,6 +1,7 @@
 pub mod Work
 pub mod Session
 pub mod Broken
+pub mod CutBy
 pub mod Cuts
 pub mod Event
 pub mod Sent

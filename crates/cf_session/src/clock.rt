@@ -4,7 +4,7 @@ ghost use Rattle.std.specs.Result.{is_err};
 ghost use Rattle.cf_outside.specs.Desk.{DeskValue};
 ghost use Rattle.cf_outside.specs.Frames.{EmitsAndLogs};
 ghost use Rattle.cf_session.specs.Broken.{BreaksTick};
-ghost use Rattle.cf_session.specs.Cuts.{is_no_answer};
+ghost use Rattle.cf_session.specs.CutBy.{is_no_answer};
 ghost use Rattle.cf_session.specs.Parts.{SessionValue};
 ghost use Rattle.cf_session.specs.Session.{Flow, SessionEvent, is_past};
 ghost use Rattle.cf_session.specs.Stands.{IsLife, IsSessionOf, IsSound, TicksBy, due_of, expiry_of, life_by};
