@@ -3,7 +3,7 @@
 //! with a reset. One that failed ends its session in the next turn, by the take or give that meets it, or, where a queue is full,
 //! by the moment. A side that has ended has not failed: what is queued for the other goes out.
 ghost use Rattle.std.specs.List.{HoldsAt};
-ghost use Rattle.std.specs.Prelude.{◌≡◌, ◌<◌, IfOk, IfSome, length};
+ghost use Rattle.std.specs.Prelude.{◌≡◌, ◌<◌, IfOk, IfSome, IsTrue, length};
 ghost use Rattle.cf_machine.specs.Moved.{IsOn};
 
 use crate::links::sides::{ClientStream, ControllerStream, Moved};
@@ -81,6 +81,17 @@ pub(crate) fn token_of(number: u64, side: Side) -> Token {
     match side {
         Side::Client => Token((number as usize).wrapping_mul(2)),
         Side::Controller => Token((number as usize).wrapping_mul(2).wrapping_add(1)),
+    }
+}
+
+/// Whether the session of this number stands at a place among these.
+pub(crate) fn is_at(sessions: &[Session], at: usize, number: u64) -> bool
+    ensures inside { IsTrue result → at < length sessions.now }
+    ensures own { IsTrue result → HoldsAt (λ found. found.number ≡ number) sessions.now at }
+{
+    match sessions.get(at) {
+        Some(session) => session.number == number,
+        None => false,
     }
 }
 

@@ -1,9 +1,10 @@
 //! The sockets of a service, and its clock.
-ghost use Rattle.std.specs.Prelude.{IfOk, IfSome, length};
+ghost use Rattle.std.specs.List.{HoldsAt};
+ghost use Rattle.std.specs.Prelude.{◌≡◌, ◌<◌, IfOk, IfSome, length};
 ghost use Rattle.cf_machine.specs.Moved.{IsOn};
 
 use crate::links::place::Place;
-use crate::links::session::{Leaving, Reached, Session, session_of};
+use crate::links::session::{Leaving, Reached, Session, is_at, session_of};
 use crate::links::sides::Moved;
 use crate::links::supervisor::Supervisor;
 use cf_view::{Endpoint, Side};
@@ -35,6 +36,9 @@ pub(crate) struct Sockets<'a, R: Net + Clock> {
     places: Vec<Place>,
     /// In the order of their numbers, which count up.
     sessions: Vec<Session>,
+    /// Where among them the session stands that was asked for its turn last. They are asked in their order, so that the next one stands
+    /// there or behind it.
+    asked: usize,
     leaving: Vec<Leaving>,
     begun: Instant,
     /// The moment at which it began, in microseconds since 1970, by the clock that may be set.
@@ -57,6 +61,7 @@ impl<'a, R: Net + Clock> Sockets<'a, R> {
             events: Events::with_capacity(alloc, EVENTS)?,
             places: Vec::new(alloc),
             sessions: Vec::with_capacity(alloc, SESSIONS)?,
+            asked: 0,
             leaving: Vec::with_capacity(alloc, LEAVING)?,
             begun: Instant::now(rt)?,
             begun_at,
@@ -72,21 +77,39 @@ impl<'a, R: Net + Clock> Sockets<'a, R> {
 
     /// A side of a session whose connection has failed where no other call of its turn tells of it, and what the system says.
     pub fn failure(&self, session: u64) -> Option<(Side, io::Error)> {
-        let at = session_of(&self.sessions, session)?;
+        let at = self.seat_of(session)?;
         self.sessions[at].failure()
     }
 
     /// The address and port from which the client of a session came; nothing of a number that no session has.
     pub fn client_of(&self, session: u64) -> Option<Endpoint> {
-        let at = session_of(&self.sessions, session)?;
+        let at = self.seat_of(session)?;
         Some(self.sessions[at].client_at)
+    }
+
+    /// Where a session stands: in the place of the one whose turn it was last or in the next, or where a search finds it.
+    fn seat_of(&self, session: u64) -> Option<usize>
+        ensures inside { IfSome result (λ at. at < length self.entry.now.sessions.items) }
+        ensures own { IfSome result (HoldsAt (λ found. found.number ≡ session) self.entry.now.sessions.items) }
+    {
+        let next = self.asked.saturating_add(1);
+        if is_at(&self.sessions, self.asked, session) {
+            Some(self.asked)
+        } else if is_at(&self.sessions, next, session) {
+            Some(next)
+        } else {
+            session_of(&self.sessions, session)
+        }
     }
 
     /// Whether a session has a turn now, which begins with this. One of a number that no session has has one, so that its next call
     /// tells.
     pub fn begin_turn(&mut self, session: u64) -> bool {
-        match session_of(&self.sessions, session) {
-            Some(at) => self.sessions[at].begin_turn(self.now),
+        match self.seat_of(session) {
+            Some(at) => {
+                self.asked = at;
+                self.sessions[at].begin_turn(self.now)
+            }
             None => true,
         }
     }
@@ -94,7 +117,7 @@ impl<'a, R: Net + Clock> Sockets<'a, R> {
     /// Has a session wait for the next second.
     pub fn rest(&mut self, session: u64) {
         let until = self.next_second();
-        if let Some(at) = session_of(&self.sessions, session) {
+        if let Some(at) = self.seat_of(session) {
             self.sessions[at].rest_until(until);
         }
     }
@@ -196,7 +219,7 @@ impl<'a, R: Net + Clock> Sockets<'a, R> {
     /// Asks whether the controller of a session took the connection, and begins to connect where that was not begun. `NotConnected`
     /// for a number that no session has.
     pub fn reach(&mut self, session: u64, controller: SocketAddr) -> io::Result<Reached> {
-        match session_of(&self.sessions, session) {
+        match self.seat_of(session) {
             Some(at) => {
                 self.sessions[at].reach(self.rt, self.poll.registry(), self.now, controller)
             }
@@ -208,7 +231,7 @@ impl<'a, R: Net + Clock> Sockets<'a, R> {
     pub fn read(&mut self, session: u64, side: Side, buf: &mut [u8]) -> io::Result<Option<Moved>>
         ensures { IfOk result (λ moved. IfSome moved (IsOn session side (length buf.new))) }
     {
-        match session_of(&self.sessions, session) {
+        match self.seat_of(session) {
             Some(at) => self.sessions[at].read(side, buf),
             None => Err(no_session()),
         }
@@ -218,7 +241,7 @@ impl<'a, R: Net + Clock> Sockets<'a, R> {
     pub fn write(&mut self, session: u64, side: Side, bytes: &[u8]) -> io::Result<Option<Moved>>
         ensures { IfOk result (λ moved. IfSome moved (IsOn session side (length bytes.now))) }
     {
-        match session_of(&self.sessions, session) {
+        match self.seat_of(session) {
             Some(at) => self.sessions[at].write(side, bytes),
             None => Err(no_session()),
         }
@@ -226,7 +249,7 @@ impl<'a, R: Net + Clock> Sockets<'a, R> {
 
     /// Ends what is sent to a side of a session, which may send on.
     pub fn close(&self, session: u64, side: Side) -> io::Result<()> {
-        match session_of(&self.sessions, session) {
+        match self.seat_of(session) {
             Some(at) => self.sessions[at].close(side),
             None => Err(no_session()),
         }
@@ -234,7 +257,7 @@ impl<'a, R: Net + Clock> Sockets<'a, R> {
 
     /// Leaves both connections of a session.
     pub fn drop_session(&mut self, session: u64) {
-        if let Some(at) = session_of(&self.sessions, session) {
+        if let Some(at) = self.seat_of(session) {
             let leaving = self.sessions.remove(at).leave(self.now);
             if self.leaving.len() < LEAVING {
                 // There is room for it.
