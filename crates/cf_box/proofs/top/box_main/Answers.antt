@@ -44,6 +44,7 @@ returns-in-Some-clause-ends g c =
     subst (λ words. Ends words (before g c) (after g c) c.report.result) c.in-Some.ensures.command (e.r, e.middle, e.meets, e.reports)
 
 pub returns-in-Some-clause-counted : goal.returns-in-Some-clause-counted
+unfolding explains
 returns-in-Some-clause-counted g c =
     let e : Explains (command g c) (before g c) (after g c) c.report.result = explains g c in
     subst (λ words. TellsCounts words (before g c) (after g c) c.report.result c.counted.result) c.in-Some.ensures.command (e.r, e.middle, e.meets, e.reports, c.counted.ensures)
