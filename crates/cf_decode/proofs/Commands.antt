@@ -1,5 +1,5 @@
 -- Exactly the allowed commands are admitted.
-use Rattle.cf_lane.specs.Rates.{Says, rated, says_at}
+use Rattle.cf_lane.specs.Rates.{Says, says_at}
 use Rattle.cf_apci.specs.Apdu.{Ack, ApduValue, Control, Info}
 use Rattle.cf_asdu.specs.Asdu.{first_refusal, refusal_reason, station_of}
 use Rattle.cf_asdu.specs.declared.asdu.AsduRefusal.{AsduRefusal}

@@ -1,8 +1,8 @@
 -- What a receiver makes of the first units of what goes to the controller.
 use Rattle.cf_decode.proofs.Decoding.{Decoded, decodes}
 use Rattle.cf_decode.proofs.Right.{AreRight, passed_right, units_right}
-use Rattle.cf_decode.proofs.Spelled.{stream_is_spelled}
-use Rattle.cf_decode.specs.Laws.{DecodesTo, FragmentsDecode, IsBegun, IsOfNext, MakesFirstOf, StreamDecodes, spellings}
+use Rattle.cf_decode.proofs.Spelled.{spellings, stream_is_spelled}
+use Rattle.cf_decode.specs.Laws.{DecodesTo, FragmentsDecode, IsBegun, IsOfNext, MakesFirstOf, StreamDecodes}
 use Rattle.cf_decode.specs.Passed.{passed}
 use Rattle.cf_decode.specs.Received.{completed_by, has_segment, received, segments_in}
 use Rattle.cf_decode.specs.Units.{Fragment, Passed, Whole, data_frame, start_behind, units_from, units_of}

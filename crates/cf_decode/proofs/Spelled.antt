@@ -1,7 +1,7 @@
 -- The stream to the controller is the spellings of the units that go there.
 use Rattle.cf_apci.specs.Apdu.{Ack, ApduValue}
 use Rattle.cf_decode.specs.Iec104.{acks, passed_by_apdu}
-use Rattle.cf_decode.specs.Laws.{StreamIsSpelled, spellings}
+use Rattle.cf_decode.specs.Laws.{StreamIsSpelled}
 use Rattle.cf_decode.specs.Passed.{passed_by}
 use Rattle.cf_decode.specs.Units.{Fragment, Passed, Whole, data_frame, start_after, start_behind, units_from, units_of}
 use Rattle.cf_dnplink.proofs.Reading.{user_again}
@@ -33,6 +33,10 @@ use Rattle.cf_dnplink.specs.LinkFrame as link
 use Rattle.cf_dnptrans.specs.declared.assembly.SegmentAnswer.TheVariants as answers
 use Rattle.cf_lane.specs.declared.fate.Fate.TheVariants as fate
 use Rattle.cf_view.specs.declared.Side.TheVariants as side
+
+-- the octets of units
+abbrev pub spellings : List UnitValue → List ℕ
+spellings us = flat_map unit_spelling us
 
 abbrev segment_counts : List (List ℕ) → ℕ
 segment_counts fragments = sum_by (λ octets. count_of (length octets)) fragments

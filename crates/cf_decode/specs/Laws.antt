@@ -27,15 +27,11 @@ use Rattle.std.specs.List.{flat_map}
 use Rattle.std.specs.Prelude.{List, None, Option, Some, [], length, reverse, ℕ, ◌++◌, ◌<◌, ◌∷◌, ◌≡◌}
 use Rattle.cf_view.specs.declared.Side.TheVariants as side
 
--- the octets of units
-abbrev pub spellings : List UnitValue → List ℕ
-spellings us = flat_map unit_spelling us
-
 -- the stream to the controller is the spellings of the units in which what goes there goes
 abbrev pub StreamIsSpelled : Type 0
 StreamIsSpelled =
     (asset : Asset) (client : ℕ) (h : List Element) (js : List Judged) → AreJudged asset client h js →
-    outputs asset side.Controller [] js ≡ spellings (units_from asset 0 (passed asset js))
+    outputs asset side.Controller [] js ≡ flat_map unit_spelling (units_from asset 0 (passed asset js))
 
 -- octets are nothing, where nothing follows, and else a proper prefix of what follows next
 abbrev pub IsOfNext : {X : Type 0} → (spell : X → List ℕ) → (following : List X) → List ℕ → Type 0
@@ -75,8 +71,8 @@ pub record MakesFirstOf (asset : Asset) (sent : List Passed) (bytes : List ℕ) 
   pub following : List Passed
   pub are_first : sent ≡ whole ++ following
   pub part : List ℕ
-  pub are : bytes ≡ spellings (units_from asset 0 whole) ++ part
-  pub of_next : IsOfNext (λ i. spellings (units_of asset (start_behind 0 whole) i)) following part
+  pub are : bytes ≡ flat_map unit_spelling (units_from asset 0 whole) ++ part
+  pub of_next : IsOfNext (λ i. flat_map unit_spelling (units_of asset (start_behind 0 whole) i)) following part
   pub begun : IsBegun following (unfinished (reverse (segments_in decoded.units)))
 
 -- a receiver makes of any beginning of the stream to the controller the first of what went there

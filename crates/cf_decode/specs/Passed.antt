@@ -2,18 +2,18 @@
 -- is the fate of each (cf_lane, `Fate`).
 use Rattle.cf_decode.specs.Dnp3.{passed_by_frame}
 use Rattle.cf_decode.specs.Iec104.{passed_by_apdu}
-use Rattle.cf_decode.specs.Modbus.{passed_by_adu}
-use Rattle.cf_decode.specs.Units.{Passed}
+use Rattle.cf_decode.specs.Units.{Passed, Whole}
 use Rattle.cf_lane.specs.Item.{Broke, Ended, Item, Took}
-use Rattle.cf_lane.specs.Judged.{Judged, in_turn}
+use Rattle.cf_lane.specs.Judged.{Judged, goes_on, in_turn}
 use Rattle.cf_lane.specs.Unit.{Adu, Apdu, Frame}
 use Rattle.cf_policy.specs.declared.Asset.{Asset}
-use Rattle.std.specs.Prelude.{List, []}
+use Rattle.std.specs.Prelude.{List, [], if◌then◌else◌, ◌∷◌}
 use Rattle.cf_view.specs.declared.Side.TheVariants as side
 
--- what goes to the controller by an item, after the earlier ones: one case a protocol. Nothing goes there that the controller sent
+-- what goes to the controller by an item, after the earlier ones: one case a protocol, and an admitted ADU of Modbus as it came. Nothing
+-- goes there that the controller sent
 abbrev pub passed_by : Asset → List Judged → Judged → Item → List Passed
-passed_by asset earlier j (Took side.Client (Adu a)) = passed_by_adu j.fate a
+passed_by asset earlier j (Took side.Client (Adu a)) = if goes_on j.fate then Whole (Adu a) ∷ [] else []
 passed_by asset earlier j (Took side.Client (Frame x)) = passed_by_frame asset earlier j.fate x
 passed_by asset earlier j (Took side.Client (Apdu a)) = passed_by_apdu earlier j.fate a
 passed_by asset earlier j (Took side.Controller u) = []

@@ -10,7 +10,6 @@ use Rattle.cf_audit.specs.declared.line.Why.{Why}
 use Rattle.cf_decode.specs.Passed.{passed_by}
 use Rattle.cf_decode.specs.Dnp3.{passed_by_frame}
 use Rattle.cf_decode.specs.Iec104.{acks, passed_by_apdu}
-use Rattle.cf_decode.specs.Modbus.{passed_by_adu}
 use Rattle.cf_decode.specs.Units.{Fragment, Passed, Whole}
 use Rattle.cf_dnplink.specs.LinkFrame.{FrameValue}
 use Rattle.cf_dnptrans.specs.Passing.{completed}
@@ -150,7 +149,7 @@ module _ (asset : Asset) (client : ℕ) (says : Says) (allows : Allows says (ver
   adu_if true a right = (right refl, tt)
   adu_if false a right = tt
 
-  adu_right : (a : AduValue) (f : Fate) → HasCommandFate asset says a f → AreRight (passed_by_adu f a)
+  adu_right : (a : AduValue) (f : Fate) → HasCommandFate asset says a f → AreRight (if goes_on f then Whole (Adu a) ∷ [] else [])
   adu_right a f h = adu_if (goes_on f) a (λ g. admitted_plainly a f g h)
 
   -- ---- DNP3
