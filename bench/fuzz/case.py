@@ -41,7 +41,8 @@ PRINTED = {
 ANY = {2: r"usage\n", 3: r"read fault\n", 4: "", 5: r"policy refused (\d+) \S+ asset \d+ rule \d+\n", 6: r"capture refused \d+\n",
        7: r"capture cut at \d+\n", 10: r"unknown asset\n"}
 LINE = re.compile(
-    rf"\d+\.\d{{6}} {AT} \S+ (open|listen|close admitted \d+ refused \d+|partial (client|controller) \d+|begins midstream|conflict \d+|broken [a-z]+"
+    rf"\d+\.\d{{6}} {AT} \S+ (open|listen|close admitted \d+ refused \d+|partial (client|controller) \d+|begins midstream"
+    r"|conflict \d+|gap \d+|broken [a-z]+"
     r"|refuse \S+ (function|point|value|station) code \d+ group \d+ point \d+ value (-|-?\d+) (replied|unanswered) [0-9a-f]*"
     r"|admit \S+ code \d+ group \d+ point \d+ value (-|-?\d+) [0-9a-f]+"
     r"|stray (client|controller) (address|direction|code|empty|first|order|long|short)"
