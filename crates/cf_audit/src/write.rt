@@ -182,22 +182,28 @@ fn push_admission<const N: usize>(out: &mut ArrayString<N>, rule: &str, act: &Ac
     push_hex(out, unit);
 }
 
-fn push_counts<const N: usize>(out: &mut ArrayString<N>, admitted: u64, refused: u64)
-    requires { array_string_len out.old + 59 ≤ N }
-    ensures bytes { out.new.bytes ≡ out.old.bytes ++ counts_text admitted refused }
-    ensures short { array_string_len out.new ≤ array_string_len out.old + 59 }
+/// Appends a word and both numbers of commands.
+fn push_counts<const N: usize>(out: &mut ArrayString<N>, word: &str, admitted: u64, refused: u64)
+    requires word { length word.now ≤ 28 }
+    requires room { array_string_len out.old + 87 ≤ N }
+    ensures bytes { out.new.bytes ≡ out.old.bytes ++ word.now ++ counts_text admitted refused }
+    ensures short { array_string_len out.new ≤ array_string_len out.old + 87 }
 {
+    out.push_str(word);
     out.push_str(" admitted ");
     push_number(out, admitted);
     out.push_str(" refused ");
     push_number(out, refused);
 }
 
-fn push_came<const N: usize>(out: &mut ArrayString<N>, came: u64)
-    requires { array_string_len out.old + 59 ≤ N }
-    ensures bytes { out.new.bytes ≡ out.old.bytes ++ came_text came }
-    ensures short { array_string_len out.new ≤ array_string_len out.old + 59 }
+/// Appends a word and how many clients came.
+fn push_came<const N: usize>(out: &mut ArrayString<N>, word: &str, came: u64)
+    requires word { length word.now ≤ 28 }
+    requires room { array_string_len out.old + 87 ≤ N }
+    ensures bytes { out.new.bytes ≡ out.old.bytes ++ word.now ++ came_text came }
+    ensures short { array_string_len out.new ≤ array_string_len out.old + 87 }
 {
+    out.push_str(word);
     out.push_str(" came ");
     push_number(out, came);
 }
@@ -230,33 +236,22 @@ fn push_what<const N: usize>(out: &mut ArrayString<N>, what: &What<'_>)
             out.push_str(" ");
             push_number(out, *count);
         }
-        What::Close { admitted, refused } => {
-            out.push_str("close");
-            push_counts(out, *admitted, *refused);
-        }
+        What::Close { admitted, refused } => push_counts(out, "close", *admitted, *refused),
         What::Cut(reason) => {
             out.push_str("cut ");
             push_cut(out, reason);
         }
         What::Listen => out.push_str("listen"),
-        What::Away { came } => {
-            out.push_str("away");
-            push_came(out, *came);
-        }
+        What::Away { came } => push_came(out, "away", *came),
         What::Unreached => out.push_str("unreached"),
         What::Gone => out.push_str("gone"),
-        What::Stranger { came } => {
-            out.push_str("stranger");
-            push_came(out, *came);
-        }
-        What::Lost { admitted, refused } => {
-            out.push_str("lost");
-            push_counts(out, *admitted, *refused);
-        }
-        What::Silent { admitted, refused } => {
-            out.push_str("silent");
-            push_counts(out, *admitted, *refused);
-        }
+        What::Stranger { came } => push_came(out, "stranger", *came),
+        What::Lost { admitted, refused } => push_counts(out, "lost", *admitted, *refused),
+        What::Silent { admitted, refused } => push_counts(out, "silent", *admitted, *refused),
+        What::Again { admitted, refused } => push_counts(out, "again", *admitted, *refused),
+        What::Renewed { admitted, refused } => push_counts(out, "renewed", *admitted, *refused),
+        What::Read => out.push_str("read"),
+        What::Unread => out.push_str("unread"),
         What::NoMemory => out.push_str("nomemory"),
         What::Stands {
             standing,
@@ -265,7 +260,7 @@ fn push_what<const N: usize>(out: &mut ArrayString<N>, what: &What<'_>)
         } => {
             out.push_str("stands ");
             push_number(out, *standing);
-            push_counts(out, *admitted, *refused);
+            push_counts(out, "", *admitted, *refused);
         }
     }
 }

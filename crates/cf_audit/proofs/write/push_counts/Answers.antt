@@ -3,4 +3,11 @@ use Rattle.cf_audit.proofs.write.push_counts.Goals as goal
 
 pub returns-clause-bytes : goal.returns-clause-bytes
 returns-clause-bytes g c =
-    simp (c.push_number-2.ensures.bytes, c.push_str-2.ensures.bytes, c.push_number.ensures.bytes, c.push_str.ensures.bytes, append_assoc)
+    simp (
+      c.push_number-2.ensures.bytes,
+      c.push_str-3.ensures.bytes,
+      c.push_number.ensures.bytes,
+      c.push_str-2.ensures.bytes,
+      c.push_str.ensures.bytes,
+      append_assoc,
+    )
