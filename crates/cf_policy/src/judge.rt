@@ -118,19 +118,27 @@ pub fn takes(spans: &Items<Span>, number: i64) -> bool
     spans.is_empty() || some_covers(spans.as_slice(), number)
 }
 
-/// Many spans are not gone through where halving finds one that has the number.
 fn some_covers(spans: &[Span], number: i64) -> bool
     ensures { result ≡ list_any (λ s. covers s number) spans.now }
 {
-    if find_cover(spans, number).is_some() {
+    if spans.len() > WALKED {
+        return some_of_many_covers(spans, number);
+    }
+    spans.iter().any(|span| covers(span, number))
+}
+
+/// Many spans are not gone through where halving finds one that has the number.
+#[inline(never)]
+fn some_of_many_covers(spans: &[Span], number: i64) -> bool
+    ensures { result ≡ list_any (λ s. covers s number) spans.now }
+{
+    if halved_cover(spans, number).is_some() {
         return true;
     }
     spans.iter().any(|span| covers(span, number))
 }
 
-/// The place of a span that has the number, found by halving: of many spans that ascend, the one that has it. Of others it may be none,
-/// though one has it.
-#[inline(always)]
+/// The place of a span that has the number, if spans are many and halving finds one.
 pub(crate) fn find_cover(spans: &[Span], number: i64) -> Option<usize>
     ensures inside { IfSome result (λ k. k < length spans.now) }
     ensures covers { IfSome result (λ k. (d : Span) → covers (get_or spans.now k d) number ≡ true) }
@@ -142,8 +150,8 @@ pub(crate) fn find_cover(spans: &[Span], number: i64) -> Option<usize>
     }
 }
 
-/// The same of any number of spans.
-#[inline(never)]
+/// The place of a span that has the number, found by halving: of spans that ascend, the one that has it. Of others it may be none,
+/// though one has it.
 fn halved_cover(spans: &[Span], number: i64) -> Option<usize>
     ensures inside { IfSome result (λ k. k < length spans.now) }
     ensures covers { IfSome result (λ k. (d : Span) → covers (get_or spans.now k d) number ≡ true) }
