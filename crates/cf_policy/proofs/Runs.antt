@@ -1,9 +1,10 @@
 -- Acts that differ in the point alone: where the points of each rule have all points or none, the verdict is one.
 use Rattle.std.proofs.Common.{◌≡◌, ℕ, ◌+◌, ◌<◌, ◌≤◌, take, ◌||◌, ◌&&◌, pos, ℤ, Bool, true, false, not, if◌then◌else◌, List, [], ◌∷◌, Option, Some, None, length, get_or, refl, sym, ap, subst, ◌∙◌, arith}
-use Rattle.std.specs.Prelude.{All, slice_get, position, option_and_then}
+use Rattle.std.specs.Prelude.{All, IfSome, is_some, slice_get, position, option_and_then}
 use Rattle.std.specs.List.{list_any, list_all}
 use Rattle.std.specs.Cmp.{first_so}
 use Rattle.std.specs.Option.{option_map_or}
+use Rattle.std.proofs.lemmas.List.Folds.{list_any_at}
 use Rattle.std.proofs.lemmas.List.Sums.{AllPass-from_list_all}
 use Rattle.std.proofs.lemmas.List.{get_or-take, length-take-le}
 use Rattle.std.proofs.lemmas.List.Elements.{All-tail, All-get_or, All-more}
@@ -193,3 +194,22 @@ values_unstated asset client code pairs part index of_code =
     (λ r. is_named client code r && not (is_empty r.values)) (λ r. not (is_empty r.values))
     (λ r h. first_so (is_named client code r) (not (is_empty r.values)) h)
     (λ r named. sym (λ i. named i && not (is_empty r.values))))
+
+-- a list takes what one of its spans has
+pub taken_at : (spans : List Span) (k : ℕ) (d : Span) (n : ℤ) → k < length spans → covers (get_or spans k d) n ≡ true → takes spans n ≡ true
+taken_at [] k d n lt has = refl
+taken_at (s ∷ ss) k d n lt has = list_any_at (λ t. covers t n) (s ∷ ss) k d lt has
+
+-- one of the spans has the number, where the place of one is known
+pub is_found : (spans : List Span) (n : ℤ) (o : Option ℕ) → is_some o ≡ true → IfSome o (λ k. k < length spans)
+    → IfSome o (λ k. (d : Span) → covers (get_or spans k d) n ≡ true) → list_any (λ s. covers s n) spans ≡ true
+is_found spans n None some inside has = cc
+is_found spans n (Some k) some inside has =
+    let d : Span = record { low = pos 0; high = pos 0 } in
+    list_any_at (λ s. covers s n) spans k d inside (has d)
+
+-- where one of the spans has all points from the first to the last
+pub cover_steady : (spans : List Span) (k : ℕ) (d : Span) (first last : ℕ) → k < length spans → covers (get_or spans k d) (pos first) ≡ true
+    → IsSteady (λ n. covers (get_or spans k d) (pos n)) first last → IsSteady (λ n. takes spans (pos n)) first last
+cover_steady spans k d first last lt has steady = λ point from to.
+    taken_at spans k d (pos point) lt (steady point from to ∙ has) ∙ sym (taken_at spans k d (pos first) lt has)

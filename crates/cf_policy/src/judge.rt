@@ -1,12 +1,16 @@
 //! The verdict of an asset's rules about an act of a client.
-ghost use Rattle.std.specs.Prelude.{◌≡◌, ◌<◌, ◌&&◌, IfSome, length, option_map};
+ghost use Rattle.std.specs.Prelude.{◌≡◌, ◌<◌, ◌&&◌, IfSome, get_or, length, option_map, true};
 ghost use Rattle.std.specs.List.{list_any};
 ghost use Rattle.cf_policy.specs.Verdict.{verdict_of, first_rule, first_number, has_function, has_point, has_act, takes, takes_value};
+ghost use Rattle.cf_policy.specs.declared.policy.Span.{Span};
 ghost use Rattle.cf_policy.specs.Verdict.{covers, default_reason, rule_reason, is_allow, IsInside};
 
 use crate::lists::Items;
 use crate::policy::{Action, Asset, Decider, Rule, Span, Verdict};
 use cf_view::{Act, Reason};
+
+/// How many spans of a list are gone through one by one, which takes no longer than halving.
+const WALKED: usize = 8;
 
 /// What the asset's rules say about an act of the client with this address, a number of 32 bits whose first octet is
 /// the highest. The first rule that has the act decides; where none has it, `Decider::Default` refuses it. The other
@@ -117,7 +121,50 @@ pub fn takes(spans: &Items<Span>, number: i64) -> bool
 fn some_covers(spans: &[Span], number: i64) -> bool
     ensures { result ≡ list_any (λ s. covers s number) spans.now }
 {
+    if spans.len() > WALKED {
+        return some_of_many_covers(spans, number);
+    }
     spans.iter().any(|span| covers(span, number))
+}
+
+/// Many spans are not gone through where halving finds one that has the number.
+#[inline(never)]
+fn some_of_many_covers(spans: &[Span], number: i64) -> bool
+    ensures { result ≡ list_any (λ s. covers s number) spans.now }
+{
+    if halved_cover(spans, number).is_some() {
+        return true;
+    }
+    spans.iter().any(|span| covers(span, number))
+}
+
+/// The place of a span that has the number, if spans are many and halving finds one.
+pub(crate) fn find_cover(spans: &[Span], number: i64) -> Option<usize>
+    ensures inside { IfSome result (λ k. k < length spans.now) }
+    ensures covers { IfSome result (λ k. (d : Span) → covers (get_or spans.now k d) number ≡ true) }
+{
+    if spans.len() > WALKED {
+        halved_cover(spans, number)
+    } else {
+        None
+    }
+}
+
+/// The place of a span that has the number, found by halving: of spans that ascend, the one that has it. Of others it may be none,
+/// though one has it.
+fn halved_cover(spans: &[Span], number: i64) -> Option<usize>
+    ensures inside { IfSome result (λ k. k < length spans.now) }
+    ensures covers { IfSome result (λ k. (d : Span) → covers (get_or spans.now k d) number ≡ true) }
+{
+    let count = spans.partition_point(|span| span.low <= number);
+    if count == 0 {
+        return None;
+    }
+    if covers(&spans[count - 1], number) {
+        Some(count - 1)
+    } else {
+        None
+    }
 }
 
 fn covers(span: &Span, number: i64) -> bool

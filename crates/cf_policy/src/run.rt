@@ -1,5 +1,5 @@
 //! Acts that differ in the point alone, judged together; and whether values play a part.
-ghost use Rattle.std.specs.Prelude.{◌≡◌, ℕ, ◌≤◌, ◌≤ℤ◌, ◌⊎◌, ◌<◌, not, pos, true, All, IfSome, length, slice_get};
+ghost use Rattle.std.specs.Prelude.{◌≡◌, ℕ, ◌≤◌, ◌≤ℤ◌, ◌⊎◌, ◌<◌, not, pos, true, All, IfSome, get_or, length, slice_get};
 ghost use Rattle.std.specs.List.{list_all};
 ghost use Rattle.std.specs.Option.{option_map_or};
 ghost use Rattle.cf_policy.specs.Index.{IsIndexOf, rule_at, tried};
@@ -7,6 +7,7 @@ ghost use Rattle.cf_policy.specs.Run.{HasOneVerdict, IsSteady, TakesAnyValue, so
 ghost use Rattle.cf_policy.specs.Verdict.{IsInside, takes, covers, is_empty};
 
 use crate::index::{CodeIndex, CodePair, FEW, first_place, pairs_of, verdict_at};
+use crate::judge::find_cover;
 use crate::policy::{Asset, Rule, Span, Verdict};
 use cf_view::Act;
 
@@ -103,8 +104,29 @@ pub(crate) fn rule_until(rules: &[Rule], place: usize, first: u32, last: u32) ->
     }
 }
 
-/// A point up to which the spans of a list have all points or none.
+/// A point up to which the spans of a list have all points or none. Many are not gone through where halving finds one that has the first.
 fn spans_until(spans: &[Span], first: u32, last: u32) -> u32
+    requires ordered { first ≤ last }
+    ensures steady { IsSteady (λ n. takes spans.now (pos n)) first result }
+    ensures reaches { first ≤ result }
+    ensures stays { result ≤ last }
+{
+    match find_point(spans, first) {
+        Some(place) => span_until(&spans[place], first, last),
+        None => walked_until(spans, first, last),
+    }
+}
+
+/// The place of a span that has the point, if halving finds one.
+fn find_point(spans: &[Span], point: u32) -> Option<usize>
+    ensures inside { IfSome result (λ k. k < length spans.now) }
+    ensures covers { IfSome result (λ k. (d : Span) → covers (get_or spans.now k d) (pos point) ≡ true) }
+{
+    find_cover(spans, i64::from(point))
+}
+
+/// A point up to which spans that are gone through have all points or none.
+fn walked_until(spans: &[Span], first: u32, last: u32) -> u32
     requires ordered { first ≤ last }
     ensures steady { IsSteady (λ n. takes spans.now (pos n)) first result }
     ensures reaches { first ≤ result }
