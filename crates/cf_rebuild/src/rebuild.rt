@@ -22,7 +22,7 @@ pub struct Rebuild {
     kept: Vec<u64>,
     /// A bit for each slot alike: End is kept there.
     ends: Vec<u64>,
-    /// The byte of each of the 32,768 slots.
+    /// The byte of each slot so far; the others have none yet, and there is room for all 32,768.
     bytes: Vec<u8>,
     /// How many bytes were taken and not consumed. RCV.NXT as a place is `consumed + ready`, and one more where `ended` holds.
     ready: usize,
@@ -35,27 +35,27 @@ pub struct Rebuild {
 }
 
 impl Model for Rebuild {
-    ghost use Rattle.std.specs.Prelude.{◌≡◌, ◌-◌, ◌%◌, ◌≤◌, length, take};
-    ghost use Rattle.cf_rebuild.specs.Ring.{place_at, places, turned};
+    ghost use Rattle.std.specs.Prelude.{◌≡◌, ◌+◌, ◌-◌, ◌%◌, ◌≤◌, length, min, take, vec_capacity};
+    ghost use Rattle.cf_rebuild.specs.Ring.{place_at, places, turned, full};
     ghost use Rattle.cf_rebuild.specs.ReceiveWindow.{Window, IsWindow};
 
     ghost Value = { Window };
 
     ghost view = { λ a. record {
       consumed = a.consumed;
-      pending = take a.ready (turned (a.consumed % 32768) a.bytes.items);
+      pending = take a.ready (turned (a.consumed % 32768) (full a.bytes.items));
       ended = a.ended;
-      ahead = places (place_at a.kept.items a.ends.items a.bytes.items (a.consumed % 32768)) a.ready
-          (length a.bytes.items - a.ready);
+      ahead = places (place_at a.kept.items a.ends.items a.bytes.items (a.consumed % 32768)) a.ready (32768 - a.ready);
       edge = a.edge;
     } };
 
-    ghost invariant = { λ a. (length a.kept.items ≡ 512) × (length a.ends.items ≡ 512) × (length a.bytes.items ≡ 32768) × (a.ready ≤ 32768)
+    ghost invariant = { λ a. (length a.kept.items ≡ 512) × (length a.ends.items ≡ 512) × (length a.bytes.items ≤ 32768)
+        × (32768 ≤ vec_capacity a.bytes) × (min (a.consumed % 32768 + a.ready) 32768 ≤ length a.bytes.items) × (a.ready ≤ 32768)
         × IsWindow (record {
           consumed = a.consumed;
-          pending = take a.ready (turned (a.consumed % 32768) a.bytes.items);
+          pending = take a.ready (turned (a.consumed % 32768) (full a.bytes.items));
           ended = a.ended;
-          ahead = places (place_at a.kept.items a.ends.items a.bytes.items (a.consumed % 32768)) a.ready (length a.bytes.items - a.ready);
+          ahead = places (place_at a.kept.items a.ends.items a.bytes.items (a.consumed % 32768)) a.ready (32768 - a.ready);
           edge = a.edge;
         }) };
 }
@@ -79,6 +79,7 @@ impl Rebuild {
     }
 
     /// The number of letters taken: the place of the next one.
+    #[tactic(auto, using(crate::proofs::Places::length_front))]
     pub fn base(&self) -> i64
         ensures value { result ≡ pos (base_of self.now) }
         ensures taken { (offers : List Offer) (s : Stream) → IsWindowOf self.now offers → IsTaken (first_copy offers) s
@@ -137,6 +138,7 @@ impl Rebuild {
     /// Offers the letters of a text from position `at` on, End after it where `end` holds. Those from the base on and
     /// below the edge are kept where no letter is kept, and then those are taken that follow the base without a gap, up
     /// to End.
+    #[tactic(auto, using(crate::proofs::Places::length_front))]
     pub fn offer(&mut self, at: i64, text: &[u8], end: bool)
         requires lowest { negsuc (2 ^ 32 - 1) ≤ℤ at }
         requires highest { at ≤ℤ pos (2 ^ 32) }

@@ -1,10 +1,10 @@
 //! The letters of a ring by their places: place k stands k after the place of slot `start`.
-ghost use Rattle.std.specs.Prelude.{◌≡◌, ℕ, ◌+◌, ◌-◌, ◌^◌, ◌<◌, ◌≤◌, ◌⊎◌, true, false, IfOk, List, [], length, vec_len};
+ghost use Rattle.std.specs.Prelude.{◌≡◌, ℕ, ◌+◌, ◌-◌, ◌^◌, ◌<◌, ◌≤◌, ◌⊎◌, true, false, IfOk, List, [], length, vec_len, vec_capacity};
 ghost use Rattle.std.specs.Prelude.{min, take, slice_index, Some, None, pos, negsuc, ◌≤ℤ◌, ◌+ℤ◌};
 ghost use Rattle.std.specs.Option.{option_or};
 ghost use Rattle.cf_stream.specs.FirstCopy.{offered};
 ghost use Rattle.cf_stream.specs.Stream.{Byte, End};
-ghost use Rattle.cf_rebuild.specs.Ring.{place_at, slot, turned, marked};
+ghost use Rattle.cf_rebuild.specs.Ring.{place_at, slot, turned, full, marked};
 
 use crate::cells::{keep_end_at, keep_run};
 use crate::marks::{clear, gap, has};
@@ -14,8 +14,24 @@ use std::alloc::Global;
 /// How many places are kept from the first byte on that is not consumed. This project's own choice.
 pub(crate) const PLACES: usize = 32_768;
 
-/// Keeps the bytes of a text from a place on, below a place `room`, each unless a letter is kept there.
-fn keep_text(
+/// How many slots get their bytes at a time.
+const BLOCK: usize = 1_024;
+
+/// Gives each slot below `to` a byte, 0 where it has none. It takes no memory.
+fn reach(bytes: &mut Vec<u8>, to: usize)
+    requires to { to ≤ 32768 }
+    requires slots { (vec_len bytes.old ≤ 32768) × (32768 ≤ vec_capacity bytes.old) }
+    ensures slots { (vec_len bytes.new ≤ 32768) × (32768 ≤ vec_capacity bytes.new) }
+    ensures reached { to ≤ vec_len bytes.new }
+    ensures same { (s : ℕ) → slice_index bytes.new.items s ≡ slice_index bytes.old.items s }
+{
+    if to > bytes.len() {
+        let _filled = bytes.resize((to + (BLOCK - 1)) / BLOCK * BLOCK, 0);
+    }
+}
+
+/// Keeps the bytes of a text from a place on, below a place `room`, each unless a letter is kept there, in slots that have bytes.
+fn keep_written(
     kept: &mut [u64],
     ends: &[u64],
     bytes: &mut [u8],
@@ -25,7 +41,8 @@ fn keep_text(
     text: &[u8],
 )
     requires inside { (start < 32768) × (room ≤ 32768) }
-    requires sizes { (length bytes.old ≡ 32768) × (length kept.old ≡ 512) × (length ends.now ≡ 512) }
+    requires sizes { (length bytes.old ≤ 32768) × (length kept.old ≡ 512) × (length ends.now ≡ 512) }
+    requires written { min (slot start begin + length text.now) 32768 ≤ length bytes.old }
     ensures places { (k : ℕ) → place_at kept.new ends.now bytes.new start k ≡ option_or (place_at kept.old ends.now bytes.old start k)
         (offered (record { at = pos begin; text = record { bytes = text.now; ended = false }; edge = room }) k) }
     ensures before { (k : ℕ) → k < begin → k < 32768 → slice_index bytes.new (slot start k) ≡ slice_index bytes.old (slot start k) }
@@ -38,6 +55,32 @@ fn keep_text(
     let first = text.len().min(PLACES - from);
     keep_run(kept, ends, bytes, from, &text[..first]);
     keep_run(kept, ends, bytes, 0, &text[first..]);
+}
+
+/// Keeps the bytes of a text from a place on, below a place `room`, each unless a letter is kept there.
+fn keep_text(
+    kept: &mut [u64],
+    ends: &[u64],
+    bytes: &mut Vec<u8>,
+    start: usize,
+    begin: usize,
+    room: usize,
+    text: &[u8],
+)
+    requires inside { (start < 32768) × (room ≤ 32768) }
+    requires small { (begin < 2 ^ 41) × (length text.now < 2 ^ 40) }
+    requires slots { (vec_len bytes.old ≤ 32768) × (32768 ≤ vec_capacity bytes.old) }
+    requires sizes { (length kept.old ≡ 512) × (length ends.now ≡ 512) }
+    ensures slots { (vec_len bytes.new ≤ 32768) × (32768 ≤ vec_capacity bytes.new) }
+    ensures places { (k : ℕ) → place_at kept.new ends.now bytes.new.items start k
+        ≡ option_or (place_at kept.old ends.now bytes.old.items start k)
+        (offered (record { at = pos begin; text = record { bytes = text.now; ended = false }; edge = room }) k) }
+    ensures before { (k : ℕ) → k < begin → k < 32768
+        → slice_index bytes.new.items (slot start k) ≡ slice_index bytes.old.items (slot start k) }
+{
+    let from = (start + begin) % PLACES;
+    reach(bytes, (from + text.len()).min(PLACES));
+    keep_written(kept, ends, bytes, start, begin, room, text);
 }
 
 /// Keeps End at a place below `room`, unless a letter is kept there.
@@ -89,7 +132,7 @@ fn first_gap(kept: &[u64], start: usize, from: usize, to: usize) -> usize
 fn keep(
     kept: &mut [u64],
     ends: &mut [u64],
-    bytes: &mut [u8],
+    bytes: &mut Vec<u8>,
     start: usize,
     ready: usize,
     room: usize,
@@ -98,13 +141,16 @@ fn keep(
     end: bool,
 )
     requires inside { (start < 32768) × (room ≤ 32768) }
-    requires sizes { (length bytes.old ≡ 32768) × (length kept.old ≡ 512) × (length ends.old ≡ 512) }
+    requires slots { (vec_len bytes.old ≤ 32768) × (32768 ≤ vec_capacity bytes.old) }
+    requires sizes { (length kept.old ≡ 512) × (length ends.old ≡ 512) }
     requires at { (negsuc (2 ^ 40) ≤ℤ at) × (at ≤ℤ pos (2 ^ 40)) }
     requires small { (ready < 2 ^ 40) × (length text.now < 2 ^ 40) }
-    ensures places { (k : ℕ) → ready ≤ k → place_at kept.new ends.new bytes.new start k
-        ≡ option_or (place_at kept.old ends.old bytes.old start k)
+    ensures slots { (vec_len bytes.new ≤ 32768) × (32768 ≤ vec_capacity bytes.new) }
+    ensures places { (k : ℕ) → ready ≤ k → place_at kept.new ends.new bytes.new.items start k
+        ≡ option_or (place_at kept.old ends.old bytes.old.items start k)
         (offered (record { at = at; text = record { bytes = text.now; ended = end }; edge = room }) k) }
-    ensures before { (k : ℕ) → k < ready → k < 32768 → slice_index bytes.new (slot start k) ≡ slice_index bytes.old (slot start k) }
+    ensures before { (k : ℕ) → k < ready → k < 32768
+        → slice_index bytes.new.items (slot start k) ≡ slice_index bytes.old.items (slot start k) }
 {
     let (begin, skip) = start_of(at, ready);
     if skip > text.len() {
@@ -122,7 +168,7 @@ fn keep(
 pub(crate) fn take_in(
     kept: &mut [u64],
     ends: &mut [u64],
-    bytes: &mut [u8],
+    bytes: &mut Vec<u8>,
     start: usize,
     ready: usize,
     room: usize,
@@ -131,21 +177,25 @@ pub(crate) fn take_in(
     end: bool,
 ) -> (usize, bool)
     requires inside { (start < 32768) × (ready ≤ room) × (room ≤ 32768) }
-    requires sizes { (length bytes.old ≡ 32768) × (length kept.old ≡ 512) × (length ends.old ≡ 512) }
+    requires slots { (vec_len bytes.old ≤ 32768) × (32768 ≤ vec_capacity bytes.old) }
+    requires sizes { (length kept.old ≡ 512) × (length ends.old ≡ 512) }
     requires at { (negsuc (2 ^ 40) ≤ℤ at) × (at ≤ℤ pos (2 ^ 40)) }
     requires small { length text.now < 2 ^ 40 }
-    ensures places { (k : ℕ) → ready ≤ k → place_at kept.new ends.new bytes.new start k
-        ≡ option_or (place_at kept.old ends.old bytes.old start k)
+    ensures slots { (length bytes.new.items ≤ 32768) × (32768 ≤ vec_capacity bytes.new) }
+    ensures written { min (start + result.0) 32768 ≤ length bytes.new.items }
+    ensures places { (k : ℕ) → ready ≤ k → place_at kept.new ends.new bytes.new.items start k
+        ≡ option_or (place_at kept.old ends.old bytes.old.items start k)
         (offered (record { at = at; text = record { bytes = text.now; ended = end }; edge = room }) k) }
-    ensures front { take ready (turned start bytes.new) ≡ take ready (turned start bytes.old) }
+    ensures front { take ready (turned start (full bytes.new.items)) ≡ take ready (turned start (full bytes.old.items)) }
     ensures range { (ready ≤ result.0) × (result.0 ≤ room) }
-    ensures taken { (k : ℕ) → ready ≤ k → k < result.0 → place_at kept.new ends.new bytes.new start k
-        ≡ Some (Byte (slice_index (turned start bytes.new) k)) }
-    ensures ended { result.1 ≡ true → (result.0 < room) × (place_at kept.new ends.new bytes.new start result.0 ≡ Some End) }
-    ensures unfinished { result.1 ≡ false → result.0 < room → place_at kept.new ends.new bytes.new start result.0 ≡ None }
+    ensures taken { (k : ℕ) → ready ≤ k → k < result.0 → place_at kept.new ends.new bytes.new.items start k
+        ≡ Some (Byte (slice_index (turned start (full bytes.new.items)) k)) }
+    ensures ended { result.1 ≡ true → (result.0 < room) × (place_at kept.new ends.new bytes.new.items start result.0 ≡ Some End) }
+    ensures unfinished { result.1 ≡ false → result.0 < room → place_at kept.new ends.new bytes.new.items start result.0 ≡ None }
 {
     keep(kept, ends, bytes, start, ready, room, at, text, end);
     let place = first_gap(kept, start, ready, room);
+    reach(bytes, (start + place).min(PLACES));
     (place, keeps_end(ends, start, place, room))
 }
 
@@ -170,11 +220,12 @@ fn no_marks(alloc: Global, count: usize) -> Result<Vec<u64>, NoMemory>
     Ok(words)
 }
 
-/// A number of slots.
+/// Room for the bytes of a number of slots, of which none has one.
 fn slots(alloc: Global, count: usize) -> Result<Vec<u8>, NoMemory>
-    ensures { IfOk result (λ v. vec_len v ≡ count) }
+    ensures none { IfOk result (λ v. vec_len v ≡ 0) }
+    ensures room { IfOk result (λ v. count ≤ vec_capacity v) }
 {
-    let Ok(bytes) = Vec::from_elem(alloc, 0, count) else {
+    let Ok(bytes) = Vec::with_capacity(alloc, count) else {
         return Err(NoMemory);
     };
     Ok(bytes)
@@ -182,7 +233,8 @@ fn slots(alloc: Global, count: usize) -> Result<Vec<u8>, NoMemory>
 
 /// The marks and the bytes of a ring that keeps nothing.
 pub(crate) fn empty(alloc: Global) -> Result<(Vec<u64>, Vec<u64>, Vec<u8>), NoMemory>
-    ensures len { IfOk result (λ v. (vec_len v.0 ≡ 512) × (vec_len v.1 ≡ 512) × (vec_len v.2 ≡ 32768)) }
+    ensures len { IfOk result (λ v. (vec_len v.0 ≡ 512) × (vec_len v.1 ≡ 512) × (vec_len v.2 ≡ 0)) }
+    ensures room { IfOk result (λ v. 32768 ≤ vec_capacity v.2) }
     ensures places { IfOk result (λ v. (start k : ℕ) → place_at v.0.items v.1.items v.2.items start k ≡ None) }
 {
     let kept = no_marks(alloc, PLACES / 64)?;
@@ -216,13 +268,23 @@ pub(crate) fn release(kept: &mut [u64], ends: &mut [u64], start: usize, count: u
 
 /// The first `ready` bytes from slot `start` on, of which those from slot 0 on are the second piece.
 pub(crate) fn lend(bytes: &[u8], start: usize, ready: usize) -> View<'_>
-    requires { (start < 32768) × (ready ≤ 32768) × (length bytes.now ≡ 32768) }
-    ensures bytes { result.bytes ≡ take ready (turned start bytes.now) }
+    requires inside { (start < 32768) × (ready ≤ 32768) }
+    requires slots { (length bytes.now ≤ 32768) × (min (start + ready) 32768 ≤ length bytes.now) }
+    ensures bytes { result.bytes ≡ take ready (turned start (full bytes.now)) }
     ensures split { result.split ≡ min ready (32768 - start) }
 {
     let stop = start + ready;
     if stop <= PLACES {
         return View::one(&bytes[start..stop]);
     }
+    lend_turned(bytes, start, stop)
+}
+
+/// The bytes from slot `start` on, and then those from slot 0 on, to place `stop` from slot 0.
+fn lend_turned(bytes: &[u8], start: usize, stop: usize) -> View<'_>
+    requires { (start < 32768) × (32768 < stop) × (stop ≤ start + 32768) × (length bytes.now ≡ 32768) }
+    ensures bytes { result.bytes ≡ take (stop - start) (turned start bytes.now) }
+    ensures split { result.split ≡ min (stop - start) (32768 - start) }
+{
     View::two(&bytes[start..], &bytes[..stop - PLACES])
 }

@@ -1,28 +1,71 @@
-use Rattle.std.proofs.Common.{◌<◌, ◌++◌, ◌∷◌, [], ℕ, List, ap, sym, ◌∙◌, arith, length, take}
-use Rattle.std.proofs.lemmas.List.{take_more, take_more_set, length-set}
+use Rattle.std.proofs.Common.{◌≡◌, ℕ, ◌+◌, ◌-◌, ◌*◌, ◌/◌, ◌%◌, ◌⊎◌, length, get_or, inl, inr, sym, ap, ◌∙◌, arith}
+use Rattle.std.proofs.lemmas.Bool.{cases_lt}
+use Rattle.std.proofs.lemmas.Grind.{same_number_lists}
 use Rattle.cf_dnplink.specs.LinkFrame.{frame_value}
 use Rattle.cf_dnplink.specs.UserOctets.{user_of}
 use Rattle.cf_dnplink.proofs.Frames.{user_sizes, user_place}
 use Rattle.cf_dnplink.proofs.user.copy_user.Goals as goal
 
-pub at-requires : goal.at-requires
-at-requires c =
-    let f = frame_value c.args.frame.now in
-    let sizes = user_sizes f c.requires.frame in
-    let long = c.loop-i.invariant.0 in
-    let inside : c.loop-i.i < length c.loop-i.out = omega arith in
-    omega (arith, sizes.0, sizes.1, long, inside)
+pub copy_part-requires-clause-inside : goal.copy_part-requires-clause-inside
+copy_part-requires-clause-inside c =
+    let sizes = user_sizes (frame_value c.args.frame.now) c.requires.frame in
+    let before = c.loop-done.invariant in
+    let stop = c.min-stop.ensures in
+    let test = c.loop-done-test.true in
+    elim before.whole [
+      | inl e ↦ omega (arith, sizes.0, sizes.1, before.size, before.range, stop, test, e)
+      | inr e ↦ omega (arith, test, e)
+    ]
 
-pub loop-i-preserved : goal.loop-i-preserved
-loop-i-preserved c =
+pub copy_part-requires-clause-small : goal.copy_part-requires-clause-small
+copy_part-requires-clause-small c = (let sizes = user_sizes (frame_value c.args.frame.now) c.requires.frame in omega (arith, sizes.0, sizes.1))
+
+whole_after : (c : goal.After-slice_known-in-loop-done-1) → (c.min-stop.result % 16 ≡ 0) ⊎ (c.min-stop.result ≡ length c.loop-done.out)
+whole_after c =
+    let stop = c.min-stop.ensures in
+    let test = c.loop-done-test.true in
+    elim (cases_lt (c.loop-done.done + 16) (length c.loop-done.out)) [
+      | inl l ↦
+          elim c.loop-done.invariant.whole [
+            | inl e ↦ inl (omega (arith, stop, l, e))
+            | inr e ↦ inr (omega (arith, test, e))
+          ]
+      | inr l ↦ inr (omega (arith, stop, l))
+    ]
+
+pub loop-done-preserved : goal.loop-done-preserved
+loop-done-preserved c =
     let f = frame_value c.args.frame.now in
     let user = user_of c.args.frame.now.blocks.bytes in
-    let long = c.loop-i.invariant.0 in
-    let inside : c.loop-i.i < length c.loop-i.out = omega arith in
-    let octet = c.at.ensures.value ∙ user_place f c.requires.frame c.loop-i.i (omega (arith, long, inside)) in (
-      length-set c.loop-i.out c.loop-i.i c.at.result ∙ long,
-      take_more_set c.loop-i.out c.loop-i.i c.at.result inside
-          ∙ ap (λ (xs : List ℕ). xs ++ c.at.result ∷ []) c.loop-i.invariant.1
-          ∙ ap (λ (o : ℕ). take c.loop-i.i user ++ o ∷ []) octet
-          ∙ sym (take_more user c.loop-i.i 0 (omega (arith, long, inside))),
-    )
+    let before = c.loop-done.invariant in
+    let done = c.loop-done.done in
+    let stop = c.min-stop.ensures in
+    let test = c.loop-done-test.true in
+    let size = c.copy_part.auto.out in
+    record {
+      size = size ∙ before.size;
+      range = omega (arith, stop, size, test, before.range);
+      whole = elim (whole_after c) [
+        | inl e ↦ inl e
+        | inr e ↦ inr (e ∙ sym size)
+      ];
+      same = λ k l.
+          elim (cases_lt k done) [
+            | inl v ↦ c.copy_part.ensures.others k (inl v) ∙ before.same k v
+            | inr v ↦
+                elim before.whole [
+                  | inl e ↦
+                      (let place : done + done / 16 * 2 + (k - done) ≡ k + k / 16 * 2 = omega (arith, stop, e, l, v) in
+                      c.copy_part.ensures.here k v l
+                      ∙ ap (λ (i : ℕ). get_or c.args.frame.now.blocks.bytes i 0) place
+                      ∙ user_place f c.requires.frame k (omega (arith, stop, l, before.size)))
+                  | inr e ↦ absurd (omega (arith, test, e))
+                ]
+          ];
+    }
+
+pub returns : goal.returns
+returns c =
+    let before = c.loop-done.invariant in
+    let test = c.loop-done-test.false in
+    same_number_lists c.loop-done.out (user_of c.args.frame.now.blocks.bytes) before.size (λ k l. before.same k (omega (arith, test, l)))
