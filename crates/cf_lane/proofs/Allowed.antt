@@ -1,5 +1,6 @@
 -- What goes to the controller, in the policy's words.
-use Rattle.cf_lane.specs.Rates.{Says, rated, says_at}
+use Rattle.cf_lane.specs.Caller.{Caller}
+use Rattle.cf_lane.specs.Rates.{Says, says_at}
 use Rattle.cf_apci.specs.Apdu.{Ack, ApduValue, Control, Info}
 use Rattle.cf_asdu.specs.Asdu.{first_refusal, refusal_reason, station_of}
 use Rattle.cf_asdu.specs.declared.asdu.AsduRefusal.{AsduRefusal}
@@ -200,7 +201,7 @@ module _ (asset : Asset) (says : Says) where
       leave [] (item_output asset side.Controller earlier j (Took side.Controller (Frame x))) more Rest none r
   one_item earlier j i more Rest is has r = (more, refl, r)
 
-module _ (asset : Asset) (client : ℕ) where
+module _ (asset : Asset) (client : Caller) where
   pass : (earlier js : List Judged) → HaveFates asset client earlier js → Passes asset client earlier js (in_turn (output asset side.Controller) earlier js)
   pass earlier [] fates = refl
   pass earlier (j ∷ js) fates =

@@ -8,7 +8,7 @@ use Rattle.cf_lane.proofs.Earlier.{cut_of-append, events_of-more, first_none}
 use Rattle.cf_lane.proofs.Handling.{unit_handled}
 use Rattle.cf_lane.proofs.Taking.{grows_more}
 use Rattle.cf_lane.proofs.Units.{apdus, begins_by}
-use Rattle.cf_lane.specs.Handled.{FrontsOf, Grows, Handled, MissesOf, Outlets, State, judged, lane_at, letters_in, outlets, state, step_by}
+use Rattle.cf_lane.specs.Handled.{FrontsOf, Grows, Handled, MissesOf, Outlets, State, judged, lane_at, letters_in, state, step_by}
 use Rattle.cf_lane.specs.Iec104.{apdu_output, fate_of_apdu}
 use Rattle.cf_lane.specs.Item.{Took}
 use Rattle.cf_lane.specs.Judged.{Judged, fate_cut, is_admitted, is_refused, one_if}
@@ -42,11 +42,11 @@ module _ (asset : Asset) (moment : ℕ) (s : Side) (a : ApduValue) (f : Fate) (o
     (takes : TakesApdu asset (says_by asset old.lane.client.address old.lane.rules moment) old.lane.client moment s a f (numbers_of before old) (numbers_of after new)) where
   -- one APDU was handled
   pub apdu_handled : Handled asset (judged moment (Took s (Apdu a)) f ∷ []) old new
-  apdu_handled = unit_handled asset moment s (Apdu a) f old new client admitted refused rules (λ earlier uncut knows.
+  apdu_handled = unit_handled asset moment s (Apdu a) f old new client admitted refused rules (λ past earlier uncut knows.
       (let j : Judged = judged moment (Took s (Apdu a)) f in
       let does = takes earlier (subst (λ w. KnowsWire asset w earlier) was (knows.wire uncut)) knows.client_ended in
       record {
-        fate = subst (λ (says : Says). f ≡ fate_of_apdu asset says s earlier a) (says_same asset old.lane.client.address old.lane.rules earlier moment of knows.rules) does.fate;
+        fate = subst (λ (says : Says). f ≡ fate_of_apdu asset says s earlier a) (says_same asset old.lane.client.address past old.lane.rules earlier moment of knows.rules) does.fate;
         of_client = does.of_client;
         of_controller = does.of_controller;
         of_lines = does.of_lines;
@@ -87,11 +87,11 @@ module _ (asset : Asset) (iec104 : asset.protocol ≡ protocol.Iec104) (client :
     begins = begins_by (apdus asset.protocol iec104) bytes a n b;
     fate = m.fate;
     uncut = m.uncut;
-    has = λ earlier uncut knows.
-        subst (λ (x : Says). m.fate ≡ fate_of_apdu asset x s earlier a) (says_same asset client.address rules earlier moment of knows.rules)
+    has = λ past earlier uncut knows.
+        subst (λ (x : Says). m.fate ≡ fate_of_apdu asset x s earlier a) (says_same asset client.address past rules earlier moment of knows.rules)
         (m.takes earlier (knows.wire uncut) knows.client_ended).fate;
     more = m.more;
-    are_more = λ earlier uncut knows.
+    are_more = λ past earlier uncut knows.
         append-nil (unit_lines asset client moment (is_some_bytes (apdu_output side.Client earlier m.fate s a)) s (spelling a) m.fate)
         ∙ m.are_more earlier (knows.wire uncut) knows.client_ended;
     line = m.line;

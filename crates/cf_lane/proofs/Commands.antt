@@ -1,7 +1,7 @@
 -- Laws of the fate of a command.
 use Rattle.std.proofs.lemmas.List.FromFn.{get_or-map-range_with_len, length-map-range_with_len}
 use Rattle.cf_lane.specs.Judged.{is_admitted}
-use Rattle.cf_lane.specs.Rates.{Says, rated}
+use Rattle.cf_lane.specs.Rates.{Says}
 use Rattle.cf_lane.specs.declared.fate.Admission.{Admission}
 use Rattle.cf_lane.specs.Acts.{admission, by_refusal, fate_of_acts, first_refusal, is_by, refusal_or, used_by}
 use Rattle.cf_lane.specs.Passes.{IsAllowedCommand}

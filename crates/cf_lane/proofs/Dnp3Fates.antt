@@ -1,5 +1,5 @@
 -- Laws of the fates of DNP3 fragments.
-use Rattle.cf_lane.specs.Rates.{Says, rated, said, unless_spent}
+use Rattle.cf_lane.specs.Rates.{Says, said, unless_spent}
 use Rattle.cf_lane.specs.declared.fate.Admission.{Admission}
 use Rattle.cf_lane.specs.Acts.{admission, by_refusal, fate_of_acts, first_refusal, refusal_or}
 use Rattle.cf_lane.specs.Dnp3.{IsOfFragment}

@@ -1,5 +1,5 @@
 -- What a frame of DNP3 does after the earlier items.
-use Rattle.cf_lane.specs.Rates.{Says, rated}
+use Rattle.cf_lane.specs.Rates.{Says}
 use Rattle.cf_dnplink.specs.LinkFrame.{FrameValue}
 use Rattle.cf_dnplink.specs.UserOctets.{user_of}
 use Rattle.cf_dnptrans.specs.AssemblyValue.{AssemblyValue, IsAssemblyOf}

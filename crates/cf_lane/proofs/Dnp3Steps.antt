@@ -11,11 +11,11 @@ use Rattle.cf_lane.proofs.Recutting.{length-spelling}
 use Rattle.cf_lane.proofs.Units.{begins_by, frames}
 use Rattle.cf_lane.specs.Dnp3.{fate_of_frame, frame_octets, frame_output, stray_of}
 use Rattle.cf_lane.specs.Fragments.{MissesFrame, TakesFrame, parts}
-use Rattle.cf_lane.specs.Handled.{FrontsOf, Handled, MissesOf, Outlets, State, judged, lane_at, outlets, state}
+use Rattle.cf_lane.specs.Handled.{FrontsOf, Handled, MissesOf, Outlets, State, judged, lane_at, state}
 use Rattle.cf_lane.specs.Item.{Took}
 use Rattle.cf_lane.specs.Judged.{is_admitted, is_refused, one_if}
 use Rattle.cf_lane.specs.Kept.{KnowsFragments, KnowsWire}
-use Rattle.cf_lane.specs.Log.{is_some_bytes, lines, unit_lines, with_lines}
+use Rattle.cf_lane.specs.Log.{is_some_bytes, unit_lines, with_lines}
 use Rattle.cf_lane.specs.Unit.{Frame, frame_spelling}
 use Rattle.cf_lane.specs.declared.fate.Fate.{Fate}
 use Rattle.cf_lane.specs.declared.wire.Fragments.{Fragments}
@@ -46,12 +46,12 @@ module _ (asset : Asset) (moment : ℕ) (s : Side) (x : FrameValue) (f : Fate) (
     (parts before old.to_client old.to_controller old.lines) (parts after new.to_client new.to_controller new.lines)) where
   -- one frame was handled
   pub frame_handled : Handled asset (judged moment (Took s (Frame x)) f ∷ []) old new
-  frame_handled = unit_handled asset moment s (Frame x) f old new client admitted refused rules (λ earlier uncut knows.
+  frame_handled = unit_handled asset moment s (Frame x) f old new client admitted refused rules (λ past earlier uncut knows.
       (let known : KnowsFragments asset before earlier = subst (λ w. KnowsWire asset w earlier) was (knows.wire uncut) in
       let does = t.does earlier known knows.client_ended in
       record {
         fate = subst (λ (says : Says). f ≡ fate_of_frame asset says s earlier x (stray_of asset s x))
-            (says_same asset old.lane.client.address old.lane.rules earlier moment of knows.rules) does.fate;
+            (says_same asset old.lane.client.address past old.lane.rules earlier moment of knows.rules) does.fate;
         of_client = does.of_client;
         of_controller = does.of_controller;
         of_lines = t.lines ∙ ap (with_lines old.lines) (sym (t.are_more earlier known knows.client_ended));
@@ -92,11 +92,11 @@ module _ (asset : Asset) (dnp3 : asset.protocol ≡ protocol.Dnp3) (client : End
     begins = begins_by (frames asset.protocol dnp3) bytes x n b;
     fate = m.fate;
     uncut = m.takes.uncut;
-    has = λ earlier uncut knows.
-        subst (λ (y : Says). m.fate ≡ fate_of_frame asset y s earlier x (stray_of asset s x)) (says_same asset client.address rules earlier moment of knows.rules)
+    has = λ past earlier uncut knows.
+        subst (λ (y : Says). m.fate ≡ fate_of_frame asset y s earlier x (stray_of asset s x)) (says_same asset client.address past rules earlier moment of knows.rules)
         (m.takes.does earlier (knows.wire uncut) knows.client_ended).fate;
     more = m.takes.more;
-    are_more = λ earlier uncut knows.
+    are_more = λ past earlier uncut knows.
         append-nil (unit_lines asset client moment (is_some_bytes (frame_output asset side.Client earlier (judged moment (Took s (Frame x)) m.fate) s x)) s (frame_octets asset earlier s x) m.fate)
         ∙ m.takes.are_more earlier (knows.wire uncut) knows.client_ended;
     line = m.line;

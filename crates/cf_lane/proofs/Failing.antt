@@ -35,10 +35,10 @@ pub misses_by : (asset : Asset) (moment : ℕ) (a : AduValue) (f : Fate) (old : 
 misses_by asset moment a f old log part uncut of has more are either = record {
   fate = f;
   uncut = uncut;
-  has = λ earlier before knows.
-      subst (λ (x : Says). HasCommandFate asset x a f) (says_same asset old.lane.client.address old.lane.rules earlier moment of knows.rules) has;
+  has = λ past earlier before knows.
+      subst (λ (x : Says). HasCommandFate asset x a f) (says_same asset old.lane.client.address past old.lane.rules earlier moment of knows.rules) has;
   more = more;
-  are_more = λ earlier before knows.
+  are_more = λ past earlier before knows.
       append-nil (unit_lines asset old.lane.client moment (is_some_bytes (adu_reply (has_ended side.Controller earlier) f a)) side.Client (spelling a) f)
       ∙ are (has_ended side.Controller earlier) (sym knows.client_ended);
   line = either;

@@ -1,4 +1,5 @@
 -- Laws of the loop of `feed`.
+use Rattle.cf_lane.specs.Caller.{RateMoments}
 use Rattle.cf_audit.specs.declared.line.CutReason.{CutReason}
 use Rattle.cf_lane.proofs.Histories.{Along, along_more, fed_broken, fed_cut, fed_whole, of_whole_log}
 use Rattle.cf_lane.proofs.Taking.{grows_both, grows_more, room_left, room_less}
@@ -97,29 +98,29 @@ module _ (asset : Asset) (moment : ℕ) (s : Side) (bytes rest : List ℕ) (used
     (a : Along asset moment s bytes used old mid) (left : rest ≡ drop used bytes) where
   -- where no whole unit is left, or the step cuts, the history goes on by the piece
   pub apart_stop : (st : Step) → Steps asset moment s rest mid new st → IsOctets bytes → Stops st →
-      (h : List Element) (rests : Rests) (first own : Option (List (List ℕ))) (piece : List ℕ) (ended : Bool) → IsEndBehindCut ended (cut_in st) →
-      bytes ≡ rest_of s rests ++ piece → Follows asset h rests None first (over own old) →
-      AddsTo asset (h ++ letters_at moment s piece ended ∷ []) (with_rest s rests (drop used bytes)) (cut_in st) first own old.lines new
-  apart_stop step.More steps octets stops h rests first own piece true behind is f = absurd behind
-  apart_stop step.More steps octets stops h rests first own piece false behind is f =
-      subst (λ (n : State). AddsTo asset (h ++ bytes_at moment s piece ∷ []) (with_rest s rests (drop used bytes)) None first own old.lines n) (sym steps.1)
-      (fed_whole asset h rests first own moment s piece bytes used old mid is f a (subst (IsPartial (SpellsUnit asset.protocol)) left steps.0))
-  apart_stop (step.Cut reason) (inl here) octets stops h rests first own piece ended behind is f =
-      subst (λ (n : State). AddsTo asset (h ++ letters_at moment s piece ended ∷ []) (with_rest s rests (drop used bytes)) (Some reason) first own old.lines n) (sym here.1)
-      (fed_broken asset h rests first own moment s piece bytes used old mid is f a ended reason (subst (λ xs. Breaks asset s xs reason) left here.0))
-  apart_stop (step.Cut reason) (inr unit) octets stops h rests first own piece ended behind is f =
+      (past : RateMoments) (h : List Element) (rests : Rests) (first own : Option (List (List ℕ))) (piece : List ℕ) (ended : Bool) → IsEndBehindCut ended (cut_in st) →
+      bytes ≡ rest_of s rests ++ piece → Follows asset past h rests None first (over own old) →
+      AddsTo asset past (h ++ letters_at moment s piece ended ∷ []) (with_rest s rests (drop used bytes)) (cut_in st) first own old.lines new
+  apart_stop step.More steps octets stops past h rests first own piece true behind is f = absurd behind
+  apart_stop step.More steps octets stops past h rests first own piece false behind is f =
+      subst (λ (n : State). AddsTo asset past (h ++ bytes_at moment s piece ∷ []) (with_rest s rests (drop used bytes)) None first own old.lines n) (sym steps.1)
+      (fed_whole asset past h rests first own moment s piece bytes used old mid is f a (subst (IsPartial (SpellsUnit asset.protocol)) left steps.0))
+  apart_stop (step.Cut reason) (inl here) octets stops past h rests first own piece ended behind is f =
+      subst (λ (n : State). AddsTo asset past (h ++ letters_at moment s piece ended ∷ []) (with_rest s rests (drop used bytes)) (Some reason) first own old.lines n) (sym here.1)
+      (fed_broken asset past h rests first own moment s piece bytes used old mid is f a ended reason (subst (λ xs. Breaks asset s xs reason) left here.0))
+  apart_stop (step.Cut reason) (inr unit) octets stops past h rests first own piece ended behind is f =
       let n = unit.1.0 in
-      fed_cut asset h rests first own moment s piece bytes used n old mid new is f a ended reason (subst (λ xs. TakesUnit asset moment s xs n (Some reason) mid new) left unit.1.1)
+      fed_cut asset past h rests first own moment s piece bytes used n old mid new is f a ended reason (subst (λ xs. TakesUnit asset moment s xs n (Some reason) mid new) left unit.1.1)
       (units_of_octets asset.protocol (drop n (drop used bytes)) (IsOctets-drop (drop used bytes) n (IsOctets-drop bytes used octets))) (with_rest s rests (drop used bytes))
-  apart_stop (step.Took n) steps octets stops h rests first own piece ended behind is f = took_stops n stops
+  apart_stop (step.Took n) steps octets stops past h rests first own piece ended behind is f = took_stops n stops
 
   pub follows_stop : (st : Step) → Steps asset moment s rest mid new st → IsOctets bytes → Stops st →
-      (h : List Element) (rests : Rests) (first : Option (List (List ℕ))) (piece : List ℕ) (ended : Bool) → IsEndBehindCut ended (cut_in st) →
-      bytes ≡ rest_of s rests ++ piece → Follows asset h rests None first old →
-      Follows asset (h ++ letters_at moment s piece ended ∷ []) (with_rest s rests (drop used bytes)) (cut_in st) first new
-  follows_stop st steps octets stops h rests first piece ended behind is f =
-      of_whole_log asset (h ++ letters_at moment s piece ended ∷ []) (with_rest s rests (drop used bytes)) (cut_in st) first old new
-      (apart_stop st steps octets stops h rests first old.lines piece ended behind is f)
+      (past : RateMoments) (h : List Element) (rests : Rests) (first : Option (List (List ℕ))) (piece : List ℕ) (ended : Bool) → IsEndBehindCut ended (cut_in st) →
+      bytes ≡ rest_of s rests ++ piece → Follows asset past h rests None first old →
+      Follows asset past (h ++ letters_at moment s piece ended ∷ []) (with_rest s rests (drop used bytes)) (cut_in st) first new
+  follows_stop st steps octets stops past h rests first piece ended behind is f =
+      of_whole_log asset past (h ++ letters_at moment s piece ended ∷ []) (with_rest s rests (drop used bytes)) (cut_in st) first old new
+      (apart_stop st steps octets stops past h rests first old.lines piece ended behind is f)
 
   -- what is left is shorter than a unit
   pub little_left : (st : Step) → Steps asset moment s rest mid new st → Stops st → cut_in st ≡ None → length (drop used bytes) < 300

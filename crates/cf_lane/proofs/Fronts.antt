@@ -17,7 +17,7 @@ use Rattle.cf_renumber.specs.Numbers.{NumbersValue}
 use Rattle.cf_view.specs.declared.Endpoint.{Endpoint}
 use Rattle.cf_view.specs.declared.Side.{Side}
 use Rattle.cf_view.specs.declared.base.Framed.{Framed}
-use Rattle.std.proofs.Common.{List, None, Option, Some, ap, arith, false, inl, inr, length, refl, subst, sym, ℕ, ◌*◌, ◌+◌, ◌<◌, ◌∙◌, ◌≡◌, ◌≤◌}
+use Rattle.std.proofs.Common.{List, None, Option, Some, ap, arith, inl, inr, length, refl, subst, sym, ℕ, ◌*◌, ◌+◌, ◌<◌, ◌∙◌, ◌≡◌, ◌≤◌}
 use Rattle.cf_lane.specs.declared.fate.Fate.TheVariants as fates
 use Rattle.cf_view.specs.declared.base.Framed.TheVariants as framed
 use Rattle.cf_lane.specs.declared.wire.Wire.TheVariants as wire

@@ -1,4 +1,5 @@
 -- Each history of octets has judged items: a history goes on with any octets.
+use Rattle.cf_lane.specs.Caller.{Caller}
 use Rattle.cf_lane.specs.Rates.{Says, says_at}
 use Rattle.cf_apci.proofs.Fronts.{apdu_octets}
 use Rattle.cf_audit.specs.declared.line.CutReason.{CutReason}
@@ -102,7 +103,7 @@ module _ (each : EachPduHasAnAnswer) (asset : Asset) (says : Says) where
   item_fate earlier (Ended s rest) is = (fate.Carried, refl)
   item_fate earlier (Broke s because) is = (_, refl)
 
-module _ (each : EachPduHasAnAnswer) (asset : Asset) (client : ℕ) where
+module _ (each : EachPduHasAnAnswer) (asset : Asset) (client : Caller) where
   -- items judged up to the first that cuts
   record JudgesAll (earlier : List Judged) (places : List Placed) : Type 0 where
     js : List Judged
@@ -186,7 +187,7 @@ dropped_cut : (js : List Judged) (ds es : List Placed) (r : CutReason) → cut_o
 dropped_cut [] ds es r e g = cc
 dropped_cut (j ∷ js) ds es r e g = cut_step (fate_cut j.fate) js (DropsBehindCut js ds) (DropsBehindCut js es) r (λ e g. dropped_cut js ds es r e g) e g
 
-module _ (each : EachPduHasAnAnswer) (asset : Asset) (client : ℕ) (h : List Element) (e : Element) (js : List Judged) (a : AreJudged asset client h js)
+module _ (each : EachPduHasAnAnswer) (asset : Asset) (client : Caller) (h : List Element) (e : Element) (js : List Judged) (a : AreJudged asset client h js)
     (now : List Placed) (c : Completes asset.protocol h e now) (all : AreItemsOf asset.protocol now) where
   on_by : (cut : Option CutReason) → cut_of js ≡ cut → (ks : List Judged) × AreJudged asset client (h ++ e ∷ []) ks
   on_by None uncut =

@@ -1,4 +1,5 @@
 -- The weights of items, and where a history goes on.
+use Rattle.cf_lane.specs.Caller.{Caller, caller_at}
 use Rattle.cf_lane.specs.Rates.{says_at}
 use Rattle.cf_audit.specs.declared.line.CutReason.{CutReason}
 use Rattle.cf_dnplink.proofs.Frames.{user_is}
@@ -206,7 +207,7 @@ further_by : (c : Option CutReason) (j : Judged) (js ks : List Judged) (more : L
 further_by None j js ks more P Q both a b = both a b
 further_by (Some r) j js ks more P Q both a b = ([], more, b ∙ sym (append-nil js ∙ a), refl)
 
-pub further : (asset : Asset) (client : ℕ) (earlier js ks : List Judged) (ds es more : List Placed) → (map place_of js ++ ds) ++ more ≡ map place_of ks ++ es →
+pub further : (asset : Asset) (client : Caller) (earlier js ks : List Judged) (ds es more : List Placed) → (map place_of js ++ ds) ++ more ≡ map place_of ks ++ es →
     HaveFates asset client earlier js → HaveFates asset client earlier ks → DropsBehindCut js ds → DropsBehindCut ks es → Further js ks more
 further asset client earlier [] ks ds es more same x y a b =
     (ks, es, refl, sym same ∙ ap (λ xs. xs ++ more) a)
@@ -235,11 +236,11 @@ has_one_judgement asset client h js ks a b =
     sym (f.2 ∙ ap (λ ms. js ++ ms) (no_places f.0 f.1 f.3) ∙ append-nil js)
 
 pub streams_go_on : StreamsGoOn
-streams_go_on asset client h more js ks a b =
+streams_go_on asset past client h more js ks a b =
     let free = free_unit asset.protocol in
     let split = items_split asset.protocol [] h more b.items b.are_items in
     let same = one_items asset.protocol free [] h a.items split.0 a.are_items split.2 in
-    let f = further asset client.address [] js ks a.dropped b.dropped split.1
+    let f = further asset (caller_at client.address past) [] js ks a.dropped b.dropped split.1
     (ap (λ xs. xs ++ split.1) (sym a.are_first ∙ same) ∙ sym split.4 ∙ b.are_first) a.fates b.fates a.goes_on b.goes_on in
     record {
       ms = f.0;

@@ -1,4 +1,5 @@
 -- Laws of lanes over items.
+use Rattle.cf_lane.specs.Caller.{Caller, RateMoments, caller_at}
 use Rattle.cf_lane.specs.Rings.{KnowsRules, RulesGoOn}
 use Rattle.cf_lane.specs.Rates.{says_at}
 use Rattle.cf_lane.proofs.Earlier.{cut_of-append, in_turn-append, wire_stays}
@@ -27,14 +28,14 @@ use Rattle.std.specs.List.{list_any}
 use Rattle.std.specs.Prelude.{count_by, ◌||◌}
 use Rattle.cf_view.specs.declared.Side.TheVariants as side
 
-pub fates-append : (asset : Asset) (client : ℕ) (earlier js ks : List Judged) → HaveFates asset client earlier js → HaveFates asset client (earlier ++ js) ks →
+pub fates-append : (asset : Asset) (client : Caller) (earlier js ks : List Judged) → HaveFates asset client earlier js → HaveFates asset client (earlier ++ js) ks →
     HaveFates asset client earlier (js ++ ks)
 fates-append asset client earlier [] ks a b = subst (λ before. HaveFates asset client before ks) (append-nil earlier) b
 fates-append asset client earlier (j ∷ js) ks a b =
     (a.0, fates-append asset client (earlier ++ j ∷ []) js ks a.1 (subst (λ before. HaveFates asset client before ks) (sym (append_assoc earlier (j ∷ []) js)) b))
 
 -- the fates of items behind others
-pub fates_behind : (asset : Asset) (client : ℕ) (earlier js ms : List Judged) → HaveFates asset client earlier (js ++ ms) → HaveFates asset client (earlier ++ js) ms
+pub fates_behind : (asset : Asset) (client : Caller) (earlier js ms : List Judged) → HaveFates asset client earlier (js ++ ms) → HaveFates asset client (earlier ++ js) ms
 fates_behind asset client earlier [] ms f = subst (λ before. HaveFates asset client before ms) (sym (append-nil earlier)) f
 fates_behind asset client earlier (j ∷ js) ms f =
     subst (λ before. HaveFates asset client before ms) (append_assoc earlier (j ∷ []) js) (fates_behind asset client (earlier ++ j ∷ []) js ms f.1)
@@ -61,8 +62,8 @@ with_lines-both (Some all) xs ys = ap Some (append_assoc all xs ys)
 pub handled_none : (asset : Asset) (s : State) → Handled asset [] s s
 handled_none asset s = record {
   client = refl;
-  does = λ earlier uncut knows. record {
-    knows = subst (Knows asset s) (sym (append-nil earlier)) knows;
+  does = λ past earlier uncut knows. record {
+    knows = subst (Knows asset past s) (sym (append-nil earlier)) knows;
     fates = tt;
     of_client = sym (push-nothing s.to_client);
     of_controller = sym (push-nothing s.to_controller);
@@ -77,15 +78,15 @@ none-append : (xs ys zs : List ℕ) → xs ≡ ys ++ zs → ys ≡ [] → zs ≡
 none-append xs ys zs e a b = rw (e, a, b) refl
 
 module _ (asset : Asset) (js ks : List Judged) (a b c : State) (uncut : cut_of js ≡ None) (first : Handled asset js a b) (then_ : Handled asset ks b c) where
-  more_does : (earlier : List Judged) → cut_of earlier ≡ None → Knows asset a earlier → Does asset earlier (js ++ ks) a c
-  more_does earlier before knows =
-      let one = first.does earlier before knows in
-      let two = then_.does (earlier ++ js) (cut_of-append earlier js before ∙ uncut) one.knows in
+  more_does : (past : RateMoments) (earlier : List Judged) → cut_of earlier ≡ None → Knows asset past a earlier → Does asset past earlier (js ++ ks) a c
+  more_does past earlier before knows =
+      let one = first.does past earlier before knows in
+      let two = then_.does past (earlier ++ js) (cut_of-append earlier js before ∙ uncut) one.knows in
       let address : b.lane.client ≡ a.lane.client = first.client in
       record {
-        knows = subst (Knows asset c) (append_assoc earlier js ks) two.knows;
-        fates = fates-append asset a.lane.client.address earlier js ks one.fates
-            (subst (λ (e : Endpoint). HaveFates asset e.address (earlier ++ js) ks) address two.fates);
+        knows = subst (Knows asset past c) (append_assoc earlier js ks) two.knows;
+        fates = fates-append asset (caller_at a.lane.client.address past) earlier js ks one.fates
+            (subst (λ (e : Endpoint). HaveFates asset (caller_at e.address past) (earlier ++ js) ks) address two.fates);
         of_client = two.of_client ∙ ap (λ q. after_push q (outputs asset side.Client (earlier ++ js) ks)) one.of_client
             ∙ push-push a.to_client (outputs asset side.Client earlier js) (outputs asset side.Client (earlier ++ js) ks)
             ∙ ap (after_push a.to_client) (sym (in_turn-append (output asset side.Client) earlier js ks));
@@ -134,8 +135,8 @@ ended_stays t js j e =
     list_any-append (λ i. ends t i.item) js (j ∷ []) ∙ or_left (has_ended t js) (list_any (λ i. ends t i.item) (j ∷ [])) e
 
 -- what an item does after the earlier ones, beside what is counted
-pub record DoesItem (asset : Asset) (earlier : List Judged) (j : Judged) (old new : State) : Type 0 where
-  pub fate : HasFate asset old.lane.client.address earlier (place_of j) j.fate
+pub record DoesItem (asset : Asset) (past : RateMoments) (earlier : List Judged) (j : Judged) (old new : State) : Type 0 where
+  pub fate : HasFate asset (caller_at old.lane.client.address past) earlier (place_of j) j.fate
   pub of_client : new.to_client ≡ after_push old.to_client (output asset side.Client earlier j)
   pub of_controller : new.to_controller ≡ after_push old.to_controller (output asset side.Controller earlier j)
   pub of_lines : new.lines ≡ with_lines old.lines (item_lines asset old.lane.client earlier j j.item)
@@ -146,13 +147,13 @@ pub record DoesItem (asset : Asset) (earlier : List Judged) (j : Judged) (old ne
 -- a unit that did so, and was counted, was handled
 pub unit_handled : (asset : Asset) (moment : ℕ) (s : Side) (u : UnitValue) (f : Fate) (old new : State) → new.lane.client ≡ old.lane.client →
     new.lane.admitted ≡ old.lane.admitted + one_if (is_admitted f) → new.lane.refused ≡ old.lane.refused + one_if (is_refused f) → RulesGoOn f moment old.lane.rules new.lane.rules →
-    ((earlier : List Judged) → cut_of earlier ≡ None → Knows asset old earlier → DoesItem asset earlier (judged moment (Took s u) f) old new) →
+    ((past : RateMoments) (earlier : List Judged) → cut_of earlier ≡ None → Knows asset past old earlier → DoesItem asset past earlier (judged moment (Took s u) f) old new) →
     Handled asset (judged moment (Took s u) f ∷ []) old new
 unit_handled asset moment s u f old new client admitted refused rules each = record {
   client = client;
-  does = λ earlier uncut knows.
+  does = λ past earlier uncut knows.
       (let j : Judged = judged moment (Took s u) f in
-      let d = each earlier uncut knows in
+      let d = each past earlier uncut knows in
       let nil = λ (to : Side). sym (append-nil (output asset to earlier j)) in
       record {
         knows = record {
@@ -160,7 +161,7 @@ unit_handled asset moment s u f old new client admitted refused rules each = rec
           refused = refused ∙ ap (λ n. n + one_if (is_refused f)) knows.refused ∙ sym (count-more (λ i. is_refused i.fate) earlier j);
           client_ended = ap (λ (q : Queue). q.ended) d.of_client ∙ knows.client_ended ∙ sym (ended-more side.Controller earlier j refl);
           controller_ended = ap (λ (q : Queue). q.ended) d.of_controller ∙ knows.controller_ended ∙ sym (ended-more side.Client earlier j refl);
-          rules = rules.know earlier j refl refl knows.rules;
+          rules = rules.know past earlier j refl refl knows.rules;
           wire = d.wire;
         };
         fates = (d.fate, tt);
@@ -172,7 +173,7 @@ unit_handled asset moment s u f old new client admitted refused rules each = rec
       });
 }
 
-module _ (asset : Asset) (moment : ℕ) (s : Side) (a : AduValue) (f : Fate) (old new : State) (has : (earlier : List Judged) → KnowsRules old.lane.rules earlier → HasAduFate asset (says_at asset old.lane.client.address earlier moment) s a f)
+module _ (asset : Asset) (moment : ℕ) (s : Side) (a : AduValue) (f : Fate) (old new : State) (has : (past : RateMoments) (earlier : List Judged) → KnowsRules past old.lane.rules earlier → HasAduFate asset (says_at asset (caller_at old.lane.client.address past) earlier moment) s a f)
     (rules : RulesGoOn f moment old.lane.rules new.lane.rules)
     (client : new.lane.client ≡ old.lane.client) (wire : new.lane.wire ≡ old.lane.wire)
     (admitted : new.lane.admitted ≡ old.lane.admitted + one_if (is_admitted f)) (refused : new.lane.refused ≡ old.lane.refused + one_if (is_refused f))
@@ -182,11 +183,11 @@ module _ (asset : Asset) (moment : ℕ) (s : Side) (a : AduValue) (f : Fate) (ol
     (client_quiet : old.to_client.ended ≡ true → adu_output side.Client old.to_client.ended s f a ≡ [])
     (controller_quiet : old.to_controller.ended ≡ true → adu_output side.Controller old.to_client.ended s f a ≡ []) where
   pub adu_handled : Handled asset (judged moment (Took s (Adu a)) f ∷ []) old new
-  adu_handled = unit_handled asset moment s (Adu a) f old new client admitted refused rules (λ earlier before knows.
+  adu_handled = unit_handled asset moment s (Adu a) f old new client admitted refused rules (λ past earlier before knows.
       (let e = knows.client_ended in
       let j : Judged = judged moment (Took s (Adu a)) f in
       record {
-        fate = has earlier knows.rules;
+        fate = has past earlier knows.rules;
         of_client = of_client ∙ ap (λ b. after_push old.to_client (adu_output side.Client b s f a)) e;
         of_controller = of_controller ∙ ap (λ b. after_push old.to_controller (adu_output side.Controller b s f a)) e;
         of_lines = of_lines ∙ ap (λ b. with_lines old.lines (unit_lines asset old.lane.client moment (is_some_bytes (adu_output side.Client b s f a)) s (spelling a) f)) e;

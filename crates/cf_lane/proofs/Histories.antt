@@ -1,4 +1,5 @@
 -- Laws of lanes over histories.
+use Rattle.cf_lane.specs.Caller.{Caller, RateMoments, caller_at}
 use Rattle.cf_lane.proofs.Saying.{still_known}
 use Rattle.cf_lane.specs.Rings.{KnowsRules}
 use Rattle.cf_audit.specs.declared.line.CutReason.{CutReason}
@@ -84,7 +85,7 @@ goes_more (j ∷ js) ks dropped e g =
     to_going (fate_cut j.fate) (js ++ ks) (DropsBehindCut (js ++ ks) dropped) both.0 (goes_more js ks dropped both.1 g)
 
 -- the items that an element completes, judged after those before it
-pub judged_more : (asset : Asset) (client : ℕ) (h : List Element) (e : Element) (before js : List Judged) (now dropped : List Placed) → AreJudged asset client h before →
+pub judged_more : (asset : Asset) (client : Caller) (h : List Element) (e : Element) (before js : List Judged) (now dropped : List Placed) → AreJudged asset client h before →
     cut_of before ≡ None → Completes asset.protocol h e now → now ≡ map place_of js ++ dropped → DropsBehindCut js dropped → HaveFates asset client before js →
     AreJudged asset client (h ++ e ∷ []) (before ++ js)
 judged_more asset client h e before js now dropped a uncut completes are goes fates = record {
@@ -107,10 +108,10 @@ lines_after asset client first was before js is =
     ∙ ap (with_lines first) (sym (in_turn-append (λ b j. item_lines asset client b j j.item) [] before js))
 
 -- a log that has the lines of the first of these items, and a beginning of those of the others, has the first lines of the history
-pub began_by : (asset : Asset) (client : Endpoint) (h : List Element) (first was log : Option (List (List ℕ))) (part : List ℕ) (before js fore later : List Judged) (k : ℕ) →
-    AreJudged asset client.address h (before ++ js) → js ≡ fore ++ later → was ≡ with_lines first (lines asset client [] before) →
-    log ≡ with_lines was (lines asset client before fore) → part ≡ take k (concat (lines asset client (before ++ fore) later)) → Began asset client h first log part
-began_by asset client h first was log part before js fore later k are parts of_lines is begins =
+pub began_by : (asset : Asset) (past : RateMoments) (client : Endpoint) (h : List Element) (first was log : Option (List (List ℕ))) (part : List ℕ) (before js fore later : List Judged) (k : ℕ) →
+    AreJudged asset (caller_at client.address past) h (before ++ js) → js ≡ fore ++ later → was ≡ with_lines first (lines asset client [] before) →
+    log ≡ with_lines was (lines asset client before fore) → part ≡ take k (concat (lines asset client (before ++ fore) later)) → Began asset past client h first log part
+began_by asset past client h first was log part before js fore later k are parts of_lines is begins =
     let some = lines asset client [] (before ++ fore) in
     let more = lines asset client (before ++ fore) later in
     let all : some ++ more ≡ lines asset client [] (before ++ js) =
@@ -156,12 +157,12 @@ rests_more p h rests side.Controller m piece left ended a r =
 pub same_stream : (v w : Stream) → v.bytes ≡ w.bytes → v.ended ≡ w.ended → v ≡ w
 same_stream v w a b = rw (a, b) refl
 
-module _ (asset : Asset) (h : List Element) (rests : Rests) (first : Option (List (List ℕ))) (moment : ℕ) (s : Side) (piece bytes : List ℕ) (ended : Bool) (old new : State)
-    (is : bytes ≡ rest_of s rests ++ piece) (f : Follows asset h rests None first old)
+module _ (asset : Asset) (past : RateMoments) (h : List Element) (rests : Rests) (first : Option (List (List ℕ))) (moment : ℕ) (s : Side) (piece bytes : List ℕ) (ended : Bool) (old new : State)
+    (is : bytes ≡ rest_of s rests ++ piece) (f : Follows asset past h rests None first old)
     (units : List UnitValue) (tail : Tail) (are : AreUnits asset.protocol bytes units tail)
     (js : List Judged) (dropped : List Placed)
     (are_js : map (placed moment) (map (Took s) units ++ last_items s ended tail) ≡ map place_of js ++ dropped)
-    (goes : DropsBehindCut js dropped) (client : new.lane.client ≡ old.lane.client) (does : Does asset f.judged js old new) where
+    (goes : DropsBehindCut js dropped) (client : new.lane.client ≡ old.lane.client) (does : Does asset past f.judged js old new) where
   abbrev e : Element
   e = letters_at moment s piece ended
 
@@ -184,8 +185,8 @@ module _ (asset : Asset) (h : List Element) (rests : Rests) (first : Option (Lis
   completes : Completes asset.protocol h e now
   completes = record { before = rest_before.units; was = Left (rest_of s rests); more = units; tail = tail; were = rest_before.cut; are = units_now; is_items = refl }
 
-  are_judged_now : AreJudged asset old.lane.client.address (h ++ e ∷ []) (before ++ js)
-  are_judged_now = judged_more asset old.lane.client.address h e before js now dropped f.are_judged f.is_cut completes are_js goes does.fates
+  are_judged_now : AreJudged asset (caller_at old.lane.client.address past) (h ++ e ∷ []) (before ++ js)
+  are_judged_now = judged_more asset (caller_at old.lane.client.address past) h e before js now dropped f.are_judged f.is_cut completes are_js goes does.fates
 
   stream_now : (to : Side) → has_ended (other to) (before ++ js) ≡ has_ended (other to) before →
       stream_to asset to (before ++ js) ≡ with_bytes (stream_to asset to before) (outputs asset to before js)
@@ -205,10 +206,10 @@ module _ (asset : Asset) (h : List Element) (rests : Rests) (first : Option (Lis
       (stands_push old.to_controller (stream_to asset side.Controller before) (outputs asset side.Controller before js) does.controller_quiet f.controller_stream)
 
   pub fed : (rests' : Rests) (cut : Option CutReason) → cut_of js ≡ cut → AreRests asset.protocol (h ++ e ∷ []) rests' cut →
-      Follows asset (h ++ e ∷ []) rests' cut first new
+      Follows asset past (h ++ e ∷ []) rests' cut first new
   fed rests' cut c r = record {
     judged = before ++ js;
-    are_judged = subst (λ (c : Endpoint). AreJudged asset c.address (h ++ e ∷ []) (before ++ js)) (sym client) are_judged_now;
+    are_judged = subst (λ (c : Endpoint). AreJudged asset (caller_at c.address past) (h ++ e ∷ []) (before ++ js)) (sym client) are_judged_now;
     is_cut = cut_of-append before js f.is_cut ∙ c;
     are_rests = r;
     knows = does.knows;
@@ -219,12 +220,12 @@ module _ (asset : Asset) (h : List Element) (rests : Rests) (first : Option (Lis
   }
 
 -- the judged items with those of a piece, by their fates alone
-pub judged_by : (asset : Asset) (h : List Element) (rests : Rests) (first : Option (List (List ℕ))) (moment : ℕ) (s : Side) (piece bytes : List ℕ) (ended : Bool) (old : State) →
-    bytes ≡ rest_of s rests ++ piece → (f : Follows asset h rests None first old) → (units : List UnitValue) (tail : Tail) → AreUnits asset.protocol bytes units tail →
+pub judged_by : (asset : Asset) (past : RateMoments) (h : List Element) (rests : Rests) (first : Option (List (List ℕ))) (moment : ℕ) (s : Side) (piece bytes : List ℕ) (ended : Bool) (old : State) →
+    bytes ≡ rest_of s rests ++ piece → (f : Follows asset past h rests None first old) → (units : List UnitValue) (tail : Tail) → AreUnits asset.protocol bytes units tail →
     (js : List Judged) (dropped : List Placed) → map (placed moment) (map (Took s) units ++ last_items s ended tail) ≡ map place_of js ++ dropped →
-    DropsBehindCut js dropped → HaveFates asset old.lane.client.address f.judged js →
-    AreJudged asset old.lane.client.address (h ++ letters_at moment s piece ended ∷ []) (f.judged ++ js)
-judged_by asset h rests first moment s piece bytes ended old is f units tail are js dropped are_js goes fates =
+    DropsBehindCut js dropped → HaveFates asset (caller_at old.lane.client.address past) f.judged js →
+    AreJudged asset (caller_at old.lane.client.address past) (h ++ letters_at moment s piece ended ∷ []) (f.judged ++ js)
+judged_by asset past h rests first moment s piece bytes ended old is f units tail are js dropped are_js goes fates =
     let e : Element = letters_at moment s piece ended in
     let before = rest_by asset.protocol h rests s f.are_rests in
     let now : AreUnits asset.protocol (bytes_of s (h ++ e ∷ [])) (before.units ++ units) tail =
@@ -232,17 +233,18 @@ judged_by asset h rests first moment s piece bytes ended old is f units tail are
     (units_pieces asset.protocol before.units units (bytes_of s h) (rest_of s rests) piece tail before.cut (subst (λ xs. AreUnits asset.protocol xs units tail) is are)) in
     let completes : Completes asset.protocol h e (map (placed moment) (map (Took s) units ++ last_items s ended tail)) =
     record { before = before.units; was = Left (rest_of s rests); more = units; tail = tail; were = before.cut; are = now; is_items = refl } in
-    judged_more asset old.lane.client.address h e f.judged js (map (placed moment) (map (Took s) units ++ last_items s ended tail)) dropped f.are_judged f.is_cut completes are_js goes fates
+    judged_more asset (caller_at old.lane.client.address past) h e f.judged js (map (placed moment) (map (Took s) units ++ last_items s ended tail)) dropped f.are_judged f.is_cut completes are_js goes fates
 
 -- what is known of earlier items does not read the log
-pub knows_over : (asset : Asset) (own : Option (List (List ℕ))) (s : State) (earlier : List Judged) → Knows asset (over own s) earlier → Knows asset s earlier
-knows_over asset own s earlier k = record { admitted = k.admitted; refused = k.refused; client_ended = k.client_ended; controller_ended = k.controller_ended; rules = k.rules; wire = k.wire }
+pub knows_over : (asset : Asset) (past : RateMoments) (own : Option (List (List ℕ))) (s : State) (earlier : List Judged) → Knows asset past (over own s) earlier →
+    Knows asset past s earlier
+knows_over asset past own s earlier k = record { admitted = k.admitted; refused = k.refused; client_ended = k.client_ended; controller_ended = k.controller_ended; rules = k.rules; wire = k.wire }
 
 -- and items do the same over another log
-does_over : (asset : Asset) (own : Option (List (List ℕ))) (earlier js : List Judged) (old new : State) → Does asset earlier js old new →
-    Does asset earlier js (over own old) (over (with_lines own (lines asset old.lane.client earlier js)) new)
-does_over asset own earlier js old new d = record {
-  knows = knows_over asset new.lines (over (with_lines own (lines asset old.lane.client earlier js)) new) (earlier ++ js) d.knows;
+does_over : (asset : Asset) (past : RateMoments) (own : Option (List (List ℕ))) (earlier js : List Judged) (old new : State) → Does asset past earlier js old new →
+    Does asset past earlier js (over own old) (over (with_lines own (lines asset old.lane.client earlier js)) new)
+does_over asset past own earlier js old new d = record {
+  knows = knows_over asset past new.lines (over (with_lines own (lines asset old.lane.client earlier js)) new) (earlier ++ js) d.knows;
   fates = d.fates;
   of_client = d.of_client;
   of_controller = d.of_controller;
@@ -295,13 +297,13 @@ handled_break : (asset : Asset) (moment : ℕ) (s : Side) (b : Break) (now : Sta
     Handled asset (judged moment (Broke s b) (fate.Cuts (cut.Framing s b)) ∷ []) now now
 handled_break asset moment s b now = record {
   client = refl;
-  does = λ earlier before knows. record {
+  does = λ past earlier before knows. record {
     knows = record {
       admitted = knows.admitted ∙ sym (count-more (λ i. is_admitted i.fate) earlier (judged moment (Broke s b) (fate.Cuts (cut.Framing s b))) ∙ omega arith);
       refused = knows.refused ∙ sym (count-more (λ i. is_refused i.fate) earlier (judged moment (Broke s b) (fate.Cuts (cut.Framing s b))) ∙ omega arith);
       client_ended = knows.client_ended ∙ sym (ended-more side.Controller earlier (judged moment (Broke s b) (fate.Cuts (cut.Framing s b))) refl);
       controller_ended = knows.controller_ended ∙ sym (ended-more side.Client earlier (judged moment (Broke s b) (fate.Cuts (cut.Framing s b))) refl);
-      rules = still_known now.lane.rules earlier (judged moment (Broke s b) (fate.Cuts (cut.Framing s b))) refl knows.rules;
+      rules = still_known past now.lane.rules earlier (judged moment (Broke s b) (fate.Cuts (cut.Framing s b))) refl knows.rules;
       wire = λ e. cc (e, cut_of-append earlier (judged moment (Broke s b) (fate.Cuts (cut.Framing s b)) ∷ []) before);
     };
     fates = (refl, tt);
@@ -314,33 +316,33 @@ handled_break asset moment s b now = record {
 }
 
 -- judged items add their lines to a history that stands over lines of its own
-module _ (asset : Asset) (h : List Element) (rests : Rests) (first own : Option (List (List ℕ))) (moment : ℕ) (s : Side) (piece bytes : List ℕ) (ended : Bool) (old new : State)
-    (is : bytes ≡ rest_of s rests ++ piece) (f : Follows asset h rests None first (over own old))
+module _ (asset : Asset) (past : RateMoments) (h : List Element) (rests : Rests) (first own : Option (List (List ℕ))) (moment : ℕ) (s : Side) (piece bytes : List ℕ) (ended : Bool) (old new : State)
+    (is : bytes ≡ rest_of s rests ++ piece) (f : Follows asset past h rests None first (over own old))
     (units : List UnitValue) (tail : Tail) (are : AreUnits asset.protocol bytes units tail) (js : List Judged) (dropped : List Placed)
     (are_js : map (placed moment) (map (Took s) units ++ last_items s ended tail) ≡ map place_of js ++ dropped) (goes : DropsBehindCut js dropped) (all : Handled asset js old new) where
   abbrev more : List (List ℕ)
   more = lines asset old.lane.client f.judged js
 
-  does_apart : Does asset f.judged js (over own old) (over (with_lines own more) new)
-  does_apart = does_over asset own f.judged js old new (all.does f.judged f.is_cut (knows_over asset own old f.judged f.knows))
+  does_apart : Does asset past f.judged js (over own old) (over (with_lines own more) new)
+  does_apart = does_over asset past own f.judged js old new (all.does past f.judged f.is_cut (knows_over asset past own old f.judged f.knows))
 
   units_apart : AreUnits asset.protocol (bytes_of s (h ++ letters_at moment s piece ended ∷ [])) ((rest_by asset.protocol h rests s f.are_rests).units ++ units) tail
   unfolding rest_by rest_before
-  units_apart = units_now asset h rests first moment s piece bytes ended (over own old) (over (with_lines own more) new) is f units tail are js dropped are_js goes all.client does_apart
+  units_apart = units_now asset past h rests first moment s piece bytes ended (over own old) (over (with_lines own more) new) is f units tail are js dropped are_js goes all.client does_apart
 
   adds : (rests' : Rests) (cut : Option CutReason) → cut_of js ≡ cut → AreRests asset.protocol (h ++ letters_at moment s piece ended ∷ []) rests' cut →
-      AddsTo asset (h ++ letters_at moment s piece ended ∷ []) rests' cut first own old.lines new
+      AddsTo asset past (h ++ letters_at moment s piece ended ∷ []) rests' cut first own old.lines new
   adds rests' cut c r = record {
     more = more;
-    added = (all.does f.judged f.is_cut (knows_over asset own old f.judged f.knows)).of_lines;
-    follows = fed asset h rests first moment s piece bytes ended (over own old) (over (with_lines own more) new) is f units tail are js dropped are_js goes all.client does_apart rests' cut c r;
+    added = (all.does past f.judged f.is_cut (knows_over asset past own old f.judged f.knows)).of_lines;
+    follows = fed asset past h rests first moment s piece bytes ended (over own old) (over (with_lines own more) new) is f units tail are js dropped are_js goes all.client does_apart rests' cut c r;
   }
 
-module _ (asset : Asset) (h : List Element) (rests : Rests) (first own : Option (List (List ℕ))) (moment : ℕ) (s : Side) (piece bytes : List ℕ) (used : ℕ) (old now : State)
-    (is : bytes ≡ rest_of s rests ++ piece) (f : Follows asset h rests None first (over own old)) (a : Along asset moment s bytes used old now) where
+module _ (asset : Asset) (past : RateMoments) (h : List Element) (rests : Rests) (first own : Option (List (List ℕ))) (moment : ℕ) (s : Side) (piece bytes : List ℕ) (used : ℕ) (old now : State)
+    (is : bytes ≡ rest_of s rests ++ piece) (f : Follows asset past h rests None first (over own old)) (a : Along asset moment s bytes used old now) where
   -- the bytes are used up to a proper prefix of a unit
   pub fed_whole : IsPartial (SpellsUnit asset.protocol) (drop used bytes) →
-      AddsTo asset (h ++ bytes_at moment s piece ∷ []) (with_rest s rests (drop used bytes)) None first own old.lines now
+      AddsTo asset past (h ++ bytes_at moment s piece ∷ []) (with_rest s rests (drop used bytes)) None first own old.lines now
   fed_whole partial =
       let left = drop used bytes in
       let are : AreUnits asset.protocol bytes a.units (Left left) = record { starts = a.starts; partial = partial } in
@@ -349,14 +351,14 @@ module _ (asset : Asset) (h : List Element) (rests : Rests) (first own : Option 
       let goes = goes_none a.js a.uncut in
       let r : IsRest asset.protocol (bytes_of s (h ++ bytes_at moment s piece ∷ [])) left = record {
         units = (rest_by asset.protocol h rests s f.are_rests).units ++ a.units;
-        cut = units_apart asset h rests first own moment s piece bytes false old now is f a.units (Left left) are a.js [] are_js goes a.handled;
+        cut = units_apart asset past h rests first own moment s piece bytes false old now is f a.units (Left left) are a.js [] are_js goes a.handled;
       } in
-      adds asset h rests first own moment s piece bytes false old now is f a.units (Left left) are a.js [] are_js goes a.handled
+      adds asset past h rests first own moment s piece bytes false old now is f a.units (Left left) are a.js [] are_js goes a.handled
       (with_rest s rests left) None a.uncut (rests_more asset.protocol h rests s moment piece left false f.are_rests r)
 
   -- or up to an octet that no unit has there
   pub fed_broken : (ended : Bool) (reason : CutReason) → Breaks asset s (drop used bytes) reason →
-      AddsTo asset (h ++ letters_at moment s piece ended ∷ []) (with_rest s rests (drop used bytes)) (Some reason) first own old.lines now
+      AddsTo asset past (h ++ letters_at moment s piece ended ∷ []) (with_rest s rests (drop used bytes)) (Some reason) first own old.lines now
   fed_broken ended reason b =
       let broken = unit_break asset.protocol b.place in
       let j : Judged = judged moment (Broke s broken) (fate.Cuts (cut.Framing s broken)) in
@@ -366,7 +368,7 @@ module _ (asset : Asset) (h : List Element) (rests : Rests) (first own : Option 
       let are_js : map (placed moment) (map (Took s) a.units ++ Broke s broken ∷ []) ≡ map place_of (a.js ++ j ∷ []) ++ [] =
       map-append (placed moment) (map (Took s) a.units) (Broke s broken ∷ []) ∙ ap (λ xs. xs ++ placed moment (Broke s broken) ∷ []) (sym a.are_js)
       ∙ sym (map-append place_of a.js (j ∷ [])) ∙ sym (append-nil (map place_of (a.js ++ j ∷ []))) in
-      adds asset h rests first own moment s piece bytes ended old now is f a.units (Wrong broken) are (a.js ++ j ∷ []) [] are_js
+      adds asset past h rests first own moment s piece bytes ended old now is f a.units (Wrong broken) are (a.js ++ j ∷ []) [] are_js
       (goes_more a.js (j ∷ []) [] a.uncut refl) all
       (with_rest s rests (drop used bytes)) (Some reason) (cut_of-append a.js (j ∷ []) a.uncut ∙ ap Some (sym b.is_reason)) tt
 
@@ -377,7 +379,7 @@ module _ (asset : Asset) (free : IsPrefixFree (SpellsUnit asset.protocol)) (noth
   one = judged moment (Took s m.unit) m.fate
 
   pub fails_apart : FailsApart asset moment s bytes old log part
-  fails_apart h rests first own piece is f =
+  fails_apart past h rests first own piece is f =
       let rest = rest_of s rests in
       let n = used + m.used in
       let units = a.units ++ m.unit ∷ [] in
@@ -400,18 +402,18 @@ module _ (asset : Asset) (free : IsPrefixFree (SpellsUnit asset.protocol)) (noth
       let are_js : map (placed moment) (map (Took s) units ++ []) ≡ map place_of js ++ [] =
       ap (map (placed moment)) (append-nil (map (Took s) units)) ∙ sym (are_more moment s a.units m.unit a.js m.fate a.are_js) ∙ sym (append-nil (map place_of js)) in
       let goes = goes_none js (cut_of-append a.js (one ∷ []) a.uncut ∙ ap (λ c. option_or c None) m.uncut) in
-      let knows = knows_over asset own old f.judged f.knows in
-      let does = a.handled.does f.judged f.is_cut knows in
+      let knows = knows_over asset past own old f.judged f.knows in
+      let does = a.handled.does past f.judged f.is_cut knows in
       let uncut = cut_of-append f.judged a.js f.is_cut ∙ a.uncut in
-      let fated = subst (λ (c : Endpoint). HasFate asset c.address (f.judged ++ a.js) (place_of one) m.fate) a.handled.client (m.has (f.judged ++ a.js) uncut does.knows) in
-      let fates = fates-append asset old.lane.client.address f.judged a.js (one ∷ []) does.fates (fated, tt) in
+      let fated = subst (λ (c : Endpoint). HasFate asset (caller_at c.address past) (f.judged ++ a.js) (place_of one) m.fate) a.handled.client (m.has past (f.judged ++ a.js) uncut does.knows) in
+      let fates = fates-append asset (caller_at old.lane.client.address past) f.judged a.js (one ∷ []) does.fates (fated, tt) in
       let some = lines asset old.lane.client f.judged a.js in
       let every = lines asset old.lane.client f.judged js in
       let more : lines asset old.lane.client (f.judged ++ a.js) (one ∷ []) ≡ m.more =
-      ap (λ c. lines asset c (f.judged ++ a.js) (one ∷ [])) (sym a.handled.client) ∙ m.are_more (f.judged ++ a.js) uncut does.knows in
+      ap (λ c. lines asset c (f.judged ++ a.js) (one ∷ [])) (sym a.handled.client) ∙ m.are_more past (f.judged ++ a.js) uncut does.knows in
       let last : some ++ m.more ≡ every =
       ap (λ xs. some ++ xs) (sym more) ∙ sym (in_turn-append (λ b j. item_lines asset old.lane.client b j j.item) f.judged a.js (one ∷ [])) in
-      let judged_now = judged_by asset h rests first moment s front (take n bytes) false (over own old) whole f units (Left []) are js [] are_js goes fates in
+      let judged_now = judged_by asset past h rests first moment s front (take n bytes) false (over own old) whole f units (Left []) are js [] are_js goes fates in
       elim m.line [
         | inl none ↦ record {
           more = some;
@@ -420,7 +422,7 @@ module _ (asset : Asset) (free : IsPrefixFree (SpellsUnit asset.protocol)) (noth
             handled = front;
             rest = drop k piece;
             piece_is = sym (take-append-drop k piece);
-            began = began_by asset old.lane.client (h ++ bytes_at moment s front ∷ []) first own (with_lines own some) part f.judged js a.js (one ∷ []) none.1.0
+            began = began_by asset past old.lane.client (h ++ bytes_at moment s front ∷ []) first own (with_lines own some) part f.judged js a.js (one ∷ []) none.1.0
                 judged_now refl f.of_lines refl (none.1.1 ∙ ap (λ xs. take none.1.0 (concat xs)) (sym more));
           };
         }
@@ -431,23 +433,23 @@ module _ (asset : Asset) (free : IsPrefixFree (SpellsUnit asset.protocol)) (noth
             handled = front;
             rest = drop k piece;
             piece_is = sym (take-append-drop k piece);
-            began = began_by asset old.lane.client (h ++ bytes_at moment s front ∷ []) first own (with_lines own every) part f.judged js js [] 0
+            began = began_by asset past old.lane.client (h ++ bytes_at moment s front ∷ []) first own (with_lines own every) part f.judged js js [] 0
                 judged_now (sym (append-nil js)) f.of_lines refl all.1;
           };
         }
       ]
 
 -- what holds of lines of its own holds of the whole log
-pub of_whole_log : (asset : Asset) (h : List Element) (rests : Rests) (cut : Option CutReason) (first : Option (List (List ℕ))) (old now : State) →
-    AddsTo asset h rests cut first old.lines old.lines now → Follows asset h rests cut first now
-of_whole_log asset h rests cut first old now a =
-    subst (λ (log : Option (List (List ℕ))). Follows asset h rests cut first (over log now)) (sym a.added) a.follows
+pub of_whole_log : (asset : Asset) (past : RateMoments) (h : List Element) (rests : Rests) (cut : Option CutReason) (first : Option (List (List ℕ))) (old now : State) →
+    AddsTo asset past h rests cut first old.lines old.lines now → Follows asset past h rests cut first now
+of_whole_log asset past h rests cut first old now a =
+    subst (λ (log : Option (List (List ℕ))). Follows asset past h rests cut first (over log now)) (sym a.added) a.follows
 
 pub fails_of_whole : (asset : Asset) (moment : ℕ) (s : Side) (bytes : List ℕ) (old : State) (log : Option (List (List ℕ))) (part : List ℕ) →
     FailsApart asset moment s bytes old log part → FailsWithin asset moment s bytes old log part
-fails_of_whole asset moment s bytes old log part fails h rests first piece is f =
-    let a = fails h rests first old.lines piece is f in
-    subst (λ l. BeganWithin asset old.lane.client h moment s piece first l part) (sym a.added) a.began
+fails_of_whole asset moment s bytes old log part fails past h rests first piece is f =
+    let a = fails past h rests first old.lines piece is f in
+    subst (λ l. BeganWithin asset past old.lane.client h moment s piece first l part) (sym a.added) a.began
 
 -- one more unit in front
 unit_before : (p : Protocol) (u : UnitValue) (n : ℕ) (xs : List ℕ) (us : List UnitValue) (t : Tail) → Begins (SpellsUnit p) xs u n → AreUnits p (drop n xs) us t →
@@ -461,12 +463,12 @@ units_behind p us vs xs rest (Left r) s a = record { starts = starts_join (Spell
 units_behind p us vs xs rest (Wrong w) s a =
     (a.0, record { rest = a.1.rest; starts = starts_join (SpellsUnit p) us vs xs rest a.1.rest s a.1.starts; breaks = a.1.breaks }, a.2)
 
-module _ (asset : Asset) (h : List Element) (rests : Rests) (first own : Option (List (List ℕ))) (moment : ℕ) (s : Side) (piece bytes : List ℕ) (used n : ℕ) (old mid new : State)
-    (is : bytes ≡ rest_of s rests ++ piece) (f : Follows asset h rests None first (over own old)) (a : Along asset moment s bytes used old mid) where
+module _ (asset : Asset) (past : RateMoments) (h : List Element) (rests : Rests) (first own : Option (List (List ℕ))) (moment : ℕ) (s : Side) (piece bytes : List ℕ) (used n : ℕ) (old mid new : State)
+    (is : bytes ≡ rest_of s rests ++ piece) (f : Follows asset past h rests None first (over own old)) (a : Along asset moment s bytes used old mid) where
   -- units up to one that cuts: the bytes after it have units, which are dropped, and so is an End after them
   pub fed_cut : (ended : Bool) (reason : CutReason) → TakesUnit asset moment s (drop used bytes) n (Some reason) mid new →
       ((us : List UnitValue) × (t : Tail) × AreUnits asset.protocol (drop n (drop used bytes)) us t) → (rests' : Rests) →
-      AddsTo asset (h ++ letters_at moment s piece ended ∷ []) rests' (Some reason) first own old.lines new
+      AddsTo asset past (h ++ letters_at moment s piece ended ∷ []) rests' (Some reason) first own old.lines new
   fed_cut ended reason t exists rests' =
       let us = exists.0 in
       let tail = exists.1 in
@@ -483,15 +485,15 @@ module _ (asset : Asset) (h : List Element) (rests : Rests) (first own : Option 
       ∙ sym (append_assoc (map place_of a.js) (placed moment (Took s t.unit) ∷ []) (map (placed moment) behind))
       ∙ ap (λ xs. xs ++ map (placed moment) behind) (sym (map-append place_of a.js (j ∷ []))) in
       let all : Handled asset (a.js ++ j ∷ []) old new = handled_more asset a.js (j ∷ []) old mid new a.uncut a.handled t.handled in
-      adds asset h rests first own moment s piece bytes ended old new is f (a.units ++ t.unit ∷ us) tail are (a.js ++ j ∷ []) (map (placed moment) behind) are_js
+      adds asset past h rests first own moment s piece bytes ended old new is f (a.units ++ t.unit ∷ us) tail are (a.js ++ j ∷ []) (map (placed moment) behind) are_js
       (goes_more a.js (j ∷ []) (map (placed moment) behind) a.uncut (goes_cut (fate_cut t.fate) reason (DropsBehindCut [] (map (placed moment) behind)) t.is_cut))
       all rests' (Some reason) (cut_of-append a.js (j ∷ []) a.uncut ∙ ap (λ c. option_or c None) t.is_cut) tt
 
 -- at first nothing was taken
-pub follows_new : (asset : Asset) → IsPartial (SpellsUnit asset.protocol) [] → (lane : LaneValue) → lane.admitted ≡ 0 → lane.refused ≡ 0 → KnowsRules lane.rules [] → KnowsWire asset lane.wire [] →
+pub follows_new : (asset : Asset) (past : RateMoments) → IsPartial (SpellsUnit asset.protocol) [] → (lane : LaneValue) → lane.admitted ≡ 0 → lane.refused ≡ 0 → KnowsRules past lane.rules [] → KnowsWire asset lane.wire [] →
     (to_client to_controller : Queue) (first : Option (List (List ℕ))) → IsQueueOf to_client no_letters → IsQueueOf to_controller no_letters →
-    Follows asset [] no_rests None first (state lane to_client to_controller first)
-follows_new asset nothing lane admitted refused rules wire to_client to_controller first c s =
+    Follows asset past [] no_rests None first (state lane to_client to_controller first)
+follows_new asset past nothing lane admitted refused rules wire to_client to_controller first c s =
     let r : IsRest asset.protocol [] [] = record { units = []; cut = record { starts = refl; partial = nothing } } in
     record {
       judged = [];

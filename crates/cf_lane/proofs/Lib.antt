@@ -21,6 +21,7 @@ mod Handling
 mod Histories
 mod Holding
 pub mod Judgements
+mod Lasting
 mod LineFeeds
 mod Moments
 mod Pieces

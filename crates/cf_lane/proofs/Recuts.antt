@@ -1,5 +1,6 @@
 -- Laws of histories that are cut in another way.
 -- items of a history and then of what follows it
+use Rattle.cf_lane.specs.Caller.{caller_at}
 use Rattle.cf_audit.specs.declared.line.CutReason.{CutReason}
 use Rattle.cf_lane.proofs.Growth.{items_split}
 use Rattle.cf_lane.proofs.Histories.{bytes_of-append}
@@ -82,15 +83,15 @@ rests_same p h k rests None same a =
 rests_same p h k rests (Some r) same a = tt
 
 pub end_joins : EndJoins
-end_joins asset h rests cut first now m s piece f =
+end_joins asset past h rests cut first now m s piece f =
     let free = free_unit asset.protocol in
     let whole : List ℕ → List Element = λ xs. h ++ letters_at m s xs true ∷ [] in
-    let parts = subst (λ (x : List Element). AreJudged asset now.lane.client.address x f.judged) (append_assoc h (bytes_at m s piece ∷ []) (end_at m s ∷ [])) f.are_judged in
-    let joined = judged_join asset now.lane.client.address h [] m s piece [] true f.judged parts in
+    let parts = subst (λ (x : List Element). AreJudged asset (caller_at now.lane.client.address past) x f.judged) (append_assoc h (bytes_at m s piece ∷ []) (end_at m s ∷ [])) f.are_judged in
+    let joined = judged_join asset (caller_at now.lane.client.address past) h [] m s piece [] true f.judged parts in
     let bytes = λ (t : Side). same_bytes asset.protocol free h m s piece [] true t in
     record {
       judged = f.judged;
-      are_judged = subst (λ xs. AreJudged asset now.lane.client.address (whole xs) f.judged) (append-nil piece) joined;
+      are_judged = subst (λ xs. AreJudged asset (caller_at now.lane.client.address past) (whole xs) f.judged) (append-nil piece) joined;
       is_cut = f.is_cut;
       are_rests = subst (λ xs. AreRests asset.protocol (whole xs) rests cut) (append-nil piece)
           (rests_same asset.protocol ((h ++ bytes_at m s piece ∷ []) ++ end_at m s ∷ []) (whole (piece ++ [])) rests cut bytes f.are_rests);

@@ -1,4 +1,5 @@
 -- The law of growth: what an item puts out is at most twice its octets, and what fragments that were begun may still put out.
+use Rattle.cf_lane.specs.Caller.{Caller}
 use Rattle.cf_lane.specs.Rates.{Says, says_at}
 use Rattle.cf_apci.specs.Apdu.{ApduValue, Info}
 use Rattle.cf_asdu.specs.Mirror.{mirror_octet, mirrored}
@@ -120,7 +121,7 @@ module _ (asset : Asset) (says : Says) (to : Side) (earlier : List Judged) (j : 
   item_grows p (Took s (Frame x)) is of fate = absurd of.1
   item_grows p i is of fate = no_segment 0 (λ t. ap (segment_in asset t) is) (omega (arith, ap (λ i. length (item_output asset to earlier j i)) is))
 
-items_grow : (asset : Asset) (client : ℕ) (to : Side) (p : Protocol) (earlier js : List Judged) → AreItemsOf p (map place_of js) → HaveFates asset client earlier js →
+items_grow : (asset : Asset) (client : Caller) (to : Side) (p : Protocol) (earlier js : List Judged) → AreItemsOf p (map place_of js) → HaveFates asset client earlier js →
     length (in_turn (output asset to) earlier js) + potential asset (earlier ++ js) ≤ potential asset earlier + 2 * weights (map place_of js)
 items_grow asset client to p earlier [] of fates = omega (arith, ap (potential asset) (append-nil earlier))
 items_grow asset client to p earlier (j ∷ js) of fates =

@@ -1,4 +1,5 @@
 -- Laws of one unit, and of what a queue grows by.
+use Rattle.cf_lane.specs.Caller.{RateMoments, caller_at}
 use Rattle.cf_lane.proofs.Earlier.{no_debt}
 use Rattle.cf_lane.proofs.Handling.{adu_handled, push-nothing, with_lines-nothing}
 use Rattle.cf_lane.proofs.Units.{adus, begins_by}
@@ -36,10 +37,10 @@ module _ (asset : Asset) (moment : ℕ) (a : AduValue) (old new : State) (client
   abbrev pub says : Says
   says = says_by asset old.lane.client.address old.lane.rules moment
 
-  pub has_fate : (f : Fate) → HasCommandFate asset says a f → (earlier : List Judged) → KnowsRules old.lane.rules earlier →
-      HasAduFate asset (says_at asset old.lane.client.address earlier moment) side.Client a f
-  has_fate f has earlier know =
-      subst (λ (x : Says). HasCommandFate asset x a f) (says_same asset old.lane.client.address old.lane.rules earlier moment of know) has
+  pub has_fate : (f : Fate) → HasCommandFate asset says a f → (past : RateMoments) (earlier : List Judged) → KnowsRules past old.lane.rules earlier →
+      HasAduFate asset (says_at asset (caller_at old.lane.client.address past) earlier moment) side.Client a f
+  has_fate f has past earlier know =
+      subst (λ (x : Says). HasCommandFate asset x a f) (says_same asset old.lane.client.address past old.lane.rules earlier moment of know) has
 
   -- an admitted command goes on, and nothing else does
   pub takes_admitted : (used : Admission) → old.to_controller.ended ≡ false → HasCommandFate asset says a (fate.Admitted used) →
@@ -133,7 +134,7 @@ module _ (asset : Asset) (modbus : asset.protocol ≡ protocol.Modbus) (moment :
         some_bytes = omega (arith, adu_least a bytes n b);
         fate = fate.Carried;
         is_cut = refl;
-        handled = adu_handled asset moment side.Controller a fate.Carried old new (λ earlier know. refl)
+        handled = adu_handled asset moment side.Controller a fate.Carried old new (λ past earlier know. refl)
             (rules_stay fate.Carried moment old.lane.rules new.lane.rules refl (ap (λ l. l.rules) lane)) (ap (λ l. l.client) lane) (ap (λ l. l.wire) lane)
             (ap (λ l. l.admitted) lane ∙ omega arith) (ap (λ l. l.refused) lane ∙ omega arith)
             c (q ∙ sym (push-nothing old.to_controller)) (t ∙ sym (with_lines-nothing old.lines)) (λ e. cc (e, unended)) (λ e. refl);

@@ -1,4 +1,5 @@
 -- The fate of each item: `HasFate`.
+use Rattle.cf_lane.specs.Caller.{Caller}
 use Rattle.cf_lane.specs.Rates.{Says, says_at}
 use Rattle.cf_lane.specs.Dnp3.{fate_of_frame, stray_of}
 use Rattle.cf_lane.specs.Iec104.{fate_of_apdu}
@@ -11,7 +12,7 @@ use Rattle.cf_policy.specs.Verdict.{IsOneOf}
 use Rattle.cf_policy.specs.declared.Asset.{Asset}
 use Rattle.cf_policy.specs.declared.Rule.{Rule}
 use Rattle.cf_view.specs.declared.Side.{Side}
-use Rattle.std.specs.Prelude.{List, [], ℕ, ◌++◌, ◌∷◌, ◌≡◌}
+use Rattle.std.specs.Prelude.{List, [], ◌++◌, ◌∷◌, ◌≡◌}
 use Rattle.cf_audit.specs.declared.line.CutReason.TheVariants as cut
 use Rattle.cf_lane.specs.declared.fate.Fate.TheVariants as fate
 
@@ -28,11 +29,11 @@ HasItemFate asset says earlier (Ended s rest) f = f ≡ fate.Carried
 HasItemFate asset says earlier (Broke s because) f = f ≡ fate.Cuts (cut.Framing s because)
 
 -- the fate of any item after the earlier ones, by what the policy says at its moment
-abbrev pub HasFate : Asset → ℕ → List Judged → Placed → Fate → Type 0
+abbrev pub HasFate : Asset → Caller → List Judged → Placed → Fate → Type 0
 HasFate asset client earlier p f = HasItemFate asset (says_at asset client earlier p.moment) earlier p.item f
 
 -- each item has its fate after the earlier ones
-abbrev pub HaveFates : Asset → ℕ → (earlier js : List Judged) → Type 0
+abbrev pub HaveFates : Asset → Caller → (earlier js : List Judged) → Type 0
 HaveFates asset client earlier [] = Unit {0}
 HaveFates asset client earlier (j ∷ js) = HasFate asset client earlier (place_of j) j.fate × HaveFates asset client (earlier ++ j ∷ []) js
 

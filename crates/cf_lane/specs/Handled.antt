@@ -1,6 +1,7 @@
 -- Steps of the proof: what a lane does with the units at the front of a side's bytes: `Handled` and `Steps`. Nothing here speaks of a
 -- history: the items before are any items that lane and queues stand for.
 use Rattle.cf_audit.specs.declared.line.CutReason.{CutReason}
+use Rattle.cf_lane.specs.Caller.{RateMoments, caller_at}
 use Rattle.cf_lane.specs.Fate.{HasFate, HaveFates}
 use Rattle.cf_lane.specs.Item.{Item, Took, placed}
 use Rattle.cf_lane.specs.Judged.{Judged, fate_cut, cut_of, has_ended, is_admitted, is_refused, one_if}
@@ -54,19 +55,19 @@ pub record IsLaneOf (asset : Asset) (lane : LaneValue) : Type 0 where
   pub wire : IsWireOf asset.protocol lane.wire
 
 -- what the lane and its queues know of earlier items: the numbers are counts, a queue has ended where the other side has, and
--- the rules that were used are known, and what the lane keeps for its protocol stands for them until one cuts
-pub record Knows (asset : Asset) (s : State) (earlier : List Judged) : Type 0 where
+-- what was used of the rules with a rate is known, and what the lane keeps for its protocol stands for them until one cuts
+pub record Knows (asset : Asset) (before : RateMoments) (s : State) (earlier : List Judged) : Type 0 where
   pub admitted : s.lane.admitted ≡ count_by (λ j. is_admitted j.fate) earlier
   pub refused : s.lane.refused ≡ count_by (λ j. is_refused j.fate) earlier
   pub client_ended : s.to_client.ended ≡ has_ended side.Controller earlier
   pub controller_ended : s.to_controller.ended ≡ has_ended side.Client earlier
-  pub rules : KnowsRules s.lane.rules earlier
+  pub rules : KnowsRules before s.lane.rules earlier
   pub wire : cut_of earlier ≡ None → KnowsWire asset s.lane.wire earlier
 
 -- what judged items do after the earlier ones
-pub record Does (asset : Asset) (earlier js : List Judged) (old new : State) : Type 0 where
-  pub knows : Knows asset new (earlier ++ js)
-  pub fates : HaveFates asset old.lane.client.address earlier js
+pub record Does (asset : Asset) (before : RateMoments) (earlier js : List Judged) (old new : State) : Type 0 where
+  pub knows : Knows asset before new (earlier ++ js)
+  pub fates : HaveFates asset (caller_at old.lane.client.address before) earlier js
   pub of_client : new.to_client ≡ after_push old.to_client (outputs asset side.Client earlier js)
   pub of_controller : new.to_controller ≡ after_push old.to_controller (outputs asset side.Controller earlier js)
   pub of_lines : new.lines ≡ with_lines old.lines (lines asset old.lane.client earlier js)
@@ -74,10 +75,11 @@ pub record Does (asset : Asset) (earlier js : List Judged) (old new : State) : T
   pub client_quiet : old.to_client.ended ≡ true → outputs asset side.Client earlier js ≡ []
   pub controller_quiet : old.to_controller.ended ≡ true → outputs asset side.Controller earlier js ≡ []
 
--- items that were handled, whatever came before them that does not cut
+-- items that were handled, whatever earlier sessions used and whatever came before them that does not cut
 pub record Handled (asset : Asset) (js : List Judged) (old new : State) : Type 0 where
   pub client : new.lane.client ≡ old.lane.client
-  pub does : (earlier : List Judged) → cut_of earlier ≡ None → Knows asset old earlier → Does asset earlier js old new
+  pub does : (before : RateMoments) (earlier : List Judged) → cut_of earlier ≡ None → Knows asset before old earlier
+      → Does asset before earlier js old new
 
 abbrev pub judged : ℕ → Item → Fate → Judged
 judged moment item f = record { moment = moment; item = item; fate = f }
@@ -260,13 +262,13 @@ pub record WritesLog (old new : DeskValue) : Type 0 where
 
 -- an item has these lines, whatever came before it that does not cut
 abbrev pub HasLines : Asset → State → Judged → List (List ℕ) → Type 0
-HasLines asset old j more = (earlier : List Judged) → cut_of earlier ≡ None → Knows asset old earlier
+HasLines asset old j more = (before : RateMoments) (earlier : List Judged) → cut_of earlier ≡ None → Knows asset before old earlier
     → lines asset old.lane.client earlier (j ∷ []) ≡ more
 
 -- a unit has this fate, whatever came before it that does not cut
 abbrev pub IsFated : Asset → ℕ → State → Side → UnitValue → Fate → Type 0
-IsFated asset moment old s unit f = (earlier : List Judged) → cut_of earlier ≡ None → Knows asset old earlier
-    → HasFate asset old.lane.client.address earlier (placed moment (Took s unit)) f
+IsFated asset moment old s unit f = (before : RateMoments) (earlier : List Judged) → cut_of earlier ≡ None → Knows asset before old earlier
+    → HasFate asset (caller_at old.lane.client.address before) earlier (placed moment (Took s unit)) f
 
 -- a command was judged, and the log may have a part of its line or all of it
 pub record MissesCommand (asset : Asset) (moment : ℕ) (a : AduValue) (old : State) (log : Option (List (List ℕ))) (part : List ℕ) : Type 0

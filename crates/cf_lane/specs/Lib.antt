@@ -1,4 +1,5 @@
 pub mod Acts
+pub mod Caller
 pub mod Dnp3
 pub mod Fate
 pub mod Follows
@@ -16,6 +17,7 @@ pub mod Log
 pub mod Modbus
 pub mod Numbers
 pub mod Output
+pub mod Over
 pub mod Passes
 pub mod Rates
 pub mod Renumbered

@@ -15,6 +15,7 @@ use Rattle.cf_lane.specs.Unit.{Adu, Apdu, Frame, apdu_spelling, frame_spelling}
 use Rattle.cf_modbus.specs.Adu.{AduValue, spelling}
 use Rattle.cf_modbus.specs.Request.{Reads, RequestValue}
 use Rattle.cf_policy.specs.Laws.{IsAllowed}
+use Rattle.cf_lane.specs.Caller.{Caller}
 use Rattle.cf_lane.specs.Rates.{Says, says_at}
 use Rattle.cf_policy.specs.declared.Asset.{Asset}
 use Rattle.cf_renumber.specs.Counts.{admitted_stamp, client_translated, owed_ack}
@@ -118,7 +119,7 @@ ItemGoes asset says earlier (Ended s n) Rest out = Leaves [] Rest out
 ItemGoes asset says earlier (Broke s b) Rest out = Leaves [] Rest out
 
 -- what items put there one after the other, after the earlier ones
-abbrev pub Passes : Asset → ℕ → (earlier js : List Judged) → List ℕ → Type 0
+abbrev pub Passes : Asset → Caller → (earlier js : List Judged) → List ℕ → Type 0
 Passes asset client earlier [] out = out ≡ []
 Passes asset client earlier (j ∷ js) out = ItemGoes asset (says_at asset client earlier j.moment) earlier j.item
     (Passes asset client (earlier ++ j ∷ []) js) out

@@ -17,7 +17,7 @@ use Rattle.cf_renumber.specs.Numbers.{IsNumbersOf, NumbersValue}
 use Rattle.cf_renumber.specs.declared.answer.Stamp.{Stamp}
 use Rattle.cf_view.specs.declared.Endpoint.{Endpoint}
 use Rattle.cf_view.specs.declared.Side.{Side}
-use Rattle.std.specs.Prelude.{List, None, Option, Some, [], false, reverse, true, ℕ, ◌++◌, ◌≡◌}
+use Rattle.std.specs.Prelude.{List, None, Option, Some, [], reverse, true, ℕ, ◌++◌, ◌≡◌}
 use Rattle.cf_view.specs.declared.Side.TheVariants as side
 
 -- the numbers with the two queues and the log

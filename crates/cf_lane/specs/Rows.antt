@@ -1,4 +1,5 @@
 -- Beside the proof: worked exchanges, evaluated, a check of the definitions alone: `RowsHold`.
+use Rattle.cf_lane.specs.Caller.{newcomer}
 use Rattle.cf_lane.specs.Rates.{says_at}
 use Rattle.cf_apci.specs.Apdu.{Ack, ApduValue, Control, Info}
 use Rattle.cf_dnplink.specs.Crc.{crc_of}
@@ -65,8 +66,8 @@ dnp3_asset = record {
 
 abbrev pub unit_fate : Asset → List Judged → Side → UnitValue → Fate
 unit_fate asset earlier s (Adu a) = fate.Carried
-unit_fate asset earlier s (Frame x) = fate_of_frame asset (says_at asset 0 earlier 0) s earlier x (stray_of asset s x)
-unit_fate asset earlier s (Apdu a) = fate_of_apdu asset (says_at asset 0 earlier 0) s earlier a
+unit_fate asset earlier s (Frame x) = fate_of_frame asset (says_at asset (newcomer 0) earlier 0) s earlier x (stray_of asset s x)
+unit_fate asset earlier s (Apdu a) = fate_of_apdu asset (says_at asset (newcomer 0) earlier 0) s earlier a
 
 abbrev pub judge_all : Asset → List Judged → List (Side × UnitValue) → List Judged
 judge_all asset earlier [] = []

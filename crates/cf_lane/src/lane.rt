@@ -3,7 +3,7 @@
 //! is written as it is put into its queue, and a queue is emptied behind that. Where a line cannot be written, the log has the
 //! first lines of a history that ends with its unit.
 ghost use Rattle.std.specs.Prelude.{◌≡◌, ℕ, ◌+◌, ◌*◌, ◌^◌, ◌<◌, ◌≤◌, ◌++◌, [], ◌∷◌, Bool, false, true, None, Option, IfOk, OnOk, OnErr};
-ghost use Rattle.std.specs.Prelude.{IsErr, List, length, drop};
+ghost use Rattle.std.specs.Prelude.{IfSome, IsErr, List, length, drop};
 ghost use Rattle.cf_outq.specs.SendQueue.{Queue, IsQueueOf, after_push};
 ghost use Rattle.cf_outside.specs.Faults.{HasCause};
 ghost use Rattle.cf_outside.specs.Desk.{DeskValue};
@@ -17,13 +17,17 @@ ghost use Rattle.cf_lane.specs.Handled.{EndsOther, WritesLog, cut_in, debt, lett
 ghost use Rattle.cf_lane.specs.Handled.{rest_limit};
 ghost use Rattle.cf_lane.specs.History.{Element, letters_at, end_at};
 ghost use Rattle.cf_lane.specs.Judged.{Judged, fate_cut, is_admitted, is_refused, one_if};
-ghost use Rattle.cf_lane.specs.Rings.{RulesGoOn};
+ghost use Rattle.cf_lane.specs.Rings.{AreRingsOf, IsLeft, KnowRings, KnowsRules, RulesGoOn};
+ghost use Rattle.cf_lane.specs.Caller.{RateMoments};
+ghost use Rattle.cf_lane.specs.Rates.{used_at};
+ghost use Rattle.cf_policy.specs.declared.Asset.{Asset};
 ghost use Rattle.cf_lane.specs.Kept.{KnowsWire};
 ghost use Rattle.cf_lane.specs.Log.{has_unfinished};
 
 use crate::fate::{Admission, Fate};
 use crate::iec104::take_apdu_at_front;
 use crate::log::log_end;
+use crate::rings::Rings;
 use crate::rules::Rules;
 use crate::wire::Wire;
 use cf_audit::CutReason;
@@ -79,20 +83,26 @@ pub(crate) enum Step {
 }
 
 impl Lane {
-    /// A lane of a session between this client and the asset. Each later call is handed the same asset. All its memory is
-    /// taken here, and none afterwards.
+    /// A lane of a session between this client and the asset, after what its earlier sessions left. Each later call is handed the
+    /// same asset. All its memory is taken here, and none afterwards.
     ///
     /// `NoMemory`: it could not be had.
-    pub fn new(alloc: Global, asset: &Asset, client: Endpoint) -> Result<Lane, NoMemory>
+    pub fn new(
+        alloc: Global,
+        asset: &Asset,
+        client: Endpoint,
+        left: Option<Rings>,
+    ) -> Result<Lane, NoMemory>
         requires within { IsAssetWithin asset.now }
+        requires left { IfSome left (AreRingsOf asset.now) }
         ensures client { IfOk result (λ lane. LaneValue.client lane ≡ client) }
         ensures counts { IfOk result (λ lane. (LaneValue.admitted lane ≡ 0) × (LaneValue.refused lane ≡ 0) × (debt lane ≡ 0)) }
         ensures of_asset { IfOk result (λ lane. IsLaneOf asset.now lane) }
-        ensures follows { IfOk result (λ lane. (to_client to_controller : Queue) (first : Option (List (List ℕ)))
-            → IsQueueOf to_client no_letters → IsQueueOf to_controller no_letters
-            → Follows asset.now [] no_rests None first (state lane to_client to_controller first)) }
+        ensures follows { IfOk result (λ lane. (before : RateMoments) (to_client to_controller : Queue) (first : Option (List (List ℕ)))
+            → IsLeft left before → IsQueueOf to_client no_letters → IsQueueOf to_controller no_letters
+            → Follows asset.now before [] no_rests None first (state lane to_client to_controller first)) }
     {
-        let rules = Rules::new(alloc, asset, client.address)?;
+        let rules = Rules::new(alloc, asset, client.address, left)?;
         let wire = Wire::new(alloc, &asset.protocol)?;
         Ok(Lane {
             client,
@@ -124,20 +134,22 @@ impl Lane {
         requires controller_room { HasRoom (debt self.old + 2 * length bytes.bytes) to_controller.old }
         requires counts { self.old.admitted + self.old.refused + length bytes.bytes < 2 ^ 64 }
         ensures used { IfOk result (λ fed. fed.used ≤ length bytes.entry.bytes) }
-        ensures history { IfOk result (λ fed. (h : List Element) (rests : Rests) (first : Option (List (List ℕ))) (piece : List ℕ)
-            (ended : Bool)
+        ensures history { IfOk result (λ fed. (before : RateMoments) (h : List Element) (rests : Rests) (first : Option (List (List ℕ)))
+            (piece : List ℕ) (ended : Bool)
             → IsEndBehindCut ended fed.cut
             → bytes.entry.bytes ≡ rest_of side rests ++ piece
-            → Follows asset.now h rests None first (state self.old to_client.old to_controller.old (DeskValue.lines (D.value desk.old)))
-            → Follows asset.now (h ++ letters_at moment side piece ended ∷ []) (with_rest side rests (drop fed.used bytes.entry.bytes))
-            fed.cut first (state self.new to_client.new to_controller.new (DeskValue.lines (D.value desk.new)))) }
-        ensures apart { IfOk result (λ fed. (h : List Element) (rests : Rests) (first own : Option (List (List ℕ))) (piece : List ℕ)
-            (ended : Bool)
+            → Follows asset.now before h rests None first
+            (state self.old to_client.old to_controller.old (DeskValue.lines (D.value desk.old)))
+            → Follows asset.now before (h ++ letters_at moment side piece ended ∷ [])
+            (with_rest side rests (drop fed.used bytes.entry.bytes)) fed.cut first
+            (state self.new to_client.new to_controller.new (DeskValue.lines (D.value desk.new)))) }
+        ensures apart { IfOk result (λ fed. (before : RateMoments) (h : List Element) (rests : Rests) (first own : Option (List (List ℕ)))
+            (piece : List ℕ) (ended : Bool)
             → IsEndBehindCut ended fed.cut
             → bytes.entry.bytes ≡ rest_of side rests ++ piece
-            → Follows asset.now h rests None first (state self.old to_client.old to_controller.old own)
-            → AddsTo asset.now (h ++ letters_at moment side piece ended ∷ []) (with_rest side rests (drop fed.used bytes.entry.bytes))
-            fed.cut first own (DeskValue.lines (D.value desk.old))
+            → Follows asset.now before h rests None first (state self.old to_client.old to_controller.old own)
+            → AddsTo asset.now before (h ++ letters_at moment side piece ended ∷ [])
+            (with_rest side rests (drop fed.used bytes.entry.bytes)) fed.cut first own (DeskValue.lines (D.value desk.old))
             (state self.new to_client.new to_controller.new (DeskValue.lines (D.value desk.new)))) }
         ensures fails { OnErr result (FailsWithin asset.now moment side bytes.entry.bytes
             (state self.old to_client.old to_controller.old (DeskValue.lines (D.value desk.old)))
@@ -197,25 +209,27 @@ impl Lane {
         requires whole { DeskValue.whole (D.value desk.old) ≡ true }
         requires open { IsOpen side to_client.old to_controller.old }
         requires limit { MayEnd side to_client.old to_controller.old }
-        ensures history { OnOk result ((h : List Element) (rests : Rests) (first : Option (List (List ℕ)))
+        ensures history { OnOk result ((before : RateMoments) (h : List Element) (rests : Rests) (first : Option (List (List ℕ)))
             → rest ≡ length (rest_of side rests)
-            → Follows asset.now h rests None first (state self.old to_client.old to_controller.old (DeskValue.lines (D.value desk.old)))
-            → Follows asset.now (h ++ end_at moment side ∷ []) rests None first
+            → Follows asset.now before h rests None first
+            (state self.old to_client.old to_controller.old (DeskValue.lines (D.value desk.old)))
+            → Follows asset.now before (h ++ end_at moment side ∷ []) rests None first
             (state self.new to_client.new to_controller.new (DeskValue.lines (D.value desk.new)))) }
-        ensures apart { OnOk result ((h : List Element) (rests : Rests) (first own : Option (List (List ℕ)))
+        ensures apart { OnOk result ((before : RateMoments) (h : List Element) (rests : Rests) (first own : Option (List (List ℕ)))
             → rest ≡ length (rest_of side rests)
-            → Follows asset.now h rests None first (state self.old to_client.old to_controller.old own)
-            → AddsTo asset.now (h ++ end_at moment side ∷ []) rests None first own
+            → Follows asset.now before h rests None first (state self.old to_client.old to_controller.old own)
+            → AddsTo asset.now before (h ++ end_at moment side ∷ []) rests None first own
             (DeskValue.lines (D.value desk.old)) (state self.new to_client.new to_controller.new (DeskValue.lines (D.value desk.new)))) }
-        ensures fails { OnErr result ((h : List Element) (rests : Rests) (first : Option (List (List ℕ)))
+        ensures fails { OnErr result ((before : RateMoments) (h : List Element) (rests : Rests) (first : Option (List (List ℕ)))
             → rest ≡ length (rest_of side rests)
-            → Follows asset.now h rests None first (state self.old to_client.old to_controller.old (DeskValue.lines (D.value desk.old)))
-            → Began asset.now self.old.client (h ++ end_at moment side ∷ []) first
+            → Follows asset.now before h rests None first
+            (state self.old to_client.old to_controller.old (DeskValue.lines (D.value desk.old)))
+            → Began asset.now before self.old.client (h ++ end_at moment side ∷ []) first
             (DeskValue.lines (D.value desk.new)) (DeskValue.line_part (D.value desk.new))) }
-        ensures fails_apart { OnErr result ((h : List Element) (rests : Rests) (first own : Option (List (List ℕ)))
+        ensures fails_apart { OnErr result ((before : RateMoments) (h : List Element) (rests : Rests) (first own : Option (List (List ℕ)))
             → rest ≡ length (rest_of side rests)
-            → Follows asset.now h rests None first (state self.old to_client.old to_controller.old own)
-            → BeganApart asset.now self.old.client (h ++ end_at moment side ∷ []) first own (DeskValue.lines (D.value desk.old))
+            → Follows asset.now before h rests None first (state self.old to_client.old to_controller.old own)
+            → BeganApart asset.now before self.old.client (h ++ end_at moment side ∷ []) first own (DeskValue.lines (D.value desk.old))
             (DeskValue.lines (D.value desk.new)) (DeskValue.line_part (D.value desk.new))) }
         ensures queues { OnOk result (EndsOther side to_client.old to_controller.old to_client.new to_controller.new) }
         ensures lane { self.new ≡ self.old }
@@ -227,6 +241,17 @@ impl Lane {
         log_end(asset, &self.client, moment, side, unfinished, rest, desk)?;
         end_other(side, to_client, to_controller);
         Ok(())
+    }
+
+    /// The rings that the session leaves, as it ends, to a later one of its client.
+    pub fn into_rings(self) -> Rings
+        ensures of_asset { (asset : Asset) → IsLaneOf asset self → AreRingsOf asset result }
+        ensures know { (before : RateMoments) (judged : List Judged) → KnowsRules before (LaneValue.rules self) judged
+            → KnowRings result (used_at before judged) }
+    {
+        Rings {
+            rings: self.rules.rings,
+        }
     }
 
     /// How many commands were admitted.

@@ -1,6 +1,6 @@
 //! Laws of the items of histories: each is the contract of a function that does nothing.
 ghost use Rattle.cf_lane.specs.Laws.{EndJoins, GrowsLittle, HasOneJudgement, JudgedJoin, JudgementsGoOn, LanePassesAllowed, NothingTaken};
-ghost use Rattle.cf_lane.specs.Laws.{PiecesJoin, QuietBehindEnd, RatesHold, StreamsGoOn, UnitsArePrefixFree};
+ghost use Rattle.cf_lane.specs.Laws.{PiecesJoin, QuietBehindEnd, RatesHold, RatesLast, StreamsGoOn, UnitsArePrefixFree};
 
 use cf_modbus::each_pdu_has_an_answer;
 
@@ -46,7 +46,12 @@ pub fn lane_passes_allowed()
     ensures { LanePassesAllowed }
 {}
 
-/// No rule lets more commands of a session through than its rate, at any moment.
+/// No rule lets more commands of a session through than its rate, at any moment, those of earlier sessions of its client counted.
 pub fn rates_hold()
     ensures { RatesHold }
+{}
+
+/// No rule lets more commands of all sessions of a client through than its rate, where one session comes after the other.
+pub fn rates_last()
+    ensures { RatesLast }
 {}

@@ -10,6 +10,7 @@ mod limit;
 mod log;
 mod modbus;
 mod ring;
+mod rings;
 mod rows;
 mod rules;
 mod run;
@@ -21,8 +22,9 @@ pub use iec104::kind_of;
 pub use lane::{Fed, Lane};
 pub use laws::{
     grows_little, has_one_judgement, judgements_go_on, lane_passes_allowed, pieces_join,
-    rates_hold, streams_go_on,
+    rates_hold, rates_last, streams_go_on,
 };
 pub use limit::{LETTER_LIMIT, Lengths, limit_cut};
 pub use log::put_line;
+pub use rings::Rings;
 pub use rows::rows_hold;

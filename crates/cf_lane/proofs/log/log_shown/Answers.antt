@@ -1,7 +1,6 @@
 use Rattle.std.proofs.Common.{ap, refl, ◌∙◌}
 use Rattle.std.specs.List.{list_all}
 use Rattle.cf_policy.specs.Names.{is_name_byte}
-use Rattle.cf_policy.specs.declared.Decider.TheVariants as decider
 use Rattle.cf_lane.proofs.LineFeeds.{asset_plain, rule_plain}
 use Rattle.std.specs.Prelude.{slice_get}
 use Rattle.cf_lane.proofs.log.log_shown.Goals as goal

@@ -7,10 +7,10 @@ use Rattle.cf_lane.proofs.Ends.{end_apart, end_fails, end_fails_apart, follows_e
 use Rattle.cf_lane.proofs.lane.Lane.ended.Goals as goal
 
 pub returns-clause-history : goal.returns-clause-history
-returns-clause-history g c = λ h rests first is f.
+returns-clause-history g c = λ past h rests first is f.
     (let text = DeskValue.lines (g.D.Desk.value c.args.desk.now) in
     let unfinished = c.has_unfinished-unfinished.result in
-    follows_end c.args.asset.now unfinished h rests first c.args.moment c.args.side c.args.rest _ _ (λ earlier knows. c.has_unfinished-unfinished.ensures c.args.asset.now earlier c.requires.of_asset knows)
+    follows_end c.args.asset.now past unfinished h rests first c.args.moment c.args.side c.args.rest _ _ (λ earlier knows. c.has_unfinished-unfinished.ensures c.args.asset.now earlier c.requires.of_asset knows)
     is f c.requires.«open» refl c.end_other.ensures
     (c.in_ok-log_end.ensures.lines ∙ ap (λ (l : LaneValue). with_lines text (end_lines c.args.asset.now l.client c.args.moment c.args.side unfinished c.args.rest)) c.self.view_is))
 

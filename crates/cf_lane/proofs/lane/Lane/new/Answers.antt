@@ -4,4 +4,6 @@ use Rattle.cf_lane.proofs.Units.{nothing_unit}
 use Rattle.cf_lane.proofs.lane.Lane.new.Goals as goal
 
 pub returns-clause-follows : goal.returns-clause-follows
-returns-clause-follows c = follows_new c.args.asset.now (nothing_unit c.args.asset.now.protocol) _ refl refl c.in_ok-rules.ensures.knows (c.in_ok-wire.ensures.knows c.args.asset.now)
+returns-clause-follows c = λ before to_client to_controller first left.
+    follows_new c.args.asset.now before (nothing_unit c.args.asset.now.protocol) _ refl refl (c.in_ok-rules.ensures.knows before left) (c.in_ok-wire.ensures.knows c.args.asset.now)
+    to_client to_controller first

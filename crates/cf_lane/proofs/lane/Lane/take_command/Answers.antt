@@ -1,4 +1,4 @@
-use Rattle.std.proofs.Common.{◌≡◌, ◌∷◌, [], ◌+◌, refl, sym, ap, ◌∙◌, subst}
+use Rattle.std.proofs.Common.{◌≡◌, ◌∷◌, [], refl, sym, ap, ◌∙◌, subst}
 use Rattle.cf_modbus.specs.Adu.{adu_value, spelling}
 use Rattle.cf_outq.specs.SendQueue.{after_push}
 use Rattle.cf_outside.specs.Desk.{DeskValue}

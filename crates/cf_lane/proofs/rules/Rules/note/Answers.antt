@@ -1,4 +1,5 @@
 use Rattle.std.proofs.Common.{rules, map, ◌≡◌, ◌++◌, ◌∷◌, [], refl, subst, sym, ap, ◌∙◌, List, length}
+use Rattle.cf_lane.specs.Rates.{used_at}
 use Rattle.cf_lane.specs.Ring.{RingValue, ring_rate}
 use Rattle.cf_lane.specs.Rings.{AreNoted, KnowRings}
 use Rattle.cf_lane.proofs.Rated.{rings_go_on, rates_go_on, whole_written}
@@ -15,5 +16,6 @@ returns c =
     record {
       index = refl;
       rings = ap (map ring_rate) whole ∙ rates_go_on used c.args.moment old new noted;
-      know = λ earlier j f at know. subst (λ rings. KnowRings rings (earlier ++ j ∷ [])) (sym whole) (rings_go_on c.args.admission.now c.args.moment old new noted earlier j f at know);
+      know = λ past earlier j f at know. subst (λ rings. KnowRings rings (used_at past (earlier ++ j ∷ []))) (sym whole)
+          (rings_go_on c.args.admission.now c.args.moment old new noted past earlier j f at know);
     }

@@ -1,5 +1,5 @@
 use Rattle.cf_lane.specs.Rings.{says_by}
-use Rattle.std.proofs.Common.{List, [], ap, arith, length, refl, subst, sym, ℕ, ◌+◌, ◌<◌, ◌∙◌, ◌∷◌, ◌≡◌, ◌≤◌}
+use Rattle.std.proofs.Common.{List, [], ap, arith, length, subst, sym, ℕ, ◌+◌, ◌<◌, ◌∙◌, ◌∷◌, ◌≡◌, ◌≤◌}
 use Rattle.cf_audit.specs.declared.line.Why.TheVariants as why
 use Rattle.cf_dnptrans.specs.declared.assembly.SegmentAnswer.TheVariants as answers
 use Rattle.cf_lane.proofs.Dnp3Segments.{fate_long, fate_short, misses_admitted, misses_quietly, misses_reply, recut_grows, recut_room, sends_one, stray_fragment, takes_admitted}

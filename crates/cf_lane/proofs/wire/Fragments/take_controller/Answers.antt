@@ -1,5 +1,5 @@
 use Rattle.cf_lane.specs.Rates.{Says}
-use Rattle.std.proofs.Common.{[], ap, arith, length, refl, ◌+◌, ◌<◌, ◌∷◌}
+use Rattle.std.proofs.Common.{[], ap, arith, length, ◌+◌, ◌<◌, ◌∷◌}
 use Rattle.cf_audit.specs.declared.line.Why.TheVariants as why
 use Rattle.cf_dnptrans.specs.declared.assembly.SegmentAnswer.TheVariants as answers
 use Rattle.cf_lane.proofs.Dnp3Segments.{fate_short, misses_quietly, recut_grows, recut_room, stray_fragment}
