@@ -1,5 +1,5 @@
 //! What becomes of a command, and of an item of a stream.
-ghost use Rattle.std.specs.Prelude.{◌≡◌, ◌<◌, ◌≤◌, List, ℕ, length};
+ghost use Rattle.std.specs.Prelude.{◌≡◌, ◌<◌, ◌≤◌, List, ℕ, false, length, replicate};
 ghost use Rattle.std.specs.Option.{option_or};
 ghost use Rattle.cf_modbus.specs.Acts.{acts};
 ghost use Rattle.cf_modbus.specs.Adu.{adu_value};
@@ -65,6 +65,7 @@ pub enum Fate {
 }
 
 /// What becomes of a command.
+#[derive(Clone, Copy)]
 pub(crate) enum Judgement {
     /// It goes on.
     Admitted(Admission),
@@ -92,10 +93,7 @@ pub(crate) fn judge(asset: &Asset, rules: &Rules, moment: u64, adu: &Adu<'_>) ->
             return judge_acts(asset, rules, moment, 1, |_| act);
         }
         return match rules.index.verdict(asset, &act) {
-            Verdict::Allow(number) => Judgement::Admitted(Admission {
-                used: [false; MOST_RATED],
-                shown: shown_by(asset, &act, number),
-            }),
+            Verdict::Allow(number) => admitted_by(asset, &act, number),
             Verdict::Refuse(decider, reason) => Judgement::Refused(Refusal {
                 decider,
                 reason,
@@ -104,6 +102,28 @@ pub(crate) fn judge(asset: &Asset, rules: &Rules, moment: u64, adu: &Adu<'_>) ->
         };
     }
     judge_form(asset, rules, moment, adu)
+}
+
+/// What is known of a command of one act where no rule has a rate. Without a log nothing is put aside.
+#[inline(always)]
+fn admitted_by(asset: &Asset, act: &Act, number: usize) -> Judgement
+    ensures admitted { result ≡ Judgement.Admitted (record
+        { used = replicate most_rated false; shown = shown_by asset.now.rules act.now (Verdict.Allow number) }) }
+    ensures decider { HasOwnDecider asset.now.rules (fate_of_judgement result) }
+{
+    if !is_logged(asset.rules.as_slice(), number) {
+        return Judgement::Admitted(Admission {
+            used: [false; MOST_RATED],
+            shown: None,
+        });
+    }
+    Judgement::Admitted(Admission {
+        used: [false; MOST_RATED],
+        shown: Some(Shown {
+            rule: number,
+            act: *act,
+        }),
+    })
 }
 
 /// What becomes of an ADU for the asset's station, by its form and its acts.

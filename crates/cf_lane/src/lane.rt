@@ -2,7 +2,7 @@
 //! A broken octet is the last item of its side: what comes later, an End too, completes nothing. The line of an admitted command
 //! is written as it is put into its queue, and a queue is emptied behind that. Where a line cannot be written, the log has the
 //! first lines of a history that ends with its unit.
-ghost use Rattle.std.specs.Prelude.{◌≡◌, ℕ, ◌+◌, ◌*◌, ◌^◌, ◌<◌, ◌≤◌, ◌++◌, [], ◌∷◌, Bool, false, true, None, Option, IfOk, OnOk, OnErr};
+ghost use Rattle.std.specs.Prelude.{◌≡◌, ◌≢◌, ℕ, ◌+◌, ◌*◌, ◌^◌, ◌<◌, ◌≤◌, ◌++◌, [], ◌∷◌, Bool, false, true, None, Option, IfOk, OnOk, OnErr};
 ghost use Rattle.std.specs.Prelude.{IfSome, IsErr, List, length, drop};
 ghost use Rattle.cf_outq.specs.SendQueue.{Queue, IsQueueOf, after_push};
 ghost use Rattle.cf_outside.specs.Faults.{HasCause};
@@ -269,7 +269,7 @@ impl Lane {
     }
 
     /// Handles the unit at the front of a side's bytes. An ADU of Modbus is handled in place, as they are small and many, and the
-    /// units of the other protocols by calls.
+    /// units of the other protocols by a call.
     #[inline(always)]
     fn step<D: Desk>(
         &mut self,
@@ -304,10 +304,54 @@ impl Lane {
         ensures log { WritesLog (D.value desk.old) (D.value desk.new) }
         ensures cause { HasCause (DeskValue.faults (D.value desk.old)) (DeskValue.faults (D.value desk.new)) (IsErr result) }
     {
-        match &mut self.wire {
+        match &self.wire {
             Wire::Modbus => {
                 self.step_modbus(asset, moment, side, bytes, to_client, to_controller, desk)
             }
+            Wire::Dnp3(_) | Wire::Iec104(_) => {
+                self.step_by_call(asset, moment, side, bytes, to_client, to_controller, desk)
+            }
+        }
+    }
+
+    /// Handles the unit at the front of a side's bytes, which is none of Modbus: what it leads to takes room that is cleared at each call.
+    #[inline(never)]
+    fn step_by_call<D: Desk>(
+        &mut self,
+        asset: &Asset,
+        moment: u64,
+        side: Side,
+        bytes: &View<'_>,
+        to_client: &mut Outq,
+        to_controller: &mut Outq,
+        desk: &mut D,
+    ) -> Result<Step, WriteFault>
+        requires by_call { self.old.wire ≢ Wire.Modbus }
+        requires of_asset { IsLaneOf asset.now self.old }
+        requires within { IsAssetWithin asset.now }
+        requires whole { DeskValue.whole (D.value desk.old) ≡ true }
+        requires open { IsOpen side to_client.old to_controller.old }
+        requires client_room { HasRoom (debt self.old + 2 * length bytes.now.bytes) to_client.old }
+        requires controller_room { HasRoom (debt self.old + 2 * length bytes.now.bytes) to_controller.old }
+        requires counts { self.old.admitted + self.old.refused + length bytes.now.bytes < 2 ^ 64 }
+        ensures steps { IfOk result (λ s. Steps asset.now moment side bytes.now.bytes
+            (state self.old to_client.old to_controller.old (DeskValue.lines (D.value desk.old)))
+            (state self.new to_client.new to_controller.new (DeskValue.lines (D.value desk.new))) s) }
+        ensures misses { OnErr result (Misses asset.now moment side bytes.now.bytes
+            (state self.old to_client.old to_controller.old (DeskValue.lines (D.value desk.old)))
+            (DeskValue.lines (D.value desk.new)) (DeskValue.line_part (D.value desk.new))) }
+        ensures of_asset { OnOk result (IsLaneOf asset.now self.new) }
+        ensures client_grows { IfOk result (λ s. Grows (2 * letters_in s) (debt self.old) (debt self.new) to_client.old to_client.new) }
+        ensures controller_grows { IfOk result (λ s. Grows (2 * letters_in s) (debt self.old) (debt self.new) to_controller.old
+            to_controller.new) }
+        ensures counts { IfOk result (λ s. CountsBy (letters_in s) self.old self.new) }
+        ensures inside { IfOk result (λ s. letters_in s ≤ length bytes.now.bytes) }
+        ensures whole { OnOk result (DeskValue.whole (D.value desk.new) ≡ true) }
+        ensures log { WritesLog (D.value desk.old) (D.value desk.new) }
+        ensures cause { HasCause (DeskValue.faults (D.value desk.old)) (DeskValue.faults (D.value desk.new)) (IsErr result) }
+    {
+        match &mut self.wire {
+            Wire::Modbus => unreachable!(),
             Wire::Dnp3(fragments) => {
                 let front = fragments.take_frame_at_front(
                     asset,

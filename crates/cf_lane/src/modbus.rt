@@ -118,16 +118,16 @@ impl Lane {
         ensures log { WritesLog (D.value desk.old) (D.value desk.new) }
         ensures cause { HasCause (DeskValue.faults (D.value desk.old)) (DeskValue.faults (D.value desk.new)) (IsErr result) }
     {
-        match judge(asset, &self.rules, moment, adu) {
+        match &judge(asset, &self.rules, moment, adu) {
             Judgement::Admitted(admission) => {
                 push_octets(&octets, to_controller);
-                self.admit(&admission, moment);
-                log_admission(asset, &self.client, moment, &admission, octets, desk)?;
+                self.admit(admission, moment);
+                log_admission(asset, &self.client, moment, admission, octets, desk)?;
                 Ok(())
             }
             Judgement::Refused(refusal) => {
-                let replied = reply(adu, &refusal, to_client);
-                log_refusal(asset, &self.client, moment, &refusal, replied, octets, desk)?;
+                let replied = reply(adu, refusal, to_client);
+                log_refusal(asset, &self.client, moment, refusal, replied, octets, desk)?;
                 self.refuse();
                 Ok(())
             }

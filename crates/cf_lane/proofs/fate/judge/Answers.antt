@@ -5,6 +5,7 @@ use Rattle.cf_lane.specs.Acts.{by_refusal, fate_of_acts, refusal_or, shown_by}
 use Rattle.cf_lane.proofs.ActsShown.{or_none}
 use Rattle.std.specs.Option.{option_or}
 use Rattle.cf_policy.specs.declared.Verdict.TheVariants as verdict
+use Rattle.cf_lane.specs.Judgement.{fate_of_judgement}
 use Rattle.cf_lane.specs.Rings.{says_by}
 use Rattle.cf_lane.specs.Modbus.{of_its_acts}
 use Rattle.cf_lane.proofs.Unrated.{fate_without_rates}
@@ -22,7 +23,8 @@ returns-in-Allow-clause-fate c = λ client is.
     (let station : c.args.adu.now.unit ≡ c.args.asset.now.station = cc in
     let rings = c.args.rules.now.rings in
     let no_ring : length rings.items ≡ 0 = omega (arith, rings.ok.0, eqb-true (vec_len rings) 0 (sym c.if-not-is_empty.ensures)) in
-    let one = ap (λ x. by_refusal (record { used = replicate 16 false; shown = x }) None) (c.shown_by.ensures ∙ sym (or_none (shown_by c.args.asset.now.rules c.in-Some.act (verdict.Allow c.in-Allow.number))))
+    let one = ap fate_of_judgement c.admitted_by.ensures.admitted
+    ∙ ap (λ x. by_refusal (record { used = replicate 16 false; shown = x }) None) (sym (or_none (shown_by c.args.asset.now.rules c.in-Some.act (verdict.Allow c.in-Allow.number))))
     ∙ ap (λ v. by_refusal (record { used = replicate 16 false; shown = option_or (shown_by c.args.asset.now.rules c.in-Some.act v) None }) (refusal_or c.in-Some.act v None)) (c.in-Allow.ensures.decides client is.index)
     ∙ fate_without_rates c.args.asset.now client c.args.rules.now c.args.moment (c.in-Some.act ∷ []) is no_ring in
     of_its_acts station c.in-Some.ensures.0 c.in-Some.ensures.1

@@ -3,7 +3,7 @@ use Rattle.cf_outside.specs.Desk.{DeskValue}
 use Rattle.cf_lane.proofs.Fronts.{counted_most, counts_counted, dnp3_wire, fronts_in, grows_counted, grows_in, iec104_wire, inside_counted, is_dnp3, is_iec104, lane_counted, lane_in, lane_of, steps_counted, wire_in}
 use Rattle.cf_lane.specs.Handled.{LaneValue, outlets}
 use Rattle.cf_lane.specs.declared.wire.Wire.TheVariants as wire
-use Rattle.cf_lane.proofs.lane.Lane.step.Goals as goal
+use Rattle.cf_lane.proofs.lane.Lane.step_by_call.Goals as goal
 
 pub count_front-requires-clause-counts : goal.count_front-requires-clause-counts
 count_front-requires-clause-counts g c =
