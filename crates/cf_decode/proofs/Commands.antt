@@ -1,4 +1,5 @@
 -- Exactly the allowed commands are admitted.
+use Rattle.cf_lane.specs.Caller.{Caller}
 use Rattle.cf_lane.specs.Rates.{Says, says_at}
 use Rattle.cf_apci.specs.Apdu.{Ack, ApduValue, Control, Info}
 use Rattle.cf_asdu.specs.Asdu.{first_refusal, refusal_reason, station_of}
@@ -169,7 +170,7 @@ module _ (asset : Asset) (says : Says) where
   by_item earlier (Took side.Controller (Apdu a)) f has = subst (Decides []) (sym has) (by_controllers_apdu earlier a)
   by_item earlier _ f has = subst (Decides []) (sym has) (refl, refl)
 
-module _ (asset : Asset) (client : ℕ) where
+module _ (asset : Asset) (client : Caller) where
   -- the fate of the item after earlier ones
   fate_behind : (before earlier later : List Judged) (j : Judged) → HaveFates asset client before (earlier ++ j ∷ later) → HasFate asset client (before ++ earlier) (place_of j) j.fate
   fate_behind before [] later j fates = subst (λ b. HasFate asset client b (place_of j) j.fate) (sym (append-nil before)) fates.0

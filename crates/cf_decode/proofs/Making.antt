@@ -1,4 +1,5 @@
 -- What a receiver makes of the first units of what goes to the controller.
+use Rattle.cf_lane.specs.Caller.{Caller}
 use Rattle.cf_decode.proofs.Decoding.{Decoded, decodes}
 use Rattle.cf_decode.proofs.Right.{AreRight, passed_right, units_right}
 use Rattle.cf_decode.proofs.Spelled.{spellings, stream_is_spelled}
@@ -262,7 +263,7 @@ module _ (asset : Asset) (law : PutsTogether) where
   next_part start (i ∷ later) some behind rest b n = within start i some b.0 b.1 rest b.2 b.3 (subst (λ us. IsOfNext unit_spelling us rest) b.4 n)
 
 -- the units of any beginning of the stream
-module _ (free : UnitsArePrefixFree) (asset : Asset) (client : ℕ) (h : List Element) (js : List Judged) (bytes more : List ℕ) (a : AreJudged asset client h js)
+module _ (free : UnitsArePrefixFree) (asset : Asset) (client : Caller) (h : List Element) (js : List Judged) (bytes more : List ℕ) (a : AreJudged asset client h js)
     (front : outputs asset side.Controller [] js ≡ bytes ++ more) where
   abbrev sent : List UnitValue
   sent = units_from asset 0 (passed asset js)

@@ -1,4 +1,5 @@
 -- What goes to the controller is right: units are spelled, and fragments have 2 to 2,048 octets.
+use Rattle.cf_lane.specs.Caller.{Caller}
 use Rattle.cf_lane.specs.Rates.{Says, says_at}
 use Rattle.cf_apci.specs.Apdu.{Ack, ApduValue, Control, Info}
 use Rattle.cf_audit.specs.declared.line.Why.{Why}
@@ -205,7 +206,7 @@ module _ (asset : Asset) where
   abbrev put : List Judged → Judged → List Passed
   put before j = passed_by asset before j j.item
 
-  right_from : (client : ℕ) (earlier js : List Judged) → AllByRecursion IsOctets (lane_segments asset side.Client earlier) → AreItemsOf asset.protocol (map place_of js) →
+  right_from : (client : Caller) (earlier js : List Judged) → AllByRecursion IsOctets (lane_segments asset side.Client earlier) → AreItemsOf asset.protocol (map place_of js) →
       HaveFates asset client earlier js → AreRight (in_turn put earlier js)
   right_from client earlier [] all of fates = tt
   right_from client earlier (j ∷ js) all of fates =
@@ -214,7 +215,7 @@ module _ (asset : Asset) where
       (subst (AllByRecursion IsOctets) (sym (segments_of-more asset side.Client earlier j)) (all-append IsOctets (segment_in asset side.Client j.item) (lane_segments asset side.Client earlier) (segment_octets j.item of.0) all))
       of.1 fates.1)
 
-  pub passed_right : (client : ℕ) (h : List Element) (js : List Judged) → AreJudged asset client h js → AreRight (in_turn put [] js)
+  pub passed_right : (client : Caller) (h : List Element) (js : List Judged) → AreJudged asset client h js → AreRight (in_turn put [] js)
   passed_right client h js a =
       right_from client [] js tt (of_front asset.protocol (map place_of js) a.dropped (subst (AreItemsOf asset.protocol) a.are_first (all_of asset.protocol h a.items a.are_items))) a.fates
 

@@ -1,4 +1,5 @@
 -- Beside the proof: that exactly those commands of a client are admitted which the policy allows: `AdmitsWhatIsAllowed`, which stands last.
+use Rattle.cf_lane.specs.Caller.{Caller}
 use Rattle.cf_lane.specs.Rates.{Says, says_at}
 use Rattle.cf_apci.specs.Apdu.{Ack, ApduValue, Control, Info}
 use Rattle.cf_audit.specs.declared.line.CutReason.{CutReason}
@@ -73,6 +74,6 @@ IsDecided asset says (c ∷ none) f =
 -- each item of a history is decided so, by what the policy says at its moment
 abbrev pub AdmitsWhatIsAllowed : Type 0
 AdmitsWhatIsAllowed =
-    (asset : Asset) (client : ℕ) (h : List Element) (earlier later : List Judged) (j : Judged) →
+    (asset : Asset) (client : Caller) (h : List Element) (earlier later : List Judged) (j : Judged) →
     AreJudged asset client h (earlier ++ j ∷ later) →
     IsDecided asset (says_at asset client earlier j.moment) (commands_by asset earlier j.item) j.fate

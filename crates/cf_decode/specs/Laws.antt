@@ -11,6 +11,7 @@
 -- together the fragments of DNP3, it has the first of the list, in order, and then a proper prefix of the next (`FragmentsDecode`).
 --
 -- Exactly those commands are admitted that the policy allows (`AdmitsWhatIsAllowed`, in `Commands`).
+use Rattle.cf_lane.specs.Caller.{Caller}
 use Rattle.cf_decode.specs.Passed.{passed}
 use Rattle.cf_decode.specs.Received.{received, segments_in}
 use Rattle.cf_decode.specs.Units.{Fragment, Passed, Whole, start_behind, units_from, units_of}
@@ -30,7 +31,7 @@ use Rattle.cf_view.specs.declared.Side.TheVariants as side
 -- the stream to the controller is the spellings of the units in which what goes there goes
 abbrev pub StreamIsSpelled : Type 0
 StreamIsSpelled =
-    (asset : Asset) (client : ℕ) (h : List Element) (js : List Judged) → AreJudged asset client h js →
+    (asset : Asset) (client : Caller) (h : List Element) (js : List Judged) → AreJudged asset client h js →
     outputs asset side.Controller [] js ≡ flat_map unit_spelling (units_from asset 0 (passed asset js))
 
 -- octets are nothing, where nothing follows, and else a proper prefix of what follows next
@@ -52,7 +53,7 @@ pub record DecodesTo (p : Protocol) (sent : List UnitValue) (bytes : List ℕ) :
 -- any beginning of the stream to the controller has the first of the units that go there
 abbrev pub StreamDecodes : Type 0
 StreamDecodes =
-    (asset : Asset) (client : ℕ) (h : List Element) (js : List Judged) (bytes more : List ℕ) → AreJudged asset client h js →
+    (asset : Asset) (client : Caller) (h : List Element) (js : List Judged) (bytes more : List ℕ) → AreJudged asset client h js →
     outputs asset side.Controller [] js ≡ bytes ++ more → DecodesTo asset.protocol (units_from asset 0 (passed asset js)) bytes
 
 -- the fragment that is begun and not whole is a proper prefix of the one that follows
@@ -78,5 +79,5 @@ pub record MakesFirstOf (asset : Asset) (sent : List Passed) (bytes : List ℕ) 
 -- a receiver makes of any beginning of the stream to the controller the first of what went there
 abbrev pub FragmentsDecode : Type 0
 FragmentsDecode =
-    (asset : Asset) (client : ℕ) (h : List Element) (js : List Judged) (bytes more : List ℕ) → AreJudged asset client h js →
+    (asset : Asset) (client : Caller) (h : List Element) (js : List Judged) (bytes more : List ℕ) → AreJudged asset client h js →
     outputs asset side.Controller [] js ≡ bytes ++ more → MakesFirstOf asset (passed asset js) bytes

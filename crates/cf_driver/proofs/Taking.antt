@@ -1,4 +1,5 @@
 -- Letters of a side that the lane took.
+use Rattle.cf_lane.specs.Caller.{RateMoments}
 use Rattle.std.proofs.Common.{Bool, Err, List, None, Ok, Option, Result, Some, [], ap, arith, drop, false, length, refl, subst, sym, ℕ, ◌*◌, ◌++◌, ◌+◌, ◌<◌, ◌∙◌, ◌∷◌, ◌≡◌, ◌≤◌, ◌||◌}
 use Rattle.std.specs.Prelude.{OnErr}
 use Rattle.std.proofs.Math.Bool.{or-false, or-true}
@@ -51,9 +52,9 @@ goes_on : (m : ℕ) (t s : Side) (piece : List ℕ) (most before now : ℕ) (old
 goes_on m t s piece most before now old new g = ap (λ (q : Queue). q.ended) g.rest ∙ sym (ap (λ b. old.ended || b) (no_end m t s piece) ∙ or-false old.ended)
 
 -- after a cut no rest is of account
-any_rests : (asset : Asset) (h : List Element) (r r' : Rests) (reason : CutReason) (first own old : Option (List (List ℕ))) (now : State) →
-    AddsTo asset h r (Some reason) first own old now → AddsTo asset h r' (Some reason) first own old now
-any_rests asset h r r' reason first own old now a =
+any_rests : (asset : Asset) (past : RateMoments) (h : List Element) (r r' : Rests) (reason : CutReason) (first own old : Option (List (List ℕ))) (now : State) →
+    AddsTo asset past h r (Some reason) first own old now → AddsTo asset past h r' (Some reason) first own old now
+any_rests asset past h r r' reason first own old now a =
     let f = a.follows in
     record {
       more = a.more;
@@ -73,13 +74,13 @@ any_rests asset h r r' reason first own old now a =
 module _ (asset : Asset) (moment : ℕ) (s : Side) (lane lane' : LaneValue) (c k c' k' : Queue) (log log' : Option (List (List ℕ))) where
   -- a piece was fed behind the rest
   module _ (piece rest view : List ℕ) (used : ℕ) (cut : Option CutReason) (is : view ≡ rest ++ piece) (inside : used ≤ length view)
-      (fed : (h : List Element) (rests : Rests) (first own : Option (List (List ℕ))) (more : List ℕ) (ended : Bool) → IsEndBehindCut ended cut → view ≡ rest_of s rests ++ more →
-      Follows asset h rests None first (state lane c k own) → AddsTo asset (h ++ letters_at moment s more ended ∷ []) (with_rest s rests (drop used view)) cut first own log (state lane' c' k' log'))
+      (fed : (past : RateMoments) (h : List Element) (rests : Rests) (first own : Option (List (List ℕ))) (more : List ℕ) (ended : Bool) → IsEndBehindCut ended cut → view ≡ rest_of s rests ++ more →
+      Follows asset past h rests None first (state lane c k own) → AddsTo asset past (h ++ letters_at moment s more ended ∷ []) (with_rest s rests (drop used view)) cut first own log (state lane' c' k' log'))
       (of_asset : IsLaneOf asset lane') (owed : debt lane' ≤ 5300) (client : lane'.client ≡ lane.client)
       (cs : Grows (2 * used) (debt lane) (debt lane') c c') (ks : Grows (2 * used) (debt lane) (debt lane') k k') (counts : CountsBy used lane lane') where
     fed_with : (rest' : List ℕ) (why : Option CutReason) →
-        ((h : List Element) (rests : Rests) (first own : Option (List (List ℕ))) → rest ≡ rest_of s rests → Follows asset h rests None first (state lane c k own) →
-        AddsTo asset (h ++ bytes_at moment s piece ∷ []) (with_rest s rests rest') why first own log (state lane' c' k' log')) →
+        ((past : RateMoments) (h : List Element) (rests : Rests) (first own : Option (List (List ℕ))) → rest ≡ rest_of s rests → Follows asset past h rests None first (state lane c k own) →
+        AddsTo asset past (h ++ bytes_at moment s piece ∷ []) (with_rest s rests rest') why first own log (state lane' c' k' log')) →
         length rest' < 300 → length rest' + used ≤ length view → Takes asset s (bytes_at moment s piece ∷ []) why rest rest' (state lane c k log) (state lane' c' k' log')
     fed_with rest' why follows short left = record {
       follows = follows;
@@ -98,18 +99,18 @@ module _ (asset : Asset) (moment : ℕ) (s : Side) (lane lane' : LaneValue) (c k
         Takes asset s (bytes_at moment s piece ∷ []) None rest rest' (state lane c k log) (state lane' c' k' log')
     takes_piece rest' none short left =
         fed_with rest' None
-        (λ h rests first own same f. subst (λ r. AddsTo asset (h ++ bytes_at moment s piece ∷ []) (with_rest s rests r) None first own log (state lane' c' k' log')) (sym left)
-        (subst (λ w. AddsTo asset (h ++ bytes_at moment s piece ∷ []) (with_rest s rests (drop used view)) w first own log (state lane' c' k' log')) none
-        (fed h rests first own piece false tt (is ∙ ap (λ xs. xs ++ piece) same) f)))
+        (λ past h rests first own same f. subst (λ r. AddsTo asset past (h ++ bytes_at moment s piece ∷ []) (with_rest s rests r) None first own log (state lane' c' k' log')) (sym left)
+        (subst (λ w. AddsTo asset past (h ++ bytes_at moment s piece ∷ []) (with_rest s rests (drop used view)) w first own log (state lane' c' k' log')) none
+        (fed past h rests first own piece false tt (is ∙ ap (λ xs. xs ++ piece) same) f)))
         short (omega (arith, inside, ap length left, length-drop used view))
 
     pub takes_cut : (rest' : List ℕ) (reason : CutReason) → cut ≡ Some reason → rest' ≡ [] →
         Takes asset s (bytes_at moment s piece ∷ []) (Some reason) rest rest' (state lane c k log) (state lane' c' k' log')
     takes_cut rest' reason why none =
         fed_with rest' (Some reason)
-        (λ h rests first own same f. any_rests asset _ (with_rest s rests (drop used view)) (with_rest s rests rest') reason first own log _
-        (subst (λ w. AddsTo asset (h ++ bytes_at moment s piece ∷ []) (with_rest s rests (drop used view)) w first own log (state lane' c' k' log')) why
-        (fed h rests first own piece false tt (is ∙ ap (λ xs. xs ++ piece) same) f)))
+        (λ past h rests first own same f. any_rests asset past _ (with_rest s rests (drop used view)) (with_rest s rests rest') reason first own log _
+        (subst (λ w. AddsTo asset past (h ++ bytes_at moment s piece ∷ []) (with_rest s rests (drop used view)) w first own log (state lane' c' k' log')) why
+        (fed past h rests first own piece false tt (is ∙ ap (λ xs. xs ++ piece) same) f)))
         (omega (arith, ap length none)) (omega (arith, inside, ap length none))
 
   -- ---- an End
@@ -127,15 +128,15 @@ module _ (asset : Asset) (moment : ℕ) (s : Side) (lane lane' : LaneValue) (c k
   ends_pushed side.Controller e = (rw e.0 end_pushed, rw e.1 same_pushed)
 
   pub takes_end : (rest : List ℕ) (size : ℕ) → size ≡ length rest →
-      ((h : List Element) (rests : Rests) (first own : Option (List (List ℕ))) → size ≡ length (rest_of s rests) →
-      Follows asset h rests None first (state lane c k own) → AddsTo asset (h ++ end_at moment s ∷ []) rests None first own log (state lane' c' k' log')) →
+      ((past : RateMoments) (h : List Element) (rests : Rests) (first own : Option (List (List ℕ))) → size ≡ length (rest_of s rests) →
+      Follows asset past h rests None first (state lane c k own) → AddsTo asset past (h ++ end_at moment s ∷ []) rests None first own log (state lane' c' k' log')) →
       length rest < 300 → IsLaneOf asset lane → debt lane ≤ 5300 → lane' ≡ lane → EndsOther s c k c' k' →
       Takes asset s (end_at moment s ∷ []) None rest rest (state lane c k log) (state lane' c' k' log')
   takes_end rest size e ends short of_asset owed same queues =
       let pushed = ends_pushed s queues in
       record {
-        follows = λ h rests first own is f. subst (λ r. AddsTo asset (h ++ end_at moment s ∷ []) r None first own log (state lane' c' k' log')) (sym (ap (with_rest s rests) is ∙ same_rest s rests))
-            (ends h rests first own (e ∙ ap length is) f);
+        follows = λ past h rests first own is f. subst (λ r. AddsTo asset past (h ++ end_at moment s ∷ []) r None first own log (state lane' c' k' log')) (sym (ap (with_rest s rests) is ∙ same_rest s rests))
+            (ends past h rests first own (e ∙ ap length is) f);
         short = short;
         of_asset = subst (IsLaneOf asset) (sym same) of_asset;
         debt = subst (λ (l : LaneValue). debt l ≤ 5300) (sym same) owed;
@@ -148,8 +149,8 @@ module _ (asset : Asset) (moment : ℕ) (s : Side) (lane lane' : LaneValue) (c k
       }
 
   pub misses_end : (rest : List ℕ) (size : ℕ) (lines : Option (List (List ℕ))) (part : List ℕ) → size ≡ length rest →
-      ((h : List Element) (rests : Rests) (first own : Option (List (List ℕ))) → size ≡ length (rest_of s rests) →
-      Follows asset h rests None first (state lane c k own) → BeganApart asset lane.client (h ++ end_at moment s ∷ []) first own log lines part) →
-      (h : List Element) (rests : Rests) (first own : Option (List (List ℕ))) → rest ≡ rest_of s rests → Follows asset h rests None first (state lane c k own) →
-      BeganApart asset lane.client (h ++ end_at moment s ∷ []) first own log lines part
-  misses_end rest size lines part e fails h rests first own is f = fails h rests first own (e ∙ ap length is) f
+      ((past : RateMoments) (h : List Element) (rests : Rests) (first own : Option (List (List ℕ))) → size ≡ length (rest_of s rests) →
+      Follows asset past h rests None first (state lane c k own) → BeganApart asset past lane.client (h ++ end_at moment s ∷ []) first own log lines part) →
+      (past : RateMoments) (h : List Element) (rests : Rests) (first own : Option (List (List ℕ))) → rest ≡ rest_of s rests → Follows asset past h rests None first (state lane c k own) →
+      BeganApart asset past lane.client (h ++ end_at moment s ∷ []) first own log lines part
+  misses_end rest size lines part e fails past h rests first own is f = fails past h rests first own (e ∙ ap length is) f

@@ -1,6 +1,7 @@
 -- Steps of the proof: what it does to a lane, its queues and its log that letters of a side are taken, whatever history came
 -- before: `Takes`; and what a line that failed leaves of it, `MissesPiece` and `MissesEnd`.
 use Rattle.cf_audit.specs.declared.line.CutReason.{CutReason}
+use Rattle.cf_lane.specs.Caller.{RateMoments}
 use Rattle.cf_lane.specs.Follows.{AddsTo, BeganApart, BeganApartWithin, Follows, Rests, over, rest_of, with_rest}
 use Rattle.cf_lane.specs.Handled.{IsLaneOf, State, debt, debt_limit, rest_limit}
 use Rattle.cf_lane.specs.History.{Element, bytes_of, end_at, ended_of}
@@ -20,9 +21,9 @@ pub record OnlyPushed (old new : Queue) : Type 0 where
 -- whole unit stood before the first element, and stand after the last
 pub record Takes (asset : Asset) (s : Side) (elements : List Element) (cut : Option CutReason) (rest_before rest_after : List ℕ)
     (old new : State) : Type 0 where
-  pub follows : (h : List Element) (rests : Rests) (first own : Option (List (List ℕ))) → rest_before ≡ rest_of s rests
-      → Follows asset h rests None first (over own old)
-      → AddsTo asset (h ++ elements) (with_rest s rests rest_after) cut first own old.lines new
+  pub follows : (before : RateMoments) (h : List Element) (rests : Rests) (first own : Option (List (List ℕ)))
+      → rest_before ≡ rest_of s rests → Follows asset before h rests None first (over own old)
+      → AddsTo asset before (h ++ elements) (with_rest s rests rest_after) cut first own old.lines new
   pub short : length rest_after < rest_limit
   pub of_asset : IsLaneOf asset new.lane
   pub debt : debt new.lane ≤ debt_limit
@@ -40,14 +41,14 @@ pub record Takes (asset : Asset) (s : Side) (elements : List Element) (cut : Opt
 abbrev pub MissesPiece : Asset → (moment : ℕ) → Side → (piece rest : List ℕ) → (old : State) → (log : Option (List (List ℕ)))
     → (part : List ℕ) → Type 0
 MissesPiece asset moment s piece rest old log part =
-    (h : List Element) (rests : Rests) (first own : Option (List (List ℕ))) → rest ≡ rest_of s rests
-    → Follows asset h rests None first (over own old)
-    → BeganApartWithin asset old.lane.client h moment s piece first own old.lines log part
+    (before : RateMoments) (h : List Element) (rests : Rests) (first own : Option (List (List ℕ))) → rest ≡ rest_of s rests
+    → Follows asset before h rests None first (over own old)
+    → BeganApartWithin asset before old.lane.client h moment s piece first own old.lines log part
 
 -- the line of an End failed
 abbrev pub MissesEnd : Asset → (moment : ℕ) → Side → (rest : List ℕ) → (old : State) → (log : Option (List (List ℕ)))
     → (part : List ℕ) → Type 0
 MissesEnd asset moment s rest old log part =
-    (h : List Element) (rests : Rests) (first own : Option (List (List ℕ))) → rest ≡ rest_of s rests
-    → Follows asset h rests None first (over own old)
-    → BeganApart asset old.lane.client (h ++ end_at moment s ∷ []) first own old.lines log part
+    (before : RateMoments) (h : List Element) (rests : Rests) (first own : Option (List (List ℕ))) → rest ≡ rest_of s rests
+    → Follows asset before h rests None first (over own old)
+    → BeganApart asset before old.lane.client (h ++ end_at moment s ∷ []) first own old.lines log part

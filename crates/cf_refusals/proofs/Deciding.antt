@@ -1,4 +1,5 @@
 -- What decides of a refused command is a rule of the asset, or none.
+use Rattle.cf_lane.specs.Caller.{Caller}
 use Rattle.std.proofs.Common.{◌≡◌, ℕ, ◌<◌, Bool, true, false, List, [], ◌∷◌, length, Option, Some, None, refl, subst}
 use Rattle.std.specs.Prelude.{option_and_then, slice_get}
 use Rattle.std.proofs.lemmas.Option.{slice_get_within}
@@ -6,7 +7,7 @@ use Rattle.cf_lane.specs.Acts.{admission, by_refusal, fate_of_acts, first_refusa
 use Rattle.cf_lane.specs.declared.fate.Admission.{Admission}
 use Rattle.cf_lane.specs.Fate.{HasOwnDecider}
 use Rattle.cf_lane.specs.Judged.{Judged}
-use Rattle.cf_lane.specs.Rates.{Says, is_spent, rated, said, says_at, unless_spent}
+use Rattle.cf_lane.specs.Rates.{Says, is_spent, said, says_at, unless_spent, used_at}
 use Rattle.cf_lane.specs.declared.fate.Refusal.{Refusal}
 use Rattle.cf_policy.specs.Verdict.{IsInside, IsOneOf, by_rule, decided, default_reason, first_number, numbered, verdict_of}
 use Rattle.cf_policy.specs.declared.Action.{Action}
@@ -34,10 +35,10 @@ said_inside : (rules : List Rule) (spent : ℕ → Bool) (v : Verdict) → IsIns
 said_inside rules spent (verdict.Allow n) h = elim (spent n) as (λ b. IsInside rules (unless_spent b n)) [ true ↦ h | false ↦ h ]
 said_inside rules spent (verdict.Refuse d why) h = h
 
-pub says_inside : (asset : Asset) (client : ℕ) (earlier : List Judged) (moment : ℕ) (act : Act) → IsInside asset.rules (says_at asset client earlier moment act)
+pub says_inside : (asset : Asset) (client : Caller) (earlier : List Judged) (moment : ℕ) (act : Act) → IsInside asset.rules (says_at asset client earlier moment act)
 says_inside asset client earlier moment act =
-    said_inside asset.rules (is_spent asset earlier moment) (verdict_of asset client act)
-    (inside_by asset.rules (first_number asset.rules client act) (default_reason asset.rules client act))
+    said_inside asset.rules (is_spent asset (used_at client.before earlier) moment) (verdict_of asset client.address act)
+    (inside_by asset.rules (first_number asset.rules client.address act) (default_reason asset.rules client.address act))
 
 module _ (rules : List Rule) (says : Says) (inside : (act : Act) → IsInside rules (says act)) where
   refusal_inside : (act : Act) (v : Verdict) (later : Option Refusal) (refusal : Refusal) → IsInside rules v → (later ≡ Some refusal → IsOneOf rules refusal.decider) →

@@ -1,5 +1,6 @@
 -- What is told of a refused command stands at its place.
-use Rattle.std.proofs.Common.{◌≡◌, ℕ, List, [], ◌∷◌, ◌++◌, refl, sym, ap, ◌∙◌, subst, append_assoc}
+use Rattle.cf_lane.specs.Caller.{Caller, caller_at}
+use Rattle.std.proofs.Common.{◌≡◌, List, [], ◌∷◌, ◌++◌, refl, sym, ap, ◌∙◌, subst, append_assoc}
 use Rattle.std.proofs.lemmas.List.{append-nil}
 use Rattle.cf_lane.proofs.Earlier.{in_turn-append}
 use Rattle.cf_lane.specs.Fate.{HasFate, HasItemFate, HasOwnDecider, HaveFates}
@@ -18,7 +19,7 @@ use Rattle.cf_refusals.specs.Told.{RefusedAreTold, ShownAreTold, received}
 use Rattle.cf_refusals.proofs.Deciding.{says_inside}
 use Rattle.cf_refusals.proofs.Replies.{item_reply_is, own_item}
 
-fate_at : (asset : Asset) (client : ℕ) (before earlier : List Judged) (j : Judged) (later : List Judged) → HaveFates asset client before (earlier ++ j ∷ later) →
+fate_at : (asset : Asset) (client : Caller) (before earlier : List Judged) (j : Judged) (later : List Judged) → HaveFates asset client before (earlier ++ j ∷ later) →
     HasFate asset client (before ++ earlier) (place_of j) j.fate
 fate_at asset client before [] j later h = subst (λ b. HasFate asset client b (place_of j) j.fate) (sym (append-nil before)) h.0
 fate_at asset client before (k ∷ earlier) j later h =
@@ -42,9 +43,9 @@ module _ (asset : Asset) (client : Endpoint) (earlier : List Judged) (j : Judged
   one_shown _ h = cc
 
 pub are_shown : ShownAreTold
-are_shown asset client history earlier later j admitted are is =
-    let says = says_at asset client.address earlier j.moment in
-    let has : HasItemFate asset says earlier j.item j.fate = fate_at asset client.address [] earlier j later are.fates in
+are_shown asset past client history earlier later j admitted are is =
+    let says = says_at asset (caller_at client.address past) earlier j.moment in
+    let has : HasItemFate asset says earlier j.item j.fate = fate_at asset (caller_at client.address past) [] earlier j later are.fates in
     let line = one_shown asset client earlier j admitted is says j.item (subst (HasItemFate asset says earlier j.item) is has) in
     record {
       in_log = in_turn-append (λ before k. item_lines asset client before k k.item) [] earlier (j ∷ later)
@@ -52,13 +53,13 @@ are_shown asset client history earlier later j admitted are is =
     }
 
 pub are_told : RefusedAreTold
-are_told asset client history earlier later j refusal are is =
-    let says = says_at asset client.address earlier j.moment in
-    let has : HasItemFate asset says earlier j.item j.fate = fate_at asset client.address [] earlier j later are.fates in
+are_told asset past client history earlier later j refusal are is =
+    let says = says_at asset (caller_at client.address past) earlier j.moment in
+    let has : HasItemFate asset says earlier j.item j.fate = fate_at asset (caller_at client.address past) [] earlier j later are.fates in
     let refused : HasItemFate asset says earlier j.item (fate.Refused refusal) = subst (HasItemFate asset says earlier j.item) is has in
     let line = one_line asset client earlier j refusal is says j.item refused in
     record {
-      decider = subst (HasOwnDecider asset.rules) is (own_item asset says (says_inside asset client.address earlier j.moment) earlier j.item j.fate has);
+      decider = subst (HasOwnDecider asset.rules) is (own_item asset says (says_inside asset (caller_at client.address past) earlier j.moment) earlier j.item j.fate has);
       replied = output asset side.Client earlier j;
       is_reply = item_reply_is asset says refusal earlier j is j.item refl refused;
       in_stream = in_turn-append (output asset side.Client) [] earlier (j ∷ later);

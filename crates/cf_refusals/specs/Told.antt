@@ -1,6 +1,7 @@
 -- What is told of a refused command, in the log and in the stream to the client, and of an admitted one in the log: RefusedAreTold and
 -- ShownAreTold, read from the end. The replies are
 -- those of the standards as the codecs have them; which commands have none is this project's own.
+use Rattle.cf_lane.specs.Caller.{RateMoments, caller_at}
 use Rattle.std.specs.Prelude.{◌≡◌, ℕ, nat_lt, not, Bool, ◌||◌, if◌then◌else◌, List, [], ◌∷◌, ◌++◌, length, slice_index}
 use Rattle.cf_apci.specs.Apdu.{Info}
 use Rattle.cf_asdu.specs.Mirror.{mirrored}
@@ -73,8 +74,9 @@ pub record IsTold (asset : Asset) (client : Endpoint) (earlier : List Judged) (j
 -- each refused command of every history is told so
 abbrev pub RefusedAreTold : Type 0
 RefusedAreTold =
-    (asset : Asset) (client : Endpoint) (history : List Element) (earlier later : List Judged) (j : Judged) (refusal : Refusal) →
-    AreJudged asset client.address history (earlier ++ j ∷ later) → j.fate ≡ fate.Refused refusal
+    (asset : Asset) (before : RateMoments) (client : Endpoint) (history : List Element) (earlier later : List Judged) (j : Judged)
+    (refusal : Refusal) →
+    AreJudged asset (caller_at client.address before) history (earlier ++ j ∷ later) → j.fate ≡ fate.Refused refusal
     → IsTold asset client earlier j later refusal
 
 -- what is shown of an admitted command between earlier and later items: its line stands at its place, if a rule with a log allowed
@@ -89,6 +91,7 @@ pub record IsShown (asset : Asset) (client : Endpoint) (earlier : List Judged) (
 -- each admitted command of every history is shown so
 abbrev pub ShownAreTold : Type 0
 ShownAreTold =
-    (asset : Asset) (client : Endpoint) (history : List Element) (earlier later : List Judged) (j : Judged) (admitted : Admission) →
-    AreJudged asset client.address history (earlier ++ j ∷ later) → j.fate ≡ fate.Admitted admitted
+    (asset : Asset) (before : RateMoments) (client : Endpoint) (history : List Element) (earlier later : List Judged) (j : Judged)
+    (admitted : Admission) →
+    AreJudged asset (caller_at client.address before) history (earlier ++ j ∷ later) → j.fate ≡ fate.Admitted admitted
     → IsShown asset client earlier j later admitted

@@ -77,10 +77,10 @@ module _ (law : StreamsGoOn) (quiet : QuietBehindEnd) (dirs : Directions) (asset
     answers = [];
     adds = adds_answer [] (ap (λ (x : TakeState). x.told) same ∙ with_none links.told);
     still = still;
-    does = λ first own es st. (
-      one_stage asset most (Taking dirs s) es [] (no_take asset most first es old own st few dirs s never),
+    does = λ past first own es st. (
+      one_stage asset past most (Taking dirs s) es [] (no_take asset past most first es old own st few dirs s never),
       apart_none own desk.lines desk'.lines _ (ap (λ (x : TakeState). x.state.lines) same)
-          (stands_silent asset first es [] old new own own st
+          (stands_silent asset past first es [] old new own own st
           (silent_asked s [] old new own own links.told links'.told links.told old.idle to quiet_none (λ t. refl) (own_same own _ _ same) refl)),
     );
   }
@@ -91,10 +91,10 @@ module _ (law : StreamsGoOn) (quiet : QuietBehindEnd) (dirs : Directions) (asset
     answers = takes.answer ∷ [];
     adds = adds_answer (takes.answer ∷ []) takes.answers.tells;
     still = still;
-    does = λ first own es st. (
-      one_stage asset most (Taking dirs s) es (takes.answer ∷ []) (takes_stage asset most first es old own st few dirs s takes.answer may takes.answers.is_taken),
-      left_apart law asset first es s takes.answer takes.answers.is_taken old own desk.lines st new desk'.lines None to takes.hears _
-          (stands_heard law asset first es s takes.answer takes.answers.is_taken old own desk.lines st new desk'.lines to (open_ended asset most first es old own st s may.open_still)
+    does = λ past first own es st. (
+      one_stage asset past most (Taking dirs s) es (takes.answer ∷ []) (takes_stage asset past most first es old own st few dirs s takes.answer may takes.answers.is_taken),
+      left_apart law asset past first es s takes.answer takes.answers.is_taken old own desk.lines st new desk'.lines None to takes.hears _
+          (stands_heard law asset past first es s takes.answer takes.answers.is_taken old own desk.lines st new desk'.lines to (open_ended asset past most first es old own st s may.open_still)
           takes.answers.letters takes.answers.idles takes.hears quiet short),
     );
   }
@@ -105,10 +105,10 @@ module _ (law : StreamsGoOn) (quiet : QuietBehindEnd) (dirs : Directions) (asset
     answers = takes.answer ∷ [];
     adds = adds_answer (takes.answer ∷ []) takes.answers.tells;
     cause = still;
-    does = λ first own es st. (
-      one_broken asset most (Taking dirs s) es (takes.answer ∷ []) (takes_stage asset most first es old own st few dirs s takes.answer may takes.answers.is_taken),
-      left_apart law asset first es s takes.answer takes.answers.is_taken old own desk.lines st new desk'.lines None to takes.hears _
-          (stands_full law asset first es s takes.answer takes.answers.is_taken old own desk.lines st new desk'.lines to (open_ended asset most first es old own st s may.open_still)
+    does = λ past first own es st. (
+      one_broken asset past most (Taking dirs s) es (takes.answer ∷ []) (takes_stage asset past most first es old own st few dirs s takes.answer may takes.answers.is_taken),
+      left_apart law asset past first es s takes.answer takes.answers.is_taken old own desk.lines st new desk'.lines None to takes.hears _
+          (stands_full law asset past first es s takes.answer takes.answers.is_taken old own desk.lines st new desk'.lines to (open_ended asset past most first es old own st s may.open_still)
           takes.answers.letters takes.answers.idles takes.hears reason full),
     );
   }
@@ -119,10 +119,10 @@ module _ (law : StreamsGoOn) (quiet : QuietBehindEnd) (dirs : Directions) (asset
     answers = Idle s ∷ [];
     adds = adds_answer (Idle s ∷ []) (ap (λ (x : TakeState). x.told) same);
     cause = cause;
-    does = λ first own es st. (
-      one_broken asset most (Taking dirs s) es (Idle s ∷ []) (takes_stage asset most first es old own st few dirs s (Idle s) may refl),
+    does = λ past first own es st. (
+      one_broken asset past most (Taking dirs s) es (Idle s ∷ []) (takes_stage asset past most first es old own st few dirs s (Idle s) may refl),
       apart_none own desk.lines desk'.lines _ (ap (λ (x : TakeState). x.state.lines) same) (
-        stands_silent asset first es (Idle s ∷ []) old new own own st
+        stands_silent asset past first es (Idle s ∷ []) old new own own st
             (silent_asked s (Idle s ∷ []) old new own own links.told links'.told (with_answers links.told (Idle s ∷ [])) (old.idle + 1) to (quiet_idle s) (λ t. refl) (own_same own _ _ same) (omega arith)),
         full,
       ),
@@ -132,10 +132,10 @@ module _ (law : StreamsGoOn) (quiet : QuietBehindEnd) (dirs : Directions) (asset
     answers = [];
     adds = adds_answer [] (ap (λ (x : TakeState). x.told) same ∙ with_none links.told);
     cause = cause;
-    does = λ first own es st. (
-      breaks_nothing asset most (Taking dirs s ∷ []) es,
+    does = λ past first own es st. (
+      breaks_nothing asset past most (Taking dirs s ∷ []) es,
       apart_none own desk.lines desk'.lines _ (ap (λ (x : TakeState). x.state.lines) same) (
-        stands_silent asset first es [] old new own own st
+        stands_silent asset past first es [] old new own own st
             (silent_asked s [] old new own own links.told links'.told links.told old.idle to quiet_none (λ t. refl) (own_same own _ _ same) refl),
         subst (λ (n : ℕ). n < most) (sym (ap (λ (x : TakeState). x.idle) same)) few,
       ),
@@ -145,19 +145,19 @@ module _ (law : StreamsGoOn) (quiet : QuietBehindEnd) (dirs : Directions) (asset
     answers = answer ∷ [];
     adds = adds_answer (answer ∷ []) answers.tells;
     cause = cause;
-    does = λ first own es st. (
-      one_broken asset most (Taking dirs s) es (answer ∷ []) (takes_stage asset most first es old own st few dirs s answer may answers.is_taken),
-      stands_missed law asset first es s answer answers.is_taken old own desk.lines st desk' misses,
+    does = λ past first own es st. (
+      one_broken asset past most (Taking dirs s) es (answer ∷ []) (takes_stage asset past most first es old own st few dirs s answer may answers.is_taken),
+      stands_missed law asset past first es s answer answers.is_taken old own desk.lines st desk' misses,
     );
   }
   take_stops (stop.Cut reason) (may, takes) cause = record {
     answers = takes.answer ∷ [];
     adds = adds_answer (takes.answer ∷ []) takes.answers.tells;
     cause = cause;
-    does = λ first own es st. (
-      one_broken asset most (Taking dirs s) es (takes.answer ∷ []) (takes_stage asset most first es old own st few dirs s takes.answer may takes.answers.is_taken),
-      left_apart law asset first es s takes.answer takes.answers.is_taken old own desk.lines st new desk'.lines (Some reason) to takes.hears _
-          (stands_cut law asset first es s takes.answer takes.answers.is_taken old own desk.lines st new desk'.lines (Some reason) to takes.hears reason
+    does = λ past first own es st. (
+      one_broken asset past most (Taking dirs s) es (takes.answer ∷ []) (takes_stage asset past most first es old own st few dirs s takes.answer may takes.answers.is_taken),
+      left_apart law asset past first es s takes.answer takes.answers.is_taken old own desk.lines st new desk'.lines (Some reason) to takes.hears _
+          (stands_cut law asset past first es s takes.answer takes.answers.is_taken old own desk.lines st new desk'.lines (Some reason) to takes.hears reason
           (λ js cuts qc qk. ap (λ c. option_or c (limit_cut LETTER_LIMIT (history_of (es ++ takes.answer ∷ [])) (stream_to asset side.Client js) (stream_to asset side.Controller js))) cuts)),
     );
   }

@@ -189,9 +189,9 @@ tell_goes asset most old links links' desk m now is few still e later none same 
       answers = Moment m ∷ [];
       adds = record { tells = e; link = later; idles = λ start r. omega (arith, r, same); log = writes_none desk };
       still = none;
-      does = λ first own es st. (
-        one_stage asset most Telling es (Moment m ∷ []) (tells_stage asset most first es old own st few still m),
-        apart_none own desk.lines desk.lines _ refl (stands_silent asset first es (Moment m ∷ []) old (record old { moment = max old.moment m }) own own st (silent_moment old own m)),
+      does = λ past first own es st. (
+        one_stage asset past most Telling es (Moment m ∷ []) (tells_stage asset past most first es old own st few still m),
+        apart_none own desk.lines desk.lines _ refl (stands_silent asset past first es (Moment m ∷ []) old (record old { moment = max old.moment m }) own own st (silent_moment old own m)),
       );
     })
 
@@ -202,7 +202,7 @@ link_stops asset most ps old links links' desk few e rose same later = record {
   answers = [];
   adds = record { tells = e ∙ with_none links.told; link = later; idles = λ start r. omega (arith, r, same); log = writes_none desk };
   cause = rose;
-  does = λ first own es st. (breaks_nothing asset most ps es, apart_none own desk.lines desk.lines _ refl (subst (λ (x : List Entry). StandsFor asset first x old own) (sym (append-nil es)) st, few));
+  does = λ past first own es st. (breaks_nothing asset past most ps es, apart_none own desk.lines desk.lines _ refl (subst (λ (x : List Entry). StandsFor asset past first x old own) (sym (append-nil es)) st, few));
 }
 
 -- ---- giving
@@ -215,9 +215,9 @@ module _ (asset : Asset) (most : ℕ) (s : Side) (old new : RelayingValue) (link
     answers = answers;
     adds = record { tells = gave.tells; link = later; idles = idles; log = writes_none desk };
     still = still;
-    does = λ first own es st. (
-      one_stage asset most (Giving s) es answers (gives_stage asset most first es old own st few s answers gives),
-      apart_none own desk.lines desk.lines _ refl (stands_silent asset first es answers old new own own st (silent_gives s old new own links.told links'.told answers (giving_all s (queue_to s old).kept answers gives) to gave stands)),
+    does = λ past first own es st. (
+      one_stage asset past most (Giving s) es answers (gives_stage asset past most first es old own st few s answers gives),
+      apart_none own desk.lines desk.lines _ refl (stands_silent asset past first es answers old new own own st (silent_gives s old new own links.told links'.told answers (giving_all s (queue_to s old).kept answers gives) to gave stands)),
     );
   }
 
@@ -227,18 +227,18 @@ module _ (asset : Asset) (most : ℕ) (s : Side) (old new : RelayingValue) (link
     answers = answers;
     adds = record { tells = gave.tells; link = later; idles = idles; log = writes_none desk };
     cause = cause;
-    does = λ first own es st. (
-      one_broken asset most (Giving s) es answers (gives_stage asset most first es old own st few s answers gives),
-      apart_none own desk.lines desk.lines _ refl (stands_silent asset first es answers old new own own st (silent_gives s old new own links.told links'.told answers (giving_all s (queue_to s old).kept answers gives) to gave stands), full),
+    does = λ past first own es st. (
+      one_broken asset past most (Giving s) es answers (gives_stage asset past most first es old own st few s answers gives),
+      apart_none own desk.lines desk.lines _ refl (stands_silent asset past first es answers old new own own st (silent_gives s old new own links.told links'.told answers (giving_all s (queue_to s old).kept answers gives) to gave stands), full),
     );
   }
   give_stops stop.Link (answers, gave, begins, goes) cause = record {
     answers = answers;
     adds = record { tells = gave.tells; link = later; idles = idles; log = writes_none desk };
     cause = cause;
-    does = λ first own es st. (
-      inl (begins_stage asset most first es old own st few s answers begins),
-      apart_none own desk.lines desk.lines _ refl (stands_silent asset first es answers old new own own st (silent_gives s old new own links.told links'.told answers (giving_begun s (queue_to s old).kept answers begins) to gave stands), goes),
+    does = λ past first own es st. (
+      inl (begins_stage asset past most first es old own st few s answers begins),
+      apart_none own desk.lines desk.lines _ refl (stands_silent asset past first es answers old new own own st (silent_gives s old new own links.told links'.told answers (giving_begun s (queue_to s old).kept answers begins) to gave stands), goes),
     );
   }
   give_stops stop.Write gave cause = absurd gave
@@ -280,18 +280,18 @@ module _ (asset : Asset) (most : ℕ) (s : Side) (old new : RelayingValue) (link
     answers = Finished s ∷ [];
     adds = record { tells = tells; link = later; idles = λ start r. omega (arith, r, same, to.idle); log = writes_none desk };
     still = still;
-    does = λ first own es st. (
-      one_stage asset most (Finishing s) es (Finished s ∷ []) (finishes_stage asset most first es old own st few s last),
-      apart_none own desk.lines desk.lines _ refl (stands_silent asset first es (Finished s ∷ []) old new own own st (silent_close s old new own to closed last)),
+    does = λ past first own es st. (
+      one_stage asset past most (Finishing s) es (Finished s ∷ []) (finishes_stage asset past most first es old own st few s last),
+      apart_none own desk.lines desk.lines _ refl (stands_silent asset past first es (Finished s ∷ []) old new own own st (silent_close s old new own to closed last)),
     );
   }
   finish_goes still x (inr (never, closed, tells)) = record {
     answers = [];
     adds = record { tells = tells ∙ with_none links.told; link = later; idles = λ start r. omega (arith, r, same, to.idle); log = writes_none desk };
     still = still;
-    does = λ first own es st. (
-      one_stage asset most (Finishing s) es [] (no_finish asset most first es old own st few s never),
-      apart_none own desk.lines desk.lines _ refl (stands_silent asset first es [] old new own own st (silent_same s old new own to closed)),
+    does = λ past first own es st. (
+      one_stage asset past most (Finishing s) es [] (no_finish asset past most first es old own st few s never),
+      apart_none own desk.lines desk.lines _ refl (stands_silent asset past first es [] old new own own st (silent_same s old new own to closed)),
     );
   }
 
@@ -301,9 +301,9 @@ module _ (asset : Asset) (most : ℕ) (s : Side) (old new : RelayingValue) (link
     answers = [];
     adds = record { tells = tells ∙ with_none links.told; link = later; idles = λ start r. omega (arith, r, same, to.idle); log = writes_none desk };
     cause = cause;
-    does = λ first own es st. (
-      breaks_nothing asset most (Finishing s ∷ []) es,
-      apart_none own desk.lines desk.lines _ refl (stands_silent asset first es [] old new own own st (silent_same s old new own to closed), omega (arith, few, to.idle)),
+    does = λ past first own es st. (
+      breaks_nothing asset past most (Finishing s ∷ []) es,
+      apart_none own desk.lines desk.lines _ refl (stands_silent asset past first es [] old new own own st (silent_same s old new own to closed), omega (arith, few, to.idle)),
     );
   }
   finish_stops stop.Idle none cause = absurd none

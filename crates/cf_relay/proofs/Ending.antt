@@ -1,4 +1,5 @@
 -- What the answers of a relay mean, by what was done and by the last line.
+use Rattle.cf_lane.specs.Caller.{none_before}
 use Rattle.std.proofs.Common.{Err, List, Ok, Option, Result, ap, arith, subst, sym, ℕ, ◌∙◌, ◌≡◌, ◌≤◌}
 use Rattle.cf_audit.specs.Line.{Close}
 use Rattle.cf_lane.specs.Log.{line_about}
@@ -25,32 +26,32 @@ use Rattle.cf_relay.specs.Turned.{HasStopped, HasTurned, begun_list}
 
 module _ (asset : Asset) (listen most : ℕ) (client : Endpoint) (m : ℕ) (base : Option (List (List ℕ))) (answers : List Entry) (now : RelayingValue) (d1 d2 : DeskValue) where
   -- both sides are closed, and the close line is put, or fails
-  pub done_ends : HasTurned both.Together asset listen most client m base answers now d1.lines → AreClosed now → (r : Result RelayDone RelayFault) → ClosesWith asset client now d1 d2 r →
+  pub done_ends : HasTurned both.Together asset none_before listen most client m base answers now d1.lines → AreClosed now → (r : Result RelayDone RelayFault) → ClosesWith asset client now d1 d2 r →
       RelayEnds asset listen most (desk_log base d2) ⊥ (begun_list asset listen client m answers) r
   done_ends t closed (Ok d) (is, added, whole) =
       subst (λ (x : RelayDone). EndsAs asset listen most (desk_log base d2) (begun_list asset listen client m answers) x x.end) (sym is)
-      (turned_done both.Together asset listen most client m base answers now d1.lines t (desk_log base d2) closed (λ ls e. (added ∙ e, whole)))
-  done_ends t closed (Err fault.Write) may = turned_unlogged both.Together asset listen most client m base answers now d1.lines t (desk_log base d2) closed d2.lines d2.line_part may (λ ls b. b)
+      (turned_done both.Together asset none_before listen most client m base answers now d1.lines t (desk_log base d2) closed (λ ls e. (added ∙ e, whole)))
+  done_ends t closed (Err fault.Write) may = turned_unlogged both.Together asset none_before listen most client m base answers now d1.lines t (desk_log base d2) closed d2.lines d2.line_part may (λ ls b. b)
   done_ends t closed (Err fault.Link) none = absurd none
   done_ends t closed (Err fault.NoMemory) none = absurd none
 
   -- the relay stopped within its turns
-  pub stop_ends : (why : Stop) → HasStopped both.Together asset listen most client m base answers why now d1.lines d1.line_part → StaysWhole (Err why) d1 → (r : Result RelayDone RelayFault) → StopsWith asset client now why d1 d2 r →
+  pub stop_ends : (why : Stop) → HasStopped both.Together asset none_before listen most client m base answers why now d1.lines d1.line_part → StaysWhole (Err why) d1 → (r : Result RelayDone RelayFault) → StopsWith asset client now why d1 d2 r →
       RelayEnds asset listen most (desk_log base d2) ⊥ (begun_list asset listen client m answers) r
   stop_ends stop.Idle h stays r (is, same) =
       subst (RelayEnds asset listen most (desk_log base d2) ⊥ (begun_list asset listen client m answers)) (sym is)
-      (stopped_idle both.Together asset listen most client m base answers now d1.lines d1.line_part (desk_log base d2) h (λ ls e. (ap (λ (d : DeskValue). d.lines) same ∙ e, ap (λ (d : DeskValue). d.whole) same ∙ stays)))
+      (stopped_idle both.Together asset none_before listen most client m base answers now d1.lines d1.line_part (desk_log base d2) h (λ ls e. (ap (λ (d : DeskValue). d.lines) same ∙ e, ap (λ (d : DeskValue). d.whole) same ∙ stays)))
   stop_ends stop.Link h stays r (is, same) =
       subst (RelayEnds asset listen most (desk_log base d2) ⊥ (begun_list asset listen client m answers)) (sym is)
-      (stopped_link both.Together asset listen most client m base answers now d1.lines d1.line_part (desk_log base d2) h (λ ls e. (ap (λ (d : DeskValue). d.lines) same ∙ e, ap (λ (d : DeskValue). d.whole) same ∙ stays))).0
+      (stopped_link both.Together asset none_before listen most client m base answers now d1.lines d1.line_part (desk_log base d2) h (λ ls e. (ap (λ (d : DeskValue). d.lines) same ∙ e, ap (λ (d : DeskValue). d.whole) same ∙ stays))).0
   stop_ends stop.Write h stays r (is, same) =
       subst (RelayEnds asset listen most (desk_log base d2) ⊥ (begun_list asset listen client m answers)) (sym is)
-      (stopped_write both.Together asset listen most client m base answers now d1.lines d1.line_part (desk_log base d2) h (λ ls b. subst (λ (d : DeskValue). BeginsLines base d.lines d.line_part ls) (sym same) b))
+      (stopped_write both.Together asset none_before listen most client m base answers now d1.lines d1.line_part (desk_log base d2) h (λ ls b. subst (λ (d : DeskValue). BeginsLines base d.lines d.line_part ls) (sym same) b))
   stop_ends (stop.Cut reason) h stays (Ok d) (is, added, whole) =
       subst (λ (x : RelayDone). EndsAs asset listen most (desk_log base d2) (begun_list asset listen client m answers) x x.end) (sym is)
-      (stopped_cut both.Together asset listen most client m base answers now d1.lines d1.line_part (desk_log base d2) reason h (λ ls e. (added ∙ e, whole)))
+      (stopped_cut both.Together asset none_before listen most client m base answers now d1.lines d1.line_part (desk_log base d2) reason h (λ ls e. (added ∙ e, whole)))
   stop_ends (stop.Cut reason) h stays (Err fault.Write) may =
-      stopped_unlogged both.Together asset listen most client m base answers now d1.lines d1.line_part (desk_log base d2) reason h d2.lines d2.line_part may (λ ls b. b)
+      stopped_unlogged both.Together asset none_before listen most client m base answers now d1.lines d1.line_part (desk_log base d2) reason h d2.lines d2.line_part may (λ ls b. b)
   stop_ends (stop.Cut reason) h stays (Err fault.Link) none = absurd none
   stop_ends (stop.Cut reason) h stays (Err fault.NoMemory) none = absurd none
 
@@ -65,7 +66,7 @@ close_idles asset client now d1 d2 most start idles (Ok d) (is, added, whole) = 
 close_idles asset client now d1 d2 most start idles (Err e) h = tt
 
 pub stop_idles : (asset : Asset) (most : ℕ) (first : Option (List (List ℕ))) (es : List Entry) (client : Endpoint) (now : RelayingValue) (d1 d2 : DeskValue) (start idles : ℕ) (why : Stop) (r : Result RelayDone RelayFault) →
-    StandsStopped asset most first es why now d1.lines d1.line_part → StopsWith asset client now why d1 d2 r → RoseBy now.idle start idles → IdlesRose most start idles r
+    StandsStopped asset none_before most first es why now d1.lines d1.line_part → StopsWith asset client now why d1 d2 r → RoseBy now.idle start idles → IdlesRose most start idles r
 stop_idles asset most first es client now d1 d2 start idles stop.Idle r (s2, full) (is, same) rose =
     subst (IdlesRose most start idles) (sym is) (subst (λ (n : ℕ). RoseBy n start idles) full rose)
 stop_idles asset most first es client now d1 d2 start idles stop.Link r st (is, same) rose = subst (IdlesRose most start idles) (sym is) tt

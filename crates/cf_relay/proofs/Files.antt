@@ -1,4 +1,5 @@
 -- What a desk over a log tells, as what stands in the file.
+use Rattle.cf_lane.specs.Caller.{newcomer, none_before}
 use Rattle.std.proofs.Common.{Bool, Err, List, None, Ok, Result, Some, ap, drop, false, inl, inr, length, refl, subst, sym, take, true, ℕ, ◌&&◌, ◌++◌, ◌+◌, ◌<◌, ◌∙◌, ◌∷◌, ◌≡◌, ◌⊎◌, not, []}
 use Rattle.std.specs.List.{concat}
 use Rattle.std.proofs.Math.Seq.{take-append-add}
@@ -101,13 +102,13 @@ partly_empty : (first new : Content) → (new ≡ first) ⊎ (new ≡ content_af
 partly_empty first new (inl same) = inl same
 partly_empty first new (inr created) = inr (0, created ∙ created_empty first)
 
-pub write_first : (asset : Asset) (listen most : ℕ) (first new : Content) → 0 < most → (new ≡ first) ⊎ (new ≡ content_after_create first) → IsWriteEnd both.Together asset listen most (file_log first new) []
+pub write_first : (asset : Asset) (listen most : ℕ) (first new : Content) → 0 < most → (new ≡ first) ⊎ (new ≡ content_after_create first) → IsWriteEnd both.Together asset none_before listen most (file_log first new) []
 write_first asset listen most first new few either = record {
-  relayed = relayed_none asset listen most few both.Together;
+  relayed = relayed_none asset none_before listen most few both.Together;
   history = [];
   is_short = inl refl;
   judged = [];
-  are_judged = empty_judged asset 0;
+  are_judged = empty_judged asset (newcomer 0);
   prefixes = λ s. ([], refl);
   last = [];
   is_last = inl refl;

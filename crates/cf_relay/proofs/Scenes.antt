@@ -44,7 +44,7 @@ goes_none asset most now = record {
   answers = [];
   adds = record { tells = with_none now.links.told; link = omega arith; idles = λ start r. r; log = writes_none now.desk };
   still = refl;
-  does = λ first own es st. (refl, apart_none own now.desk.lines now.desk.lines (λ log. StandsFor asset first (es ++ []) now.relaying log) refl (subst (λ (x : List Entry). StandsFor asset first x now.relaying own) (sym (append-nil es)) st));
+  does = λ past first own es st. (refl, apart_none own now.desk.lines now.desk.lines (λ log. StandsFor asset past first (es ++ []) now.relaying log) refl (subst (λ (x : List Entry). StandsFor asset past first x now.relaying own) (sym (append-nil es)) st));
 }
 
 cause_later : (why : Stop) (old mid new : Scene) (xs : List Entry) → AddsAnswers old mid xs → mid.links.faults ≡ old.links.faults → StopsBy why mid new → StopsBy why old new
@@ -59,10 +59,10 @@ module _ {asset : Asset} {most : ℕ} {ps qs : List Stage} {old mid new : Scene}
     answers = h.answers ++ g.answers;
     adds = adds_both old mid new h.answers g.answers h.adds g.adds;
     still = g.still ∙ h.still;
-    does = λ first own es st.
-        let a = h.does first own es st in
-        let b = g.does first (with_lines own a.1.more) (es ++ h.answers) a.1.stands in (
-          does_then asset most ps qs es h.answers g.answers a.0 b.0,
+    does = λ past first own es st.
+        let a = h.does past first own es st in
+        let b = g.does past first (with_lines own a.1.more) (es ++ h.answers) a.1.stands in (
+          does_then asset past most ps qs es h.answers g.answers a.0 b.0,
           apart_more own old.desk.lines mid.desk.lines new.desk.lines _ a.1.more a.1.added (rw (append_assoc es h.answers g.answers) at b.1),
         );
   }
@@ -72,10 +72,10 @@ module _ {asset : Asset} {most : ℕ} {ps qs : List Stage} {old mid new : Scene}
     answers = h.answers ++ g.answers;
     adds = adds_both old mid new h.answers g.answers h.adds g.adds;
     cause = cause_later why old mid new h.answers h.adds h.still g.cause;
-    does = λ first own es st.
-        let a = h.does first own es st in
-        let b = g.does first (with_lines own a.1.more) (es ++ h.answers) a.1.stands in (
-          does_broken asset most ps qs es h.answers g.answers a.0 b.0,
+    does = λ past first own es st.
+        let a = h.does past first own es st in
+        let b = g.does past first (with_lines own a.1.more) (es ++ h.answers) a.1.stands in (
+          does_broken asset past most ps qs es h.answers g.answers a.0 b.0,
           apart_more own old.desk.lines mid.desk.lines new.desk.lines _ a.1.more a.1.added (rw (append_assoc es h.answers g.answers) at b.1),
         );
   }
@@ -86,7 +86,7 @@ stops_more {asset = asset} {most = most} {ps = ps} qs h = record {
   answers = h.answers;
   adds = h.adds;
   cause = h.cause;
-  does = λ first own es st. let a = h.does first own es st in (breaks_more asset most ps qs es h.answers a.0, a.1);
+  does = λ past first own es st. let a = h.does past first own es st in (breaks_more asset past most ps qs es h.answers a.0, a.1);
 }
 
 pub on_ok : {T : Type 0} (r : Result T Stop) (P Q : Type 0) → (P → Q) → OnOk r P → OnOk r Q

@@ -1,4 +1,5 @@
 -- What the code does in a stage is that stage of the turn, for the list so far; and stages one after the other.
+use Rattle.cf_lane.specs.Caller.{RateMoments, caller_at}
 use Rattle.std.proofs.Common.{Bool, List, Option, ap, cond, drop, false, inl, inr, length, refl, subst, sym, true, ℕ, ◌++◌, ◌+◌, ◌<◌, ◌∙◌, ◌∷◌, ◌≡◌, ◌≤◌, ◌&&◌, []}
 use Rattle.std.specs.Option.{option_or}
 use Rattle.std.proofs.lemmas.List.{append-nil, append_assoc}
@@ -29,11 +30,11 @@ not_both true true h = absurd (h refl refl)
 not_both true false h = refl
 not_both false b h = refl
 
-module _ (asset : Asset) (most : ℕ) (first : Option (List (List ℕ))) (es : List Entry) (now : RelayingValue) (log : Option (List (List ℕ))) (st : StandsFor asset first es now log) where
-  unfoldable pub goes_on : now.idle < most → IsUnstopped asset most es
+module _ (asset : Asset) (past : RateMoments) (most : ℕ) (first : Option (List (List ℕ))) (es : List Entry) (now : RelayingValue) (log : Option (List (List ℕ))) (st : StandsFor asset past first es now log) where
+  unfoldable pub goes_on : now.idle < most → IsUnstopped asset past most es
   goes_on few = record {
     judged = st.follows.judged;
-    are_items = subst (λ (c : Endpoint). AreJudged asset c.address (history_of es) st.follows.judged) st.client st.follows.are_judged;
+    are_items = subst (λ (c : Endpoint). AreJudged asset (caller_at c.address past) (history_of es) st.follows.judged) st.client st.follows.are_judged;
     uncut = ap (λ c. option_or c (limit_cut LETTER_LIMIT (history_of es) (stream_to asset side.Client st.follows.judged) (stream_to asset side.Controller st.follows.judged))) st.follows.is_cut ∙ st.uncut;
     idle = subst (λ (n : ℕ). n < most) st.idle few;
   }
@@ -49,16 +50,16 @@ module _ (asset : Asset) (most : ℕ) (first : Option (List (List ℕ))) (es : L
   queue_letters : (s : Side) → letter_count (queue_of asset s es st.follows.judged) ≡ length (queue_to s now).kept + cond (queue_to s now).ended 1 0
   queue_letters s = ap (λ xs. length xs + cond (queue_of asset s es st.follows.judged).ended 1 0) (queue_bytes s) ∙ ap (λ b. length (queue_to s now).kept + cond b 1 0) (queue_ended s)
 
-  pub tells_stage : now.idle < most → (AreClosed now → ⊥) → (m : ℕ) → IsStage asset most Telling es (Moment m ∷ [])
+  pub tells_stage : now.idle < most → (AreClosed now → ⊥) → (m : ℕ) → IsStage asset past most Telling es (Moment m ∷ [])
   unfolding goes_on
   tells_stage few still m =
       (goes_on few, (not_both (is_finished side.Client es) (is_finished side.Controller es) (λ c k. still (st.closed side.Client ∙ c, st.closed side.Controller ∙ k)), (m, refl)))
 
-  pub gives_stage : now.idle < most → (s : Side) (answers : List Entry) → GivesQueued s (queue_to s now).kept answers → IsStage asset most (Giving s) es answers
+  pub gives_stage : now.idle < most → (s : Side) (answers : List Entry) → GivesQueued s (queue_to s now).kept answers → IsStage asset past most (Giving s) es answers
   unfolding goes_on
   gives_stage few s answers gives = (goes_on few, subst (λ (q : List ℕ). GivesQueued s q answers) (sym (queue_bytes s)) gives)
 
-  pub begins_stage : now.idle < most → (s : Side) (answers : List Entry) → BeginsToGive s (queue_to s now).kept answers → BeginsStage asset most (Giving s) es answers
+  pub begins_stage : now.idle < most → (s : Side) (answers : List Entry) → BeginsToGive s (queue_to s now).kept answers → BeginsStage asset past most (Giving s) es answers
   unfolding goes_on
   begins_stage few s answers begins = inr (goes_on few, subst (λ (q : List ℕ). BeginsToGive s q answers) (sym (queue_bytes s)) begins)
 
@@ -68,11 +69,11 @@ module _ (asset : Asset) (most : ℕ) (first : Option (List (List ℕ))) (es : L
   is_last : (s : Side) → MayFinish asset s es st.follows.judged → OnlyEndIsLeft (queue_to s now) (is_closed s now)
   is_last s may = (sym (queue_bytes s) ∙ may.empty, sym (queue_ended s) ∙ may.ends, st.closed s ∙ may.first)
 
-  pub finishes_stage : now.idle < most → (s : Side) → OnlyEndIsLeft (queue_to s now) (is_closed s now) → IsStage asset most (Finishing s) es (Finished s ∷ [])
+  pub finishes_stage : now.idle < most → (s : Side) → OnlyEndIsLeft (queue_to s now) (is_closed s now) → IsStage asset past most (Finishing s) es (Finished s ∷ [])
   unfolding goes_on
   finishes_stage few s last = (goes_on few, inl (may_finish s last, refl))
 
-  pub no_finish : now.idle < most → (s : Side) → (OnlyEndIsLeft (queue_to s now) (is_closed s now) → ⊥) → IsStage asset most (Finishing s) es []
+  pub no_finish : now.idle < most → (s : Side) → (OnlyEndIsLeft (queue_to s now) (is_closed s now) → ⊥) → IsStage asset past most (Finishing s) es []
   unfolding goes_on
   no_finish few s never = (goes_on few, inr ((λ may. never (is_last s may)), refl))
 
@@ -106,59 +107,59 @@ module _ (asset : Asset) (most : ℕ) (first : Option (List (List ℕ))) (es : L
     back = subst (λ (n : ℕ). n ≤ most_back dirs) (back_letters s) may.back;
   }
 
-  pub takes_stage : now.idle < most → (dirs : Directions) (s : Side) (answer : Entry) → MayTakeNow dirs s now.to_client now.to_controller → IsTakeAnswer s answer → IsStage asset most (Taking dirs s) es (answer ∷ [])
+  pub takes_stage : now.idle < most → (dirs : Directions) (s : Side) (answer : Entry) → MayTakeNow dirs s now.to_client now.to_controller → IsTakeAnswer s answer → IsStage asset past most (Taking dirs s) es (answer ∷ [])
   unfolding goes_on
   takes_stage few dirs s answer may taken = (goes_on few, inl (may_take dirs s may, (answer, taken, refl)))
 
-  pub no_take : now.idle < most → (dirs : Directions) (s : Side) → (MayTakeNow dirs s now.to_client now.to_controller → ⊥) → IsStage asset most (Taking dirs s) es []
+  pub no_take : now.idle < most → (dirs : Directions) (s : Side) → (MayTakeNow dirs s now.to_client now.to_controller → ⊥) → IsStage asset past most (Taking dirs s) es []
   unfolding goes_on
   no_take few dirs s never = (goes_on few, inr ((λ may. never (may_take_now dirs s may)), refl))
 
 -- ---- stages one after the other
 
-pub one_stage : (asset : Asset) (most : ℕ) (p : Stage) (es answers : List Entry) → IsStage asset most p es answers → DoesStages asset most (p ∷ []) es answers
-one_stage asset most p es answers is = (answers, [], sym (append-nil answers), is, refl)
+pub one_stage : (asset : Asset) (past : RateMoments) (most : ℕ) (p : Stage) (es answers : List Entry) → IsStage asset past most p es answers → DoesStages asset past most (p ∷ []) es answers
+one_stage asset past most p es answers is = (answers, [], sym (append-nil answers), is, refl)
 
-pub one_broken : (asset : Asset) (most : ℕ) (p : Stage) (es answers : List Entry) → IsStage asset most p es answers → BeginsStages asset most (p ∷ []) es answers
-one_broken asset most p es answers is = inr (answers, [], sym (append-nil answers), is, refl)
+pub one_broken : (asset : Asset) (past : RateMoments) (most : ℕ) (p : Stage) (es answers : List Entry) → IsStage asset past most p es answers → BeginsStages asset past most (p ∷ []) es answers
+one_broken asset past most p es answers is = inr (answers, [], sym (append-nil answers), is, refl)
 
-pub does_then : (asset : Asset) (most : ℕ) (ps qs : List Stage) (a xs ys : List Entry) → DoesStages asset most ps a xs → DoesStages asset most qs (a ++ xs) ys → DoesStages asset most (ps ++ qs) a (xs ++ ys)
-does_then asset most [] qs a xs ys none does =
-    subst (λ (zs : List Entry). DoesStages asset most qs a zs) (ap (λ (zs : List Entry). zs ++ ys) (sym none)) (subst (λ (zs : List Entry). DoesStages asset most qs zs ys) (ap (λ zs. a ++ zs) none ∙ append-nil a) does)
-does_then asset most (p ∷ ps) qs a xs ys (now, next, e, whole, later) does = (
+pub does_then : (asset : Asset) (past : RateMoments) (most : ℕ) (ps qs : List Stage) (a xs ys : List Entry) → DoesStages asset past most ps a xs → DoesStages asset past most qs (a ++ xs) ys → DoesStages asset past most (ps ++ qs) a (xs ++ ys)
+does_then asset past most [] qs a xs ys none does =
+    subst (λ (zs : List Entry). DoesStages asset past most qs a zs) (ap (λ (zs : List Entry). zs ++ ys) (sym none)) (subst (λ (zs : List Entry). DoesStages asset past most qs zs ys) (ap (λ zs. a ++ zs) none ∙ append-nil a) does)
+does_then asset past most (p ∷ ps) qs a xs ys (now, next, e, whole, later) does = (
   now,
   next ++ ys,
   ap (λ zs. zs ++ ys) e ∙ append_assoc now next ys,
   whole,
-  does_then asset most ps qs (a ++ now) next ys later (subst (λ (zs : List Entry). DoesStages asset most qs zs ys) (ap (λ zs. a ++ zs) e ∙ sym (append_assoc a now next)) does),
+  does_then asset past most ps qs (a ++ now) next ys later (subst (λ (zs : List Entry). DoesStages asset past most qs zs ys) (ap (λ zs. a ++ zs) e ∙ sym (append_assoc a now next)) does),
 )
 
-pub does_broken : (asset : Asset) (most : ℕ) (ps qs : List Stage) (a xs ys : List Entry) → DoesStages asset most ps a xs → BeginsStages asset most qs (a ++ xs) ys → BeginsStages asset most (ps ++ qs) a (xs ++ ys)
-does_broken asset most [] qs a xs ys none breaks =
-    subst (λ (zs : List Entry). BeginsStages asset most qs a zs) (ap (λ (zs : List Entry). zs ++ ys) (sym none)) (subst (λ (zs : List Entry). BeginsStages asset most qs zs ys) (ap (λ zs. a ++ zs) none ∙ append-nil a) breaks)
-does_broken asset most (p ∷ ps) qs a xs ys (now, next, e, whole, later) breaks =
+pub does_broken : (asset : Asset) (past : RateMoments) (most : ℕ) (ps qs : List Stage) (a xs ys : List Entry) → DoesStages asset past most ps a xs → BeginsStages asset past most qs (a ++ xs) ys → BeginsStages asset past most (ps ++ qs) a (xs ++ ys)
+does_broken asset past most [] qs a xs ys none breaks =
+    subst (λ (zs : List Entry). BeginsStages asset past most qs a zs) (ap (λ (zs : List Entry). zs ++ ys) (sym none)) (subst (λ (zs : List Entry). BeginsStages asset past most qs zs ys) (ap (λ zs. a ++ zs) none ∙ append-nil a) breaks)
+does_broken asset past most (p ∷ ps) qs a xs ys (now, next, e, whole, later) breaks =
     inr (
       now,
       next ++ ys,
       ap (λ zs. zs ++ ys) e ∙ append_assoc now next ys,
       whole,
-      does_broken asset most ps qs (a ++ now) next ys later (subst (λ (zs : List Entry). BeginsStages asset most qs zs ys) (ap (λ zs. a ++ zs) e ∙ sym (append_assoc a now next)) breaks),
+      does_broken asset past most ps qs (a ++ now) next ys later (subst (λ (zs : List Entry). BeginsStages asset past most qs zs ys) (ap (λ zs. a ++ zs) e ∙ sym (append_assoc a now next)) breaks),
     )
 
 -- nothing of them
-begins_nothing : (asset : Asset) (most : ℕ) (p : Stage) (a : List Entry) → BeginsStage asset most p a []
-begins_nothing asset most (Meeting listen) a = refl
-begins_nothing asset most Telling a = refl
-begins_nothing asset most (Taking dirs s) a = refl
-begins_nothing asset most (Giving s) a = inl refl
-begins_nothing asset most (Finishing s) a = refl
+begins_nothing : (asset : Asset) (past : RateMoments) (most : ℕ) (p : Stage) (a : List Entry) → BeginsStage asset past most p a []
+begins_nothing asset past most (Meeting listen) a = refl
+begins_nothing asset past most Telling a = refl
+begins_nothing asset past most (Taking dirs s) a = refl
+begins_nothing asset past most (Giving s) a = inl refl
+begins_nothing asset past most (Finishing s) a = refl
 
-pub breaks_nothing : (asset : Asset) (most : ℕ) (ps : List Stage) (a : List Entry) → BeginsStages asset most ps a []
-breaks_nothing asset most [] a = refl
-breaks_nothing asset most (p ∷ ps) a = inl (begins_nothing asset most p a)
+pub breaks_nothing : (asset : Asset) (past : RateMoments) (most : ℕ) (ps : List Stage) (a : List Entry) → BeginsStages asset past most ps a []
+breaks_nothing asset past most [] a = refl
+breaks_nothing asset past most (p ∷ ps) a = inl (begins_nothing asset past most p a)
 
 -- stages that break off, and others that were to follow
-pub breaks_more : (asset : Asset) (most : ℕ) (ps qs : List Stage) (a xs : List Entry) → BeginsStages asset most ps a xs → BeginsStages asset most (ps ++ qs) a xs
-breaks_more asset most [] qs a xs none = subst (λ (zs : List Entry). BeginsStages asset most qs a zs) (sym none) (breaks_nothing asset most qs a)
-breaks_more asset most (p ∷ ps) qs a xs (inl begins) = inl begins
-breaks_more asset most (p ∷ ps) qs a xs (inr (now, next, e, whole, later)) = inr (now, next, e, whole, breaks_more asset most ps qs (a ++ now) next later)
+pub breaks_more : (asset : Asset) (past : RateMoments) (most : ℕ) (ps qs : List Stage) (a xs : List Entry) → BeginsStages asset past most ps a xs → BeginsStages asset past most (ps ++ qs) a xs
+breaks_more asset past most [] qs a xs none = subst (λ (zs : List Entry). BeginsStages asset past most qs a zs) (sym none) (breaks_nothing asset past most qs a)
+breaks_more asset past most (p ∷ ps) qs a xs (inl begins) = inl begins
+breaks_more asset past most (p ∷ ps) qs a xs (inr (now, next, e, whole, later)) = inr (now, next, e, whole, breaks_more asset past most ps qs (a ++ now) next later)

@@ -1,4 +1,5 @@
 -- How a relay begins: its first lines and answers, what it keeps before its first turn, and how it ends there.
+use Rattle.cf_lane.specs.Caller.{Caller, RateMoments, caller_at}
 use Rattle.std.proofs.Common.{List, None, Option, ap, arith, inl, inr, length, refl, subst, sym, take, true, ℕ, ◌++◌, ◌<◌, ◌∙◌, ◌∷◌, ◌≡◌, []}
 use Rattle.std.specs.List.{concat}
 use Rattle.std.proofs.Math.Seq.{drop-append_seam, take-append_seam}
@@ -42,63 +43,63 @@ some_idle idle most h = omega (arith, h)
 
 -- ---- the beginning
 
-pub empty_judged : (asset : Asset) (client : ℕ) → AreJudged asset client [] []
+pub empty_judged : (asset : Asset) (client : Caller) → AreJudged asset client [] []
 empty_judged asset client = record { items = []; are_items = refl; dropped = []; are_first = refl; goes_on = refl; fates = tt }
 
-module _ (asset : Asset) (listen most : ℕ) (few : 0 < most) where
-  pub goes_first : IsUnstopped asset most []
-  goes_first = record { judged = []; are_items = empty_judged asset 0; uncut = refl; idle = few }
+module _ (asset : Asset) (past : RateMoments) (listen most : ℕ) (few : 0 < most) where
+  pub goes_first : IsUnstopped asset past most []
+  goes_first = record { judged = []; are_items = empty_judged asset (caller_at 0 past); uncut = refl; idle = few }
 
-  pub goes_met : (client : Endpoint) → IsUnstopped asset most (met_at listen asset.endpoint client ∷ [])
-  goes_met client = record { judged = []; are_items = empty_judged asset client.address; uncut = refl; idle = few }
+  pub goes_met : (client : Endpoint) → IsUnstopped asset past most (met_at listen asset.endpoint client ∷ [])
+  goes_met client = record { judged = []; are_items = empty_judged asset (caller_at client.address past); uncut = refl; idle = few }
 
-  pub start_does : (client : Endpoint) (m : ℕ) → DoesStages asset most (Meeting listen ∷ Telling ∷ []) [] (met_at listen asset.endpoint client ∷ Moment m ∷ [])
+  pub start_does : (client : Endpoint) (m : ℕ) → DoesStages asset past most (Meeting listen ∷ Telling ∷ []) [] (met_at listen asset.endpoint client ∷ Moment m ∷ [])
   start_does client m = (met_at listen asset.endpoint client ∷ [], Moment m ∷ [], refl, (goes_first, (client, refl)), (Moment m ∷ [], [], refl, (goes_met client, (refl, (m, refl))), refl))
 
-  pub relayed_none : (dirs : Directions) → IsRelayed dirs asset listen most []
-  relayed_none dirs = (0, breaks_nothing asset most (stages dirs listen 0) [])
+  pub relayed_none : (dirs : Directions) → IsRelayed dirs asset past listen most []
+  relayed_none dirs = (0, breaks_nothing asset past most (stages dirs listen 0) [])
 
-  pub relayed_met : (dirs : Directions) (client : Endpoint) → IsRelayed dirs asset listen most (met_at listen asset.endpoint client ∷ [])
-  relayed_met dirs client = (0, inr (met_at listen asset.endpoint client ∷ [], [], refl, (goes_first, (client, refl)), breaks_nothing asset most (Telling ∷ []) (met_at listen asset.endpoint client ∷ [])))
+  pub relayed_met : (dirs : Directions) (client : Endpoint) → IsRelayed dirs asset past listen most (met_at listen asset.endpoint client ∷ [])
+  relayed_met dirs client = (0, inr (met_at listen asset.endpoint client ∷ [], [], refl, (goes_first, (client, refl)), breaks_nothing asset past most (Telling ∷ []) (met_at listen asset.endpoint client ∷ [])))
 
-  pub relayed_told : (dirs : Directions) (client : Endpoint) (m : ℕ) → IsRelayed dirs asset listen most (met_at listen asset.endpoint client ∷ Moment m ∷ [])
-  relayed_told dirs client m = (0, does_broken asset most (Meeting listen ∷ Telling ∷ []) [] [] (met_at listen asset.endpoint client ∷ Moment m ∷ []) [] (start_does client m) refl)
+  pub relayed_told : (dirs : Directions) (client : Endpoint) (m : ℕ) → IsRelayed dirs asset past listen most (met_at listen asset.endpoint client ∷ Moment m ∷ [])
+  relayed_told dirs client m = (0, does_broken asset past most (Meeting listen ∷ Telling ∷ []) [] [] (met_at listen asset.endpoint client ∷ Moment m ∷ []) [] (start_does client m) refl)
 
 -- ---- the ends before the first turn
 
 no_prefixes : (asset : Asset) (es : List Entry) → ((s : Side) → given s es ≡ []) → GivenPrefixes asset es []
 no_prefixes asset es none s = ([], sym (append-nil (given s es) ∙ none s))
 
-module _ (dirs : Directions) (asset : Asset) (listen most : ℕ) (few : 0 < most) (log : LogContents) where
+module _ (dirs : Directions) (asset : Asset) (past : RateMoments) (listen most : ℕ) (few : 0 < most) (log : LogContents) where
   -- no client was met
-  pub link_first : log.Holds [] → IsLinkEnd dirs asset listen most log []
+  pub link_first : log.Holds [] → IsLinkEnd dirs asset past listen most log []
   unfolding goes_first
   link_first none = record {
-    relayed = relayed_none asset listen most few dirs;
-    goes = goes_first asset listen most few;
+    relayed = relayed_none asset past listen most few dirs;
+    goes = goes_first asset past listen most few;
     prefixes = no_prefixes asset [] (λ s. refl);
     holds_log = none;
   }
 
   -- no moment was told
-  pub link_met : (client : Endpoint) → log.Holds [] → IsLinkEnd dirs asset listen most log (met_at listen asset.endpoint client ∷ [])
+  pub link_met : (client : Endpoint) → log.Holds [] → IsLinkEnd dirs asset past listen most log (met_at listen asset.endpoint client ∷ [])
   unfolding goes_met
   link_met client none = record {
-    relayed = relayed_met asset listen most few dirs client;
-    goes = goes_met asset listen most few client;
+    relayed = relayed_met asset past listen most few dirs client;
+    goes = goes_met asset past listen most few client;
     prefixes = no_prefixes asset (met_at listen asset.endpoint client ∷ []) (λ s. refl);
     holds_log = none;
   }
 
   -- the line of the beginning failed
   pub write_told : (client : Endpoint) (m : ℕ) (base all : Option (List (List ℕ))) (part : List ℕ) → MayHaveMore (line_about asset client m Begun ∷ []) base all part →
-      ((ls : List (List ℕ)) → BeginsLines base all part ls → log.Begins ls) → IsWriteEnd dirs asset listen most log (met_at listen asset.endpoint client ∷ Moment m ∷ [])
+      ((ls : List (List ℕ)) → BeginsLines base all part ls → log.Begins ls) → IsWriteEnd dirs asset past listen most log (met_at listen asset.endpoint client ∷ Moment m ∷ [])
   write_told client m base all part may begins = record {
-    relayed = relayed_told asset listen most few dirs client m;
+    relayed = relayed_told asset past listen most few dirs client m;
     history = [];
     is_short = inl refl;
     judged = [];
-    are_judged = empty_judged asset client.address;
+    are_judged = empty_judged asset (caller_at client.address past);
     prefixes = no_prefixes asset (met_at listen asset.endpoint client ∷ Moment m ∷ []) (λ s. refl);
     last = [];
     is_last = inl refl;
@@ -110,9 +111,9 @@ module _ (dirs : Directions) (asset : Asset) (listen most : ℕ) (few : 0 < most
 empty_stands : IsQueueOf empty no_letters
 empty_stands = record { ended = refl; pushed = refl; kept = refl; acked = omega arith; sent = omega arith; shown = omega arith }
 
-first_by : (asset : Asset) (listen : ℕ) (client : Endpoint) (m : ℕ) (first : Option (List (List ℕ))) (lane : LaneValue) → lane.client ≡ client → Follows asset [] no_rests None first (state lane empty empty first) →
-    StandsFor asset first (met_at listen asset.endpoint client ∷ Moment m ∷ []) (begun_value lane m) first
-first_by asset listen client m first lane is f = record {
+first_by : (asset : Asset) (past : RateMoments) (listen : ℕ) (client : Endpoint) (m : ℕ) (first : Option (List (List ℕ))) (lane : LaneValue) → lane.client ≡ client → Follows asset past [] no_rests None first (state lane empty empty first) →
+    StandsFor asset past first (met_at listen asset.endpoint client ∷ Moment m ∷ []) (begun_value lane m) first
+first_by asset past listen client m first lane is f = record {
   follows = f;
   uncut = sym (limit_is LETTER_LIMIT asset [] f.judged 0 0 empty empty refl refl f.client_stream f.controller_stream);
   client = is;
@@ -126,12 +127,12 @@ first_by asset listen client m first lane is f = record {
   idle = refl;
 }
 
-pub first_stands : (asset : Asset) (listen : ℕ) (client : Endpoint) (m : ℕ) (first : Option (List (List ℕ))) (lane : LaneValue) → IsNewLane asset client lane →
-    StandsFor asset first (met_at listen asset.endpoint client ∷ Moment m ∷ []) (begun_value lane m) first
-first_stands asset listen client m first lane new = first_by asset listen client m first lane new.of_client (new.follows empty empty first empty_stands empty_stands)
+pub first_stands : (asset : Asset) (past : RateMoments) (listen : ℕ) (client : Endpoint) (m : ℕ) (first : Option (List (List ℕ))) (lane : LaneValue) → IsNewLane asset past client lane →
+    StandsFor asset past first (met_at listen asset.endpoint client ∷ Moment m ∷ []) (begun_value lane m) first
+first_stands asset past listen client m first lane new = first_by asset past listen client m first lane new.of_client (new.follows empty empty first empty_stands empty_stands)
 
-pub first_sound : (asset : Asset) (client : Endpoint) (most m : ℕ) (lane : LaneValue) → 0 < most → IsNewLane asset client lane → IsSound asset most (begun_value lane m)
-first_sound asset client most m lane few new = record {
+pub first_sound : (asset : Asset) (past : RateMoments) (client : Endpoint) (most m : ℕ) (lane : LaneValue) → 0 < most → IsNewLane asset past client lane → IsSound asset most (begun_value lane m)
+first_sound asset past client most m lane few new = record {
   of_asset = new.of_asset;
   debt = omega (arith, new.counts.2);
   short = record { client = omega arith; controller = omega arith; to_client = omega arith; to_controller = omega arith };
@@ -144,9 +145,9 @@ first_sound asset client most m lane few new = record {
 }
 
 -- a lane that was just made
-pub new_lane : (asset : Asset) (client : Endpoint) (lane : LaneValue) → IsLaneOf asset lane → lane.client ≡ client → (lane.admitted ≡ 0) × (lane.refused ≡ 0) × (debt lane ≡ 0) →
-    ((c k : Queue) (x : Option (List (List ℕ))) → IsQueueOf c no_letters → IsQueueOf k no_letters → Follows asset [] no_rests None x (state lane c k x)) → IsNewLane asset client lane
-new_lane asset client lane of_asset is counts follows = record { of_asset = of_asset; of_client = is; counts = counts; follows = follows }
+pub new_lane : (asset : Asset) (past : RateMoments) (client : Endpoint) (lane : LaneValue) → IsLaneOf asset lane → lane.client ≡ client → (lane.admitted ≡ 0) × (lane.refused ≡ 0) × (debt lane ≡ 0) →
+    ((c k : Queue) (x : Option (List (List ℕ))) → IsQueueOf c no_letters → IsQueueOf k no_letters → Follows asset past [] no_rests None x (state lane c k x)) → IsNewLane asset past client lane
+new_lane asset past client lane of_asset is counts follows = record { of_asset = of_asset; of_client = is; counts = counts; follows = follows }
 
 -- a relay of a lane, of two empty queues, and of two sides of which nothing was heard
 pub begun_is : (lane : LaneValue) (c k : Queue) (rest : List ℕ) (letters : ℕ) (rest' : List ℕ) (letters' moment : ℕ) → c ≡ empty → k ≡ empty → rest ≡ [] → letters ≡ 0 → rest' ≡ [] → letters' ≡ 0 →

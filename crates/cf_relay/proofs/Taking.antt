@@ -34,12 +34,12 @@ same_rest side.Controller rests = refl
 -- nothing came
 hears_idle : (asset : Asset) (s : Side) (rest : List ℕ) (now : State) → length rest < 300 → IsLaneOf asset now.lane → debt now.lane ≤ 5300 → Takes asset s [] None rest rest now now
 hears_idle asset s rest now short of_asset owed = record {
-  follows = λ h rests first own is f. record {
+  follows = λ past h rests first own is f. record {
     more = [];
     added = lines_none now.lines;
-    follows = subst (λ (l : Option (List (List ℕ))). Follows asset (h ++ []) (with_rest s rests rest) None first (over l now)) (lines_none own)
-        (subst (λ r. Follows asset (h ++ []) r None first (over own now)) (sym (ap (with_rest s rests) is ∙ same_rest s rests))
-        (subst (λ (k : List Element). Follows asset k rests None first (over own now)) (sym (append-nil h)) f));
+    follows = subst (λ (l : Option (List (List ℕ))). Follows asset past (h ++ []) (with_rest s rests rest) None first (over l now)) (lines_none own)
+        (subst (λ r. Follows asset past (h ++ []) r None first (over own now)) (sym (ap (with_rest s rests) is ∙ same_rest s rests))
+        (subst (λ (k : List Element). Follows asset past k rests None first (over own now)) (sym (append-nil h)) f));
   };
   short = short;
   of_asset = of_asset;

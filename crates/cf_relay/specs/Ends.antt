@@ -1,4 +1,5 @@
 -- What the answers of a relay mean, and what then stands in its log. The main definition is `RelayEnds`.
+use Rattle.cf_lane.specs.Caller.{RateMoments, caller_at, none_before}
 use Rattle.cf_audit.specs.Line.{Begun, Close, Cut}
 use Rattle.cf_audit.specs.declared.line.CutReason.{CutReason}
 use Rattle.cf_lane.specs.Follows.{AreJudged}
@@ -53,19 +54,21 @@ pub record GivenAll (asset : Asset) (es : List Entry) (js : List Judged) : Type 
   pub closed : (s : Side) → is_finished s es ≡ true
 
 -- both sides were given all that was for them, in so many turns, and a close line is the log's last
-pub record IsDone (directions : Directions) (asset : Asset) (listen most : ℕ) (log : LogContents) (es : List Entry) (done : RelayDone) : Type 0 where
+pub record IsDone (directions : Directions) (asset : Asset) (past : RateMoments) (listen most : ℕ) (log : LogContents)
+    (es : List Entry) (done : RelayDone) : Type 0 where
   pub turns : ℕ
-  pub does : DoesStages asset most (stages directions listen turns) [] es
-  pub goes : IsUnstopped asset most es
+  pub does : DoesStages asset past most (stages directions listen turns) [] es
+  pub goes : IsUnstopped asset past most es
   pub all : GivenAll asset es goes.judged
   pub counts : IsCounted goes.judged done.admitted done.refused
   pub holds_log : log.Holds (log_of asset es goes.judged ++ close_line asset es done.admitted done.refused ∷ [])
 
 -- the last answer is the Idle that completes their number; nothing cuts
-pub record IsIdleEnd (directions : Directions) (asset : Asset) (listen most : ℕ) (log : LogContents) (es : List Entry) (done : RelayDone) : Type 0 where
+pub record IsIdleEnd (directions : Directions) (asset : Asset) (past : RateMoments) (listen most : ℕ) (log : LogContents)
+    (es : List Entry) (done : RelayDone) : Type 0 where
   pub judged : List Judged
-  pub relayed : IsRelayed directions asset listen most es
-  pub are_items : AreItemsOf asset es judged
+  pub relayed : IsRelayed directions asset past listen most es
+  pub are_items : AreItemsOf asset past es judged
   pub uncut : cut_at asset es judged ≡ None
   pub idle : idle_run es ≡ most
   pub prefixes : GivenPrefixes asset es judged
@@ -73,20 +76,22 @@ pub record IsIdleEnd (directions : Directions) (asset : Asset) (listen most : �
   pub holds_log : log.Holds (log_of asset es judged)
 
 -- the list is cut, for this reason, and the cut line is the log's last
-pub record IsCutEnd (directions : Directions) (asset : Asset) (listen most : ℕ) (log : LogContents) (es : List Entry) (done : RelayDone)
+pub record IsCutEnd (directions : Directions) (asset : Asset) (past : RateMoments) (listen most : ℕ) (log : LogContents)
+    (es : List Entry) (done : RelayDone)
     (reason : CutReason) : Type 0 where
   pub judged : List Judged
-  pub relayed : IsRelayed directions asset listen most es
-  pub are_items : AreItemsOf asset es judged
+  pub relayed : IsRelayed directions asset past listen most es
+  pub are_items : AreItemsOf asset past es judged
   pub is_cut : cut_at asset es judged ≡ Some reason
   pub prefixes : GivenPrefixes asset es judged
   pub counts : IsCounted judged done.admitted done.refused
   pub holds_log : log.Holds (log_of asset es judged ++ cut_line asset es reason ∷ [])
 
 -- a call on the pair failed, which adds nothing to the list
-pub record IsLinkEnd (directions : Directions) (asset : Asset) (listen most : ℕ) (log : LogContents) (es : List Entry) : Type 0 where
-  pub relayed : IsRelayed directions asset listen most es
-  pub goes : IsUnstopped asset most es
+pub record IsLinkEnd (directions : Directions) (asset : Asset) (past : RateMoments) (listen most : ℕ) (log : LogContents)
+    (es : List Entry) : Type 0 where
+  pub relayed : IsRelayed directions asset past listen most es
+  pub goes : IsUnstopped asset past most es
   pub prefixes : GivenPrefixes asset es goes.judged
   pub holds_log : log.Holds (log_of asset es goes.judged)
 
@@ -98,12 +103,13 @@ IsLastLine asset es js last =
     (last ≡ close_line asset es admitted refused ∷ []))))
 
 -- a write to the log failed: it has a beginning of the lines, those of an element up to the unit whose line failed
-pub record IsWriteEnd (directions : Directions) (asset : Asset) (listen most : ℕ) (log : LogContents) (es : List Entry) : Type 0 where
-  pub relayed : IsRelayed directions asset listen most es
+pub record IsWriteEnd (directions : Directions) (asset : Asset) (past : RateMoments) (listen most : ℕ) (log : LogContents)
+    (es : List Entry) : Type 0 where
+  pub relayed : IsRelayed directions asset past listen most es
   pub history : List Element
   pub is_short : IsCutShort history (history_of es)
   pub judged : List Judged
-  pub are_judged : AreJudged asset (client_of es).address history judged
+  pub are_judged : AreJudged asset (caller_at (client_of es).address past) history judged
   pub prefixes : GivenPrefixes asset es judged
   pub last : List (List ℕ)
   pub is_last : IsLastLine asset es judged last
@@ -116,15 +122,15 @@ IsMemoryEnd asset listen created same es =
 
 -- the end of a relay that no fault stopped, whose directions are together
 abbrev pub EndsAs : Asset → (listen most : ℕ) → LogContents → List Entry → RelayDone → RelayEnd → Type 0
-EndsAs asset listen most log es done ends.Done = IsDone both.Together asset listen most log es done
-EndsAs asset listen most log es done ends.IdleEnd = IsIdleEnd both.Together asset listen most log es done
-EndsAs asset listen most log es done (ends.Cut reason) = IsCutEnd both.Together asset listen most log es done reason
+EndsAs asset listen most log es done ends.Done = IsDone both.Together asset none_before listen most log es done
+EndsAs asset listen most log es done ends.IdleEnd = IsIdleEnd both.Together asset none_before listen most log es done
+EndsAs asset listen most log es done (ends.Cut reason) = IsCutEnd both.Together asset none_before listen most log es done reason
 
 -- what each answer means, of a relay of a port
 abbrev pub RelayEnds : Asset → (listen most : ℕ) → LogContents → (same : Type 0) → List Entry → Result RelayDone RelayFault → Type 0
 RelayEnds asset listen most log same es (Ok done) = EndsAs asset listen most log es done done.end
-RelayEnds asset listen most log same es (Err fault.Link) = IsLinkEnd both.Together asset listen most log es
-RelayEnds asset listen most log same es (Err fault.Write) = IsWriteEnd both.Together asset listen most log es
+RelayEnds asset listen most log same es (Err fault.Link) = IsLinkEnd both.Together asset none_before listen most log es
+RelayEnds asset listen most log same es (Err fault.Write) = IsWriteEnd both.Together asset none_before listen most log es
 RelayEnds asset listen most log same es (Err fault.NoMemory) = IsMemoryEnd asset listen (log.Holds []) same es
 
 -- a file is told

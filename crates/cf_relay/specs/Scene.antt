@@ -1,4 +1,5 @@
 -- What was done between two places of the code: stages that are done, DoesBetween, or that break off, StopsBetween.
+use Rattle.cf_lane.specs.Caller.{RateMoments}
 use Rattle.cf_lane.specs.Handled.{WritesLog}
 use Rattle.cf_links.specs.LinkValue.{LinkValue, link_value}
 use Rattle.cf_links.specs.Links.{with_answers}
@@ -44,9 +45,9 @@ pub record DoesBetween (asset : Asset) (most : ℕ) (stages : List Stage) (old n
   pub answers : List Entry
   pub adds : AddsAnswers old new answers
   pub still : new.links.faults ≡ old.links.faults
-  pub does : (first own : Option (List (List ℕ))) (es : List Entry) → StandsFor asset first es old.relaying own →
-      DoesStages asset most stages es answers
-      × Apart own old.desk.lines new.desk.lines (λ log. StandsFor asset first (es ++ answers) new.relaying log)
+  pub does : (past : RateMoments) (first own : Option (List (List ℕ))) (es : List Entry) → StandsFor asset past first es old.relaying own →
+      DoesStages asset past most stages es answers
+      × Apart own old.desk.lines new.desk.lines (λ log. StandsFor asset past first (es ++ answers) new.relaying log)
 
 -- a stop has its cause; a call on the links failed in one of them alone
 abbrev pub StopsBy : Stop → (old new : Scene) → Type 0
@@ -60,6 +61,6 @@ pub record StopsBetween (asset : Asset) (most : ℕ) (stages : List Stage) (stop
   pub answers : List Entry
   pub adds : AddsAnswers old new answers
   pub cause : StopsBy stop old new
-  pub does : (first own : Option (List (List ℕ))) (es : List Entry) → StandsFor asset first es old.relaying own →
-      BeginsStages asset most stages es answers × Apart own old.desk.lines new.desk.lines
-      (λ log. StandsStopped asset most first (es ++ answers) stop new.relaying log new.desk.line_part)
+  pub does : (past : RateMoments) (first own : Option (List (List ℕ))) (es : List Entry) → StandsFor asset past first es old.relaying own →
+      BeginsStages asset past most stages es answers × Apart own old.desk.lines new.desk.lines
+      (λ log. StandsStopped asset past most first (es ++ answers) stop new.relaying log new.desk.line_part)

@@ -1,4 +1,5 @@
 -- What a relay keeps between two stages stands for the list of answers: StandsFor; and what it stands for as it stops.
+use Rattle.cf_lane.specs.Caller.{RateMoments}
 use Rattle.cf_audit.specs.declared.line.CutReason.{CutReason}
 use Rattle.cf_lane.specs.Follows.{Began, Follows, no_rests}
 use Rattle.cf_lane.specs.Handled.{IsLaneOf, LaneValue, debt, state}
@@ -8,6 +9,7 @@ use Rattle.cf_lane.specs.Limit.{limit_cut}
 use Rattle.cf_lane.specs.Log.{lines, with_lines}
 use Rattle.cf_lane.specs.Output.{other, outputs, stream_to}
 use Rattle.cf_lane.specs.declared.limit.TheConstants.{LETTER_LIMIT}
+use Rattle.cf_lane.specs.Rings.{KnowsRules}
 use Rattle.cf_outq.specs.SendQueue.{IsQueueOf, Queue}
 use Rattle.cf_outside.specs.Pair.{Entry}
 use Rattle.cf_policy.specs.declared.Asset.{Asset}
@@ -29,9 +31,9 @@ pub record Apart (own old new : Option (List (List ℕ))) (Stands : Option (List
   pub stands : Stands (with_lines own more)
 
 -- lane, queues and log have the history of the list, which nothing cuts
-pub record StandsFor (asset : Asset) (first : Option (List (List ℕ))) (es : List Entry) (now : RelayingValue)
+pub record StandsFor (asset : Asset) (past : RateMoments) (first : Option (List (List ℕ))) (es : List Entry) (now : RelayingValue)
     (lines : Option (List (List ℕ))) : Type 0 where
-  pub follows : Follows asset (history_of es) (rests_of now) None first (lane_state now lines)
+  pub follows : Follows asset past (history_of es) (rests_of now) None first (lane_state now lines)
   pub uncut : limit_cut LETTER_LIMIT (history_of es) (stream_to asset side.Client follows.judged)
       (stream_to asset side.Controller follows.judged) ≡ None
   pub client : now.lane.client ≡ client_of es
@@ -48,12 +50,12 @@ pub record StandsFor (asset : Asset) (first : Option (List (List ℕ))) (es : Li
   pub idle : now.idle ≡ idle_run es
 
 -- a lane of an asset and a client that has handled nothing: with two empty queues it follows an empty history over any log
-pub record IsNewLane (asset : Asset) (client : Endpoint) (lane : LaneValue) : Type 0 where
+pub record IsNewLane (asset : Asset) (past : RateMoments) (client : Endpoint) (lane : LaneValue) : Type 0 where
   pub of_asset : IsLaneOf asset lane
   pub of_client : lane.client ≡ client
   pub counts : (lane.admitted ≡ 0) × (lane.refused ≡ 0) × (debt lane ≡ 0)
   pub follows : (to_client to_controller : Queue) (first : Option (List (List ℕ))) → IsQueueOf to_client no_letters
-      → IsQueueOf to_controller no_letters → Follows asset [] no_rests None first (state lane to_client to_controller first)
+      → IsQueueOf to_controller no_letters → Follows asset past [] no_rests None first (state lane to_client to_controller first)
 
 -- each side was given a prefix of the stream to it
 abbrev pub IsPrefix : List ℕ → List ℕ → Type 0
@@ -69,13 +71,14 @@ pub record IsCounted (js : List Judged) (admits refuses : ℕ) : Type 0 where
   pub refused : refuses ≡ count_by (λ j. is_refused j.fate) js
 
 -- the list is cut, and lane and log have its items
-pub record StandsCut (asset : Asset) (first : Option (List (List ℕ))) (es : List Entry) (now : RelayingValue)
+pub record StandsCut (asset : Asset) (past : RateMoments) (first : Option (List (List ℕ))) (es : List Entry) (now : RelayingValue)
     (log : Option (List (List ℕ))) (reason : CutReason) : Type 0 where
   pub judged : List Judged
-  pub are_items : AreItemsOf asset es judged
+  pub are_items : AreItemsOf asset past es judged
   pub is_cut : cut_at asset es judged ≡ Some reason
   pub prefixes : GivenPrefixes asset es judged
   pub counts : IsCounted judged now.lane.admitted now.lane.refused
+  pub rules : KnowsRules past now.lane.rules judged
   pub of_lines : log ≡ with_lines first (lines asset (client_of es) [] judged)
   pub client : now.lane.client ≡ client_of es
   pub moment : now.moment ≡ moment_of es
@@ -88,17 +91,17 @@ IsCutShort short whole =
     × (short ≡ earlier ++ bytes_at moment s bytes ∷ []) × (whole ≡ earlier ++ bytes_at moment s (bytes ++ more) ∷ []))
 
 -- a line failed: the log has a beginning of the lines of the items up to there
-pub record StandsMissed (asset : Asset) (first : Option (List (List ℕ))) (es : List Entry) (log : Option (List (List ℕ)))
-    (part : List ℕ) : Type 0 where
+pub record StandsMissed (asset : Asset) (past : RateMoments) (first : Option (List (List ℕ))) (es : List Entry)
+    (log : Option (List (List ℕ))) (part : List ℕ) : Type 0 where
   pub history : List Element
   pub is_short : IsCutShort history (history_of es)
-  pub began : Began asset (client_of es) history first log part
+  pub began : Began asset past (client_of es) history first log part
   pub prefixes : GivenPrefixes asset es began.judged
 
 -- what a relay that stops stands for, with its list
-abbrev pub StandsStopped : Asset → (most : ℕ) → (first : Option (List (List ℕ))) → List Entry → Stop → RelayingValue
+abbrev pub StandsStopped : Asset → (past : RateMoments) → (most : ℕ) → (first : Option (List (List ℕ))) → List Entry → Stop → RelayingValue
     → (log : Option (List (List ℕ))) → (part : List ℕ) → Type 0
-StandsStopped asset most first es stop.Idle now log part = StandsFor asset first es now log × (now.idle ≡ most)
-StandsStopped asset most first es stop.Link now log part = StandsFor asset first es now log × (now.idle < most)
-StandsStopped asset most first es stop.Write now log part = StandsMissed asset first es log part
-StandsStopped asset most first es (stop.Cut reason) now log part = StandsCut asset first es now log reason
+StandsStopped asset past most first es stop.Idle now log part = StandsFor asset past first es now log × (now.idle ≡ most)
+StandsStopped asset past most first es stop.Link now log part = StandsFor asset past first es now log × (now.idle < most)
+StandsStopped asset past most first es stop.Write now log part = StandsMissed asset past first es log part
+StandsStopped asset past most first es (stop.Cut reason) now log part = StandsCut asset past first es now log reason

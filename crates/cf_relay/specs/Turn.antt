@@ -3,6 +3,7 @@
 -- The list is the meeting, one moment, and then turns of seven stages. Each stage adds answers to the list under conditions
 -- on the list so far alone. The list may break off before a stage, or within the gives of one. (The code keeps two queues,
 -- a few numbers and two marks, and reads no list.)
+use Rattle.cf_lane.specs.Caller.{RateMoments, caller_at}
 use Rattle.cf_audit.specs.declared.line.CutReason.{CutReason}
 use Rattle.cf_lane.specs.Follows.{AreJudged}
 use Rattle.cf_lane.specs.History.{ended_of}
@@ -25,9 +26,9 @@ use Rattle.cf_relay.specs.declared.limit.TheConstants.{MOST_BYTES}
 use Rattle.cf_relay.specs.Answers.{are_finished, client_of, given, history_of, idle_run, is_finished}
 use Rattle.cf_relay.specs.Reading.{most_back}
 
--- the judged items of the history that the list has
-abbrev pub AreItemsOf : Asset → List Entry → List Judged → Type 0
-AreItemsOf asset es js = AreJudged asset (client_of es).address (history_of es) js
+-- the judged items of the history that the list has, of a client whose earlier sessions used what is past
+abbrev pub AreItemsOf : Asset → (past : RateMoments) → List Entry → List Judged → Type 0
+AreItemsOf asset past es js = AreJudged asset (caller_at (client_of es).address past) (history_of es) js
 
 -- why the list is cut: by the first item that cuts, or else by a stream that reached the limit
 abbrev pub cut_at : Asset → List Entry → List Judged → Option CutReason
@@ -36,9 +37,9 @@ cut_at asset es js =
     (stream_to asset side.Controller js))
 
 -- the relay goes on after this list: nothing cuts it, and fewer answers Idle stand at its end than the number that ends it
-pub record IsUnstopped (asset : Asset) (most : ℕ) (es : List Entry) : Type 0 where
+pub record IsUnstopped (asset : Asset) (past : RateMoments) (most : ℕ) (es : List Entry) : Type 0 where
   pub judged : List Judged
-  pub are_items : AreItemsOf asset es judged
+  pub are_items : AreItemsOf asset past es judged
   pub uncut : cut_at asset es judged ≡ None
   pub idle : idle_run es < most
 
@@ -134,34 +135,34 @@ HasAnswers asset (Finishing s) before js answers =
     (MayFinish asset s before js × (answers ≡ Finished s ∷ [])) ⊎ ((MayFinish asset s before js → ⊥) × (answers ≡ []))
 
 -- a stage is done only where the relay goes on
-abbrev pub IsStage : Asset → (most : ℕ) → Stage → (before answers : List Entry) → Type 0
-IsStage asset most stage before answers = (goes : IsUnstopped asset most before)
+abbrev pub IsStage : Asset → (past : RateMoments) → (most : ℕ) → Stage → (before answers : List Entry) → Type 0
+IsStage asset past most stage before answers = (goes : IsUnstopped asset past most before)
     × HasAnswers asset stage before goes.judged answers
 
 -- a stage that breaks off: nothing of it, or the first of its gives
-abbrev pub BeginsStage : Asset → (most : ℕ) → Stage → (before answers : List Entry) → Type 0
-BeginsStage asset most (Meeting listen) before answers = answers ≡ []
-BeginsStage asset most Telling before answers = answers ≡ []
-BeginsStage asset most (Taking directions s) before answers = answers ≡ []
-BeginsStage asset most (Giving s) before answers =
-    (answers ≡ []) ⊎ ((goes : IsUnstopped asset most before) × BeginsToGive s (queue_of asset s before goes.judged).bytes answers)
-BeginsStage asset most (Finishing s) before answers = answers ≡ []
+abbrev pub BeginsStage : Asset → (past : RateMoments) → (most : ℕ) → Stage → (before answers : List Entry) → Type 0
+BeginsStage asset past most (Meeting listen) before answers = answers ≡ []
+BeginsStage asset past most Telling before answers = answers ≡ []
+BeginsStage asset past most (Taking directions s) before answers = answers ≡ []
+BeginsStage asset past most (Giving s) before answers =
+    (answers ≡ []) ⊎ ((goes : IsUnstopped asset past most before) × BeginsToGive s (queue_of asset s before goes.judged).bytes answers)
+BeginsStage asset past most (Finishing s) before answers = answers ≡ []
 
 -- the stages, one after the other
-abbrev pub DoesStages : Asset → (most : ℕ) → List Stage → (before answers : List Entry) → Type 0
-DoesStages asset most [] before answers = answers ≡ []
-DoesStages asset most (stage ∷ later) before answers =
-    (now next : List Entry) × (answers ≡ now ++ next) × IsStage asset most stage before now × DoesStages asset most later
+abbrev pub DoesStages : Asset → (past : RateMoments) → (most : ℕ) → List Stage → (before answers : List Entry) → Type 0
+DoesStages asset past most [] before answers = answers ≡ []
+DoesStages asset past most (stage ∷ later) before answers =
+    (now next : List Entry) × (answers ≡ now ++ next) × IsStage asset past most stage before now × DoesStages asset past most later
     (before ++ now) next
 
 -- the stages, broken off before one of them, within one, or after the last
-abbrev pub BeginsStages : Asset → (most : ℕ) → List Stage → (before answers : List Entry) → Type 0
-BeginsStages asset most [] before answers = answers ≡ []
-BeginsStages asset most (stage ∷ later) before answers =
-    BeginsStage asset most stage before answers
-    ⊎ ((now next : List Entry) × (answers ≡ now ++ next) × IsStage asset most stage before now × BeginsStages asset most later
+abbrev pub BeginsStages : Asset → (past : RateMoments) → (most : ℕ) → List Stage → (before answers : List Entry) → Type 0
+BeginsStages asset past most [] before answers = answers ≡ []
+BeginsStages asset past most (stage ∷ later) before answers =
+    BeginsStage asset past most stage before answers
+    ⊎ ((now next : List Entry) × (answers ≡ now ++ next) × IsStage asset past most stage before now × BeginsStages asset past most later
     (before ++ now) next)
 
 -- the list of a relay that stops, of a port
-abbrev pub IsRelayed : Directions → Asset → (listen most : ℕ) → List Entry → Type 0
-IsRelayed directions asset listen most es = (n : ℕ) × BeginsStages asset most (stages directions listen n) [] es
+abbrev pub IsRelayed : Directions → Asset → (past : RateMoments) → (listen most : ℕ) → List Entry → Type 0
+IsRelayed directions asset past listen most es = (n : ℕ) × BeginsStages asset past most (stages directions listen n) [] es

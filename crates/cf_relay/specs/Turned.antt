@@ -1,5 +1,6 @@
 -- Steps of the proof: a relay between two turns, `HasTurned`, and one that stopped within a turn, `HasStopped`, each over lines
 -- of its own.
+use Rattle.cf_lane.specs.Caller.{RateMoments}
 use Rattle.cf_audit.specs.Line.{Begun}
 use Rattle.cf_lane.specs.Log.{line_about, with_lines}
 use Rattle.cf_outside.specs.Pair.{Entry, Moment, met_at}
@@ -21,18 +22,19 @@ abbrev pub begun_lines : Asset → Endpoint → (moment : ℕ) → (base : Optio
 begun_lines asset client moment base = with_lines base (line_about asset client moment Begun ∷ [])
 
 -- a relay that has made so many turns, and goes on
-pub record HasTurned (directions : Directions) (asset : Asset) (listen most : ℕ) (client : Endpoint) (moment : ℕ) (base : Option (List (List ℕ)))
-    (answers : List Entry) (now : RelayingValue) (own : Option (List (List ℕ))) : Type 0 where
+pub record HasTurned (directions : Directions) (asset : Asset) (past : RateMoments) (listen most : ℕ) (client : Endpoint)
+    (moment : ℕ) (base : Option (List (List ℕ))) (answers : List Entry) (now : RelayingValue) (own : Option (List (List ℕ))) : Type 0 where
   pub count : ℕ
-  pub does : DoesStages asset most (turns directions count) (begun_list asset listen client moment []) answers
-  pub stands : StandsFor asset (begun_lines asset client moment base) (begun_list asset listen client moment answers) now own
+  pub does : DoesStages asset past most (turns directions count) (begun_list asset listen client moment []) answers
+  pub stands : StandsFor asset past (begun_lines asset client moment base) (begun_list asset listen client moment answers) now own
   pub few : now.idle < most
 
 -- a relay that stopped within a turn; a line that failed left a part after its own lines
-pub record HasStopped (directions : Directions) (asset : Asset) (listen most : ℕ) (client : Endpoint) (moment : ℕ) (base : Option (List (List ℕ)))
-    (answers : List Entry) (why : Stop) (now : RelayingValue) (own : Option (List (List ℕ))) (part : List ℕ) : Type 0 where
+pub record HasStopped (directions : Directions) (asset : Asset) (past : RateMoments) (listen most : ℕ) (client : Endpoint)
+    (moment : ℕ) (base : Option (List (List ℕ))) (answers : List Entry) (why : Stop) (now : RelayingValue)
+    (own : Option (List (List ℕ))) (part : List ℕ) : Type 0 where
   pub count : ℕ
-  pub breaks : BeginsStages asset most (turns directions count) (begun_list asset listen client moment []) answers
+  pub breaks : BeginsStages asset past most (turns directions count) (begun_list asset listen client moment []) answers
   pub some : 0 < most
-  pub stands : StandsStopped asset most (begun_lines asset client moment base) (begun_list asset listen client moment answers) why now own
-      part
+  pub stands : StandsStopped asset past most (begun_lines asset client moment base) (begun_list asset listen client moment answers) why now
+      own part

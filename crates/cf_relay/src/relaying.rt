@@ -1,6 +1,7 @@
 //! A relay between two stages of a turn, and each stage. This project's own.
 //! A session's moment in the log is the greatest that was told so far.
 ghost use Rattle.std.specs.Prelude.{◌≡◌, ℕ, ◌<◌, [], ◌∷◌, List, Option, true, IfErr, OnOk, length};
+ghost use Rattle.cf_lane.specs.Caller.{RateMoments};
 ghost use Rattle.cf_links.specs.LinkValue.{link_value};
 ghost use Rattle.cf_links.specs.Links.{LinksPlace};
 ghost use Rattle.cf_outq.specs.SendQueue.{IsQueue, empty, queue_length};
@@ -52,11 +53,11 @@ impl Relaying {
         requires to_client { to_client ≡ empty }
         requires to_controller { to_controller ≡ empty }
         ensures value { relaying_value result ≡ begun_value lane moment }
-        ensures stands { (asset : AssetOf) (listen : ℕ) (client : EndpointOf) (first : Option (List (List ℕ)))
-            → IsNewLane asset client lane → StandsFor asset first (met_at listen asset.endpoint client ∷ Moment moment ∷ [])
+        ensures stands { (asset : AssetOf) (past : RateMoments) (listen : ℕ) (client : EndpointOf) (first : Option (List (List ℕ)))
+            → IsNewLane asset past client lane → StandsFor asset past first (met_at listen asset.endpoint client ∷ Moment moment ∷ [])
             (relaying_value result) first }
-        ensures sound { (asset : AssetOf) (client : EndpointOf) (most : ℕ) → 0 < most → IsNewLane asset client lane
-            → IsSound asset most (relaying_value result) }
+        ensures sound { (asset : AssetOf) (past : RateMoments) (client : EndpointOf) (most : ℕ) → 0 < most
+            → IsNewLane asset past client lane → IsSound asset most (relaying_value result) }
         ensures still { AreClosed (relaying_value result) → ⊥ }
     {
         Relaying {

@@ -1,6 +1,7 @@
 //! The relay: a pair of streams through the lane, in turns.
 ghost use Rattle.std.specs.Prelude.{◌≡◌, ℕ, ◌*◌, ◌<◌, ◌≤◌, ◌∷◌, [], Err, List, Option, true};
 ghost use Rattle.cf_audit.specs.Line.{Begun};
+ghost use Rattle.cf_lane.specs.Caller.{none_before};
 ghost use Rattle.cf_lane.specs.Handled.{WritesLog};
 ghost use Rattle.cf_lane.specs.Log.{line_about, with_lines};
 ghost use Rattle.cf_outq.specs.SendQueue.{empty};
@@ -154,7 +155,7 @@ fn relay_desk<P: Pair, D: Desk>(
         MeetAnswer::Met(client) => client,
         MeetAnswer::Failed => return Err(RelayFault::Link),
     };
-    let lane = match Lane::new(alloc, asset, client) {
+    let lane = match Lane::new(alloc, asset, client, None) {
         Ok(lane) => lane,
         Err(_no_memory) => return Err(RelayFault::NoMemory),
     };
@@ -184,14 +185,14 @@ fn relay_turns<P: Pair, D: Desk>(
     requires still { AreClosed (relaying_value relaying) → ⊥ }
     requires whole { DeskValue.whole (D.value desk.old) ≡ true }
     ensures ends { (base : Option (List (List ℕ))) (listen m : ℕ)
-        → StandsFor asset.now (with_lines base (line_about asset.now client m Begun ∷ []))
+        → StandsFor asset.now none_before (with_lines base (line_about asset.now client m Begun ∷ []))
         (met_at listen asset.now.endpoint client ∷ Moment m ∷ [])
         (relaying_value relaying) (DeskValue.lines (D.value desk.old))
         → (answers : List Entry) × (P.told pair.new ≡ with_answers (P.told pair.old) answers)
         × RelayEnds asset.now listen most (desk_log base (D.value desk.new)) ⊥
         (met_at listen asset.now.endpoint client ∷ Moment m ∷ answers) result }
     ensures idle { (base : Option (List (List ℕ))) (listen m : ℕ)
-        → StandsFor asset.now (with_lines base (line_about asset.now client m Begun ∷ []))
+        → StandsFor asset.now none_before (with_lines base (line_about asset.now client m Begun ∷ []))
         (met_at listen asset.now.endpoint client ∷ Moment m ∷ [])
         (relaying_value relaying) (DeskValue.lines (D.value desk.old))
         → (start : ℕ) → RoseBy relaying.idle start (P.idles pair.old) → IdlesRose most start (P.idles pair.new) result }

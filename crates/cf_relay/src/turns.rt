@@ -1,11 +1,16 @@
 //! The turns of a relay. This project's own.
-ghost use Rattle.std.specs.Prelude.{◌≡◌, ℕ, ◌<◌, ◌⊎◌, true, ◌↔◌, IfErr, IsTrue, OnOk, length};
+ghost use Rattle.std.specs.Prelude.{◌≡◌, ℕ, ◌<◌, ◌⊎◌, true, ◌↔◌, IfErr, IsTrue, List, OnOk, length};
 ghost use Rattle.cf_links.specs.Links.{LinksPlace};
 ghost use Rattle.cf_outside.specs.Desk.{DeskValue};
 ghost use Rattle.cf_policy.specs.Within.{IsAssetWithin};
 ghost use Rattle.cf_relay.specs.declared.limit.TheConstants.{MOST_BYTES};
 ghost use Rattle.cf_relay.specs.Relaying.{AreClosed, IsSound, RelayingValue, progress, relaying_value};
-ghost use Rattle.cf_lane.specs.Handled.{LaneValue};
+ghost use Rattle.cf_lane.specs.Caller.{RateMoments};
+ghost use Rattle.cf_lane.specs.Handled.{IsLaneOf, LaneValue};
+ghost use Rattle.cf_lane.specs.Judged.{Judged};
+ghost use Rattle.cf_lane.specs.Rates.{used_at};
+ghost use Rattle.cf_lane.specs.Rings.{AreRingsOf, KnowRings, KnowsRules};
+ghost use Rattle.cf_policy.specs.declared.Asset.{Asset as AssetOf};
 ghost use Rattle.cf_relay.specs.Scene.{DoesBetween, StopsBetween, scene_of};
 ghost use Rattle.cf_relay.specs.Taken.{StaysWhole};
 ghost use Rattle.cf_relay.specs.Turn.{turn, turns};
@@ -13,6 +18,7 @@ ghost use Rattle.cf_relay.specs.Turn.{turn, turns};
 use crate::directions::Directions;
 use crate::relaying::Relaying;
 use crate::stop::Stop;
+use cf_lane::Rings;
 use cf_links::Links;
 use cf_outside::Desk;
 use cf_policy::Asset;
@@ -80,6 +86,15 @@ impl Relaying {
         ensures { result ≡ LaneValue.refused (RelayingValue.lane (relaying_value self.now)) }
     {
         self.lane.refused()
+    }
+
+    /// The rings that the session leaves, as it ends, to a later one of its client.
+    pub fn into_rings(self) -> Rings
+        ensures of_asset { (asset : AssetOf) → IsLaneOf asset (RelayingValue.lane (relaying_value self)) → AreRingsOf asset result }
+        ensures know { (past : RateMoments) (judged : List Judged)
+            → KnowsRules past (LaneValue.rules (RelayingValue.lane (relaying_value self))) judged → KnowRings result (used_at past judged) }
+    {
+        self.lane.into_rings()
     }
 
     /// One turn of a session: the moment; what the client and then the controller sends, at most `MOST_BYTES` each, of a side that

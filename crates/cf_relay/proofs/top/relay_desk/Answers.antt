@@ -1,3 +1,4 @@
+use Rattle.cf_lane.specs.Caller.{none_before}
 use Rattle.std.proofs.Common.{List, Option, ap, arith, inr, refl, subst, sym, ℕ, ◌∙◌, ◌∷◌, []}
 use Rattle.cf_audit.specs.Line.{Begun}
 use Rattle.cf_lane.specs.Log.{line_about, with_lines}
@@ -12,7 +13,7 @@ use Rattle.cf_relay.proofs.top.relay_desk.Goals as goal
 
 pub returns-in-Failed-clause-ends : goal.returns-in-Failed-clause-ends
 returns-in-Failed-clause-ends g c =
-    ([], c.in-Failed.ensures.entry ∙ all_none _, link_first both.Together c.args.asset.now c.args.listen c.args.most c.requires.most _ (lines_none _, c.requires.whole))
+    ([], c.in-Failed.ensures.entry ∙ all_none _, link_first both.Together c.args.asset.now none_before c.args.listen c.args.most c.requires.most _ (lines_none _, c.requires.whole))
 
 pub returns-in-Err-clause-ends : goal.returns-in-Err-clause-ends
 returns-in-Err-clause-ends g c =
@@ -22,14 +23,14 @@ pub returns-in-Failed-moment-clause-ends : goal.returns-in-Failed-moment-clause-
 returns-in-Failed-moment-clause-ends g c = (
   met_at c.args.listen c.args.asset.now.endpoint c.in-Met.client ∷ [],
   c.in-Failed-moment.ensures.entry ∙ c.in-Met.ensures.entry,
-  link_met both.Together c.args.asset.now c.args.listen c.args.most c.requires.most _ c.in-Met.client (lines_none _, c.requires.whole),
+  link_met both.Together c.args.asset.now none_before c.args.listen c.args.most c.requires.most _ c.in-Met.client (lines_none _, c.requires.whole),
 )
 
 pub returns-in-Err-log_line-clause-ends : goal.returns-in-Err-log_line-clause-ends
 returns-in-Err-log_line-clause-ends g c = (
   met_at c.args.listen c.args.asset.now.endpoint c.in-Met.client ∷ Moment c.in-Told.moment ∷ [],
   told_two _ _ _ _ _ _ [] c.in-Met.ensures.entry c.in-Told.ensures.entry (all_none _),
-  write_told both.Together c.args.asset.now c.args.listen c.args.most c.requires.most _ c.in-Met.client c.in-Told.moment _ (g.D.Desk.value c.log_line.new.desk).lines (g.D.Desk.value c.log_line.new.desk).line_part c.in-Err-log_line.ensures.fails (λ ls b. b),
+  write_told both.Together c.args.asset.now none_before c.args.listen c.args.most c.requires.most _ c.in-Met.client c.in-Told.moment _ (g.D.Desk.value c.log_line.new.desk).lines (g.D.Desk.value c.log_line.new.desk).line_part c.in-Err-log_line.ensures.fails (λ ls b. b),
 )
 
 pub returns-clause-ends : goal.returns-clause-ends
@@ -37,9 +38,10 @@ returns-clause-ends g c =
     let base = (g.D.Desk.value c.args.desk.now).lines in
     let client = c.in-Met.client in
     let m = c.in-Told.moment in
-    let st = subst (λ (x : Option (List (List ℕ))). StandsFor c.args.asset.now (with_lines base (line_about c.args.asset.now client m Begun ∷ [])) (met_at c.args.listen c.args.asset.now.endpoint client ∷ Moment m ∷ []) (relaying_value c.begun-relaying.result) x)
+    let st = subst (λ (x : Option (List (List ℕ))). StandsFor c.args.asset.now none_before (with_lines base (line_about c.args.asset.now client m Begun ∷ [])) (met_at c.args.listen c.args.asset.now.endpoint client ∷ Moment m ∷ []) (relaying_value c.begun-relaying.result) x)
     (sym c.in-Ok-log_line.ensures.lines)
-    (c.begun-relaying.ensures.stands c.args.asset.now c.args.listen client (with_lines base (line_about c.args.asset.now client m Begun ∷ [])) (new_lane _ _ _ c.in-Ok.ensures.of_asset c.in-Ok.ensures.client c.in-Ok.ensures.counts c.in-Ok.ensures.follows)) in
+    (c.begun-relaying.ensures.stands c.args.asset.now none_before c.args.listen client (with_lines base (line_about c.args.asset.now client m Begun ∷ [])) (new_lane _ none_before _ _ c.in-Ok.ensures.of_asset c.in-Ok.ensures.client c.in-Ok.ensures.counts
+    (λ q r x. c.in-Ok.ensures.follows none_before q r x refl))) in
     let e = c.relay_turns.ensures.ends base c.args.listen m st in
     (met_at c.args.listen c.args.asset.now.endpoint client ∷ Moment m ∷ e.0, told_two _ _ _ _ _ _ e.0 c.in-Met.ensures.entry c.in-Told.ensures.entry e.1, e.2)
 
@@ -48,11 +50,13 @@ returns-clause-idle g c =
     let base = (g.D.Desk.value c.args.desk.now).lines in
     let client = c.in-Met.client in
     let m = c.in-Told.moment in
-    let st = subst (λ (x : Option (List (List ℕ))). StandsFor c.args.asset.now (with_lines base (line_about c.args.asset.now client m Begun ∷ [])) (met_at c.args.listen c.args.asset.now.endpoint client ∷ Moment m ∷ []) (relaying_value c.begun-relaying.result) x)
+    let st = subst (λ (x : Option (List (List ℕ))). StandsFor c.args.asset.now none_before (with_lines base (line_about c.args.asset.now client m Begun ∷ [])) (met_at c.args.listen c.args.asset.now.endpoint client ∷ Moment m ∷ []) (relaying_value c.begun-relaying.result) x)
     (sym c.in-Ok-log_line.ensures.lines)
-    (c.begun-relaying.ensures.stands c.args.asset.now c.args.listen client (with_lines base (line_about c.args.asset.now client m Begun ∷ [])) (new_lane _ _ _ c.in-Ok.ensures.of_asset c.in-Ok.ensures.client c.in-Ok.ensures.counts c.in-Ok.ensures.follows)) in
+    (c.begun-relaying.ensures.stands c.args.asset.now none_before c.args.listen client (with_lines base (line_about c.args.asset.now client m Begun ∷ [])) (new_lane _ none_before _ _ c.in-Ok.ensures.of_asset c.in-Ok.ensures.client c.in-Ok.ensures.counts
+    (λ q r x. c.in-Ok.ensures.follows none_before q r x refl))) in
     c.relay_turns.ensures.idle base c.args.listen m st _ (omega (arith, ap (λ (v : RelayingValue). v.idle) c.begun-relaying.ensures.value, c.meet.ensures.idle, c.moment.ensures.idle))
 
 pub relay_turns-requires-clause-sound : goal.relay_turns-requires-clause-sound
 relay_turns-requires-clause-sound g c =
-    c.begun-relaying.ensures.sound c.args.asset.now c.in-Met.client c.args.most c.requires.most (new_lane _ _ _ c.in-Ok.ensures.of_asset c.in-Ok.ensures.client c.in-Ok.ensures.counts c.in-Ok.ensures.follows)
+    c.begun-relaying.ensures.sound c.args.asset.now none_before c.in-Met.client c.args.most c.requires.most (new_lane _ none_before _ _ c.in-Ok.ensures.of_asset c.in-Ok.ensures.client c.in-Ok.ensures.counts
+    (λ q r x. c.in-Ok.ensures.follows none_before q r x refl))
