@@ -24,7 +24,7 @@ use crate::rules::Rules;
 use crate::wire::Fragments;
 use arrayvec::ArrayVec;
 use cf_audit::Why;
-use cf_dnplink::{Frame, copy_user, user_len};
+use cf_dnplink::{Frame, copy_user, lent_user, user_len};
 use cf_dnpobj::{reply_for, wants_reply};
 use cf_dnptrans::{Assembly, DropReason, SegmentAnswer};
 use cf_outq::Outq;
@@ -221,6 +221,22 @@ impl Fragments {
 
 /// Puts the user octets of a frame to a fragment. IEEE 1815-2012, section 8.2.
 pub fn take_segment(assembly: &mut Assembly, frame: &Frame<'_>) -> SegmentAnswer
+    requires { IsFrame (frame_value frame.now) }
+    ensures answer { (segments : List (List ℕ)) → IsAssemblyOf assembly.old segments
+        → result ≡ answer_to segments (user_of frame.now.blocks.bytes) }
+    ensures stands { (segments : List (List ℕ)) → IsAssemblyOf assembly.old segments
+        → IsAssemblyOf assembly.new (user_of frame.now.blocks.bytes ∷ segments) }
+    ensures whole { result ≡ SegmentAnswer.Whole → assembly.new.whole ≡ true }
+{
+    match lent_user(frame) {
+        Some(user) => assembly.segment(user),
+        None => take_long_segment(assembly, frame),
+    }
+}
+
+/// Puts the user octets of a frame to a fragment, which are copied out of more than two blocks, or of two pieces.
+#[inline(never)]
+fn take_long_segment(assembly: &mut Assembly, frame: &Frame<'_>) -> SegmentAnswer
     requires { IsFrame (frame_value frame.now) }
     ensures answer { (segments : List (List ℕ)) → IsAssemblyOf assembly.old segments
         → result ≡ answer_to segments (user_of frame.now.blocks.bytes) }

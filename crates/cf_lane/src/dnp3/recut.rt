@@ -41,14 +41,24 @@ pub(crate) fn push_fragment(
 {
     let (whole, _) = octets.pieces();
     let count = segment_count(octets.len());
+    let mut frame = ArrayVec::<u8, 292>::new();
     for i in 0..count {
-        push_segment(asset, to, whole, i, sequence, queue);
+        push_segment(asset, to, whole, i, sequence, &mut frame, queue);
     }
     (sequence + count as u8) % MODULUS
 }
 
-/// Puts segment `i` of a fragment, whose first one has this transport sequence, into the queue to a side.
-fn push_segment(asset: &Asset, to: Side, octets: &[u8], i: usize, sequence: u8, queue: &mut Outq)
+/// Puts segment `i` of a fragment, whose first one has this transport sequence, into the queue to a side. Its frame replaces what
+/// `frame` held.
+fn push_segment(
+    asset: &Asset,
+    to: Side,
+    octets: &[u8],
+    i: usize,
+    sequence: u8,
+    frame: &mut ArrayVec<u8, 292>,
+    queue: &mut Outq,
+)
     requires size { length octets.now ≤ 2056 }
     requires inside { i < count_of (length octets.now) }
     requires sequence { sequence < 64 }
@@ -56,8 +66,7 @@ fn push_segment(asset: &Asset, to: Side, octets: &[u8], i: usize, sequence: u8, 
     requires room { HasRoom (length (data_octets asset.now to (segment_of octets.now sequence i))) queue.old }
     ensures { queue.new ≡ after_push queue.old (data_octets asset.now to (segment_of octets.now sequence i)) }
 {
-    let mut frame = ArrayVec::<u8, 292>::new();
-    write_segment(asset, to, octets, i, sequence, &mut frame);
+    write_segment(asset, to, octets, i, sequence, frame);
     queue.push(frame.as_slice());
 }
 
