@@ -1,6 +1,6 @@
 -- Steps of the proof: what links tell of sessions that come and go: `Opens`, `Wakes`, `Arrives`, `TellsReady` and `Leaves`, one for
 -- each call, and `FaultsPlace` and `ChangesPlace`.
-use Rattle.std.specs.Prelude.{◌≡◌, ◌==◌, ℕ, Bool, true, false, List, [], ◌∷◌, ◌++◌, Option, option_map}
+use Rattle.std.specs.Prelude.{◌≡◌, ◌≤◌, ◌==◌, ℕ, Bool, true, false, List, [], ◌∷◌, ◌++◌, Option, option_map}
 use Rattle.cf_outside.specs.Pair.{FaultsBy}
 use Rattle.cf_outside.specs.declared.pair.MomentAnswer.{MomentAnswer}
 use Rattle.cf_outside.specs.declared.pair.MomentAnswer.TheVariants as moment
@@ -31,6 +31,10 @@ Arrives session place old new arrive.Nobody = new ≡ old
 abbrev pub TellsReady : (session : ℕ) → Option (List LinksEntry) → Option (List LinksEntry) → Bool → Type 0
 TellsReady session old new true = new ≡ with_more old (Ready session)
 TellsReady session old new false = new ≡ old
+
+-- a session that the object has, with this number or a later one
+abbrev pub IsServedFrom : (from : ℕ) → LinksPlace → (session : ℕ) → Type 0
+IsServedFrom from place session = (from ≤ session) × (place.serves session ≡ true)
 
 -- a session was left
 abbrev pub Leaves : (session : ℕ) → Option (List LinksEntry) → Option (List LinksEntry) → Type 0

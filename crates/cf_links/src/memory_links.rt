@@ -1,5 +1,5 @@
 //! Links in memory, whose clients and answers are scripted.
-ghost use Rattle.std.specs.Prelude.{◌≡◌, ◌==◌, ◌≤◌, ◌++◌, ◌∷◌, ℕ, [], false, None, IfOk, IsSome, OnErr, OnOk, Some, true, vec_capacity};
+ghost use Rattle.std.specs.Prelude.{◌≡◌, ◌==◌, ◌≤◌, ◌++◌, ◌∷◌, ℕ, [], false, None, IfOk, IfSome, IsSome, OnErr, OnOk, Some, true, vec_capacity};
 ghost use Rattle.std.specs.Prelude.{vec_len};
 ghost use Rattle.cf_outside.specs.Faults.{counted};
 ghost use Rattle.cf_links.specs.MemoryLinks.{HasRoom, entries_told, has_room, lacks_after, open_count, serves_in, stands_at};
@@ -21,9 +21,9 @@ pub struct MemoryClient {
     pub waits: u64,
     /// Whether `meet` answers `Gone` then, as of a client that does not wait for its controller.
     pub gone: bool,
-    /// How often `is_ready` still says yes before it rests.
+    /// How often it is still ready before it rests.
     pub wakes: u64,
-    /// How often it says no then; behind that it says yes.
+    /// How often `next_ready` passes it over then; behind that it is ready again.
     pub rests: u64,
     pub pair: MemoryPair,
 }
@@ -43,13 +43,9 @@ impl MemoryClient {
         }
     }
 
-    /// Whether it rests now, which uses the script up.
+    /// Whether it rests in this round, which uses a rest of the script up.
     fn rests_now(&mut self) -> bool {
-        if self.wakes > 0 {
-            self.wakes -= 1;
-            return false;
-        }
-        if self.rests > 0 {
+        if self.wakes == 0 && self.rests > 0 {
             self.rests -= 1;
             return true;
         }
@@ -72,7 +68,7 @@ pub enum LinksTold {
 /// asked for at that client's place and under its number, which counts from 0; one that is not taken keeps those behind it out. A
 /// session answers what its pair answers (`MemoryPair`), once `meet` has said `waits` times that its controller has not answered (and
 /// that its client is `gone`, where it is);
-/// `is_ready` says yes but for its `rests`. `listen` fails at the place `deaf`; `wait` moves the clock on by `step`, and fails once it
+/// each is ready but for its `rests`. `listen` fails at the place `deaf`; `wait` moves the clock on by `step`, and fails once it
 /// was answered `rounds` times. What is told is kept, but for failed calls. A call fails besides where memory ran out for the object's
 /// own list, which raises `lacks` too; then the pair is not called. Of the script no clause says anything: the clauses are those of
 /// `Links` and `Service`. This project's own.
@@ -194,6 +190,29 @@ impl MemoryLinks {
     {
         let (len, capacity) = (self.told.len(), self.told.capacity());
         len <= capacity && self.open() <= capacity - len
+    }
+
+    /// The first session that stands, at a place or behind it, and does not rest.
+    fn ready_from(&mut self, from: usize) -> Option<usize>
+        ensures stands { IfSome result (λ at. (from ≤ at) × (stands_at self.old.stands.items at ≡ true)) }
+        ensures rest { self.new ≡ record self.old { clients = self.new.clients } }
+    {
+        for at in from..self.stands.len() {
+            if self.stands[at] && !self.rests_at(at) {
+                return Some(at);
+            }
+        }
+        None
+    }
+
+    /// Whether the session of a place rests in this round.
+    fn rests_at(&mut self, at: usize) -> bool
+        ensures rest { self.new ≡ record self.old { clients = self.new.clients } }
+    {
+        match self.clients.get_mut(at) {
+            Some(client) => client.rests_now(),
+            None => true,
+        }
     }
 
     /// The endpoint of the next client, where it comes to this place under this number.
@@ -429,6 +448,16 @@ impl Service for MemoryLinks {
         ArriveAnswer::Came(client)
     }
 
+    fn next_ready(&mut self, from: u64) -> Option<u64> {
+        if !self.is_roomy() {
+            return None;
+        }
+        match self.ready_from(from as usize) {
+            Some(at) => Some(at as u64),
+            None => None,
+        }
+    }
+
     fn is_ready(&mut self, session: u64) -> bool {
         if self.make_room().is_err() {
             return false;
@@ -436,9 +465,7 @@ impl Service for MemoryLinks {
         let Some(client) = self.clients.get_mut(session as usize) else {
             return false;
         };
-        if client.rests_now() {
-            return false;
-        }
+        client.wakes = client.wakes.saturating_sub(1);
         self.put(LinksTold::Ready(session));
         true
     }

@@ -1,7 +1,7 @@
 //! Links whose sessions come at listening places and go.
-ghost use Rattle.std.specs.Prelude.{◌≡◌, false, true};
+ghost use Rattle.std.specs.Prelude.{◌≡◌, false, IfSome, true};
 ghost use Rattle.cf_links.specs.Links.{LinksPlace};
-ghost use Rattle.cf_links.specs.Service.{Arrives, ChangesPlace, FaultsPlace, Leaves, LosesSession, Opens, TellsReady, Wakes};
+ghost use Rattle.cf_links.specs.Service.{Arrives, ChangesPlace, FaultsPlace, IsServedFrom, Leaves, LosesSession, Opens, TellsReady, Wakes};
 
 use crate::links::Links;
 use cf_outside::MomentAnswer;
@@ -40,6 +40,15 @@ pub trait Service: Links {
         requires unused { LinksPlace.serves (Self.place self.old) session ≡ false }
         ensures entry { Arrives session place (Self.told self.old) (Self.told self.new) result }
         ensures place { ChangesPlace session (Self.place self.old) (Self.place self.new) result }
+        ensures faults { Self.faults self.new ≡ Self.faults self.old }
+        ensures idles { Self.idles self.new ≡ Self.idles self.old };
+
+    /// The first session, of those with this number and those behind it, for which something can move or since whose last turn a second
+    /// has passed; none of those between is ready. Tells nothing.
+    fn next_ready(&mut self, from: u64) -> Option<u64>
+        ensures next { IfSome result (IsServedFrom from (Self.place self.old)) }
+        ensures told { Self.told self.new ≡ Self.told self.old }
+        ensures place { Self.place self.new ≡ Self.place self.old }
         ensures faults { Self.faults self.new ≡ Self.faults self.old }
         ensures idles { Self.idles self.new ≡ Self.idles self.old };
 

@@ -12,6 +12,7 @@ mod session;
 mod sides;
 mod sockets;
 mod supervisor;
+mod turns;
 mod watch;
 
 use crate::links::session::Reached;
@@ -266,6 +267,9 @@ impl<R: Net + Clock> Service for RealLinks<'_, R> {
     }
 
     fn arrive(&mut self, place: u32, session: u64) -> ArriveAnswer {
+        if !self.sockets.may_take(place) {
+            return ArriveAnswer::Nobody;
+        }
         match self.numbers.insert(session) {
             Ok(_) => {}
             Err(_) => return ArriveAnswer::Nobody,
@@ -276,6 +280,15 @@ impl<R: Net + Clock> Service for RealLinks<'_, R> {
                 self.numbers.remove(&session);
                 ArriveAnswer::Nobody
             }
+        }
+    }
+
+    fn next_ready(&mut self, from: u64) -> Option<u64> {
+        let session = self.sockets.next_ready(from)?;
+        if from <= session && self.numbers.contains(&session) {
+            Some(session)
+        } else {
+            None
         }
     }
 

@@ -15,6 +15,17 @@ const LAST_READS: u32 = 4096;
 /// How often it is read at most before others have their turn.
 const DRAIN_READS: u32 = 16;
 
+/// What there may be to read of a connection that was left.
+#[derive(Clone, Copy)]
+pub(crate) enum Rest {
+    /// Nothing more: it has ended or failed.
+    Over,
+    /// Nothing until the system says so.
+    Later,
+    /// More that came.
+    Now,
+}
+
 /// A connection whose reads and writes do not wait, and what `poll` has said of it. This project's own.
 #[derive(Drop)]
 pub struct Peer<S: Read + Write + OpenStream + AsRawFd + Drop> {
@@ -144,17 +155,17 @@ impl<S: Read + Write + OpenStream + AsRawFd + Drop> Peer<S> {
         self.stream.shutdown(Shutdown::Write)
     }
 
-    /// Reads away up to 16 times 4,096 octets of what came; whether nothing more will come, as it ended or failed.
-    pub fn drain(&mut self) -> bool {
+    /// Reads away up to 16 times 4,096 octets of what came; answers what there may be behind them.
+    pub(crate) fn drain(&mut self) -> Rest {
         let mut rest = [0u8; 4096];
         for _ in 0..DRAIN_READS {
             match unless_waiting(self.stream.read(&mut rest)) {
                 Ok(Some(count)) if count > 0 => {}
-                Ok(None) => return false,
-                _ => return true,
+                Ok(None) => return Rest::Later,
+                _ => return Rest::Over,
             }
         }
-        false
+        Rest::Now
     }
 
     /// Closes it for sending, and reads away up to 4,096 times 4,096 octets of what came, without waiting: the system would drop

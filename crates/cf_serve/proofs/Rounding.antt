@@ -123,16 +123,9 @@ module _ (places : List Listening) (most next moment : ℕ) (past : List TurnOf)
         (step (past ++ b.turns) (subst (λ n. Keeps places most n (past ++ b.turns) mid) (sym same) b.keeps)) in
         subst (λ n. TurnsBegin places most next moment past n told told2 log log2 tallies tallies2 old new) (sym is) (turns_on told2 log2 tallies2 new stays_on d)
 
-pub no_step : (index : ℕ) → index ≡ index + 0
-no_step index = omega arith
-
-pub within_on : (index len len' : ℕ) (stays_on : Bool) → stays_on ≡ true → len' + (if stays_on then 0 else 1) ≡ len → index < len → index + 1 ≤ len'
-within_on index len len' true is e h = omega (arith, e, h)
-within_on index len len' false is e h = cc
-
-pub within_off : (index len len' : ℕ) (stays_on : Bool) → stays_on ≡ false → len' + (if stays_on then 0 else 1) ≡ len → index < len → index ≤ len'
-within_off index len len' true is e h = cc
-within_off index len len' false is e h = omega (arith, e, h)
+pub within_step : (index len len' : ℕ) (stays_on : Bool) → len' + (if stays_on then 0 else 1) ≡ len → index < len → index + (if stays_on then 1 else 0) ≤ len'
+within_step index len len' true e h = omega (arith, e, h)
+within_step index len len' false e h = omega (arith, e, h)
 
 -- one session is left, and then the others
 pub leave_one : (next : ℕ) (old new : LinksPlace) (p : Phase) (ps : List Phase) → MayLeave old.serves next (p ∷ ps) → LosesSession p.seat.session old new → MayLeave new.serves next ps

@@ -74,6 +74,20 @@ module _ (tallies : List Tally) (past : List TurnOf) (t : TurnOf) (before after 
     each = λ place within. by place within (t.seat.place == place) refl;
   }
 
+-- a turn in which nothing was admitted or refused
+idle_by : (of : TurnOf → ℕ) (place : ℕ) (past : List TurnOf) (t : TurnOf) → of t ≡ 0 → (own : Bool) → (t.seat.place == place) ≡ own →
+    sum_by (λ (u : TurnOf). if u.seat.place == place then of u else 0) (past ++ t ∷ []) ≡ sum_by (λ (u : TurnOf). if u.seat.place == place then of u else 0) past
+idle_by of place past t none true is = let e = own_part of place past t true is in omega (arith, e, none)
+idle_by of place past t none false is = let e = own_part of place past t false is in omega (arith, e)
+
+pub tallied_idle : (tallies : List Tally) (past : List TurnOf) (t : TurnOf) → t.admitted ≡ 0 → t.refused ≡ 0 → IsTallied tallies past → IsTallied tallies (past ++ t ∷ [])
+tallied_idle tallies past t admitted refused h = record {
+  all = h.all;
+  each = λ place within. h.each place within ∙ same_tally _ _ _ _
+      (ap told_count (sym (idle_by (λ (u : TurnOf). u.admitted) place past t admitted (t.seat.place == place) refl)))
+      (ap told_count (sym (idle_by (λ (u : TurnOf). u.refused) place past t refused (t.seat.place == place) refl)));
+}
+
 -- the number of a place
 pub few_of : {A B : Type 0} (xs : List A) (ys : List B) (place : ℕ) → length xs ≡ length ys → place < length xs → length ys ≤ 256 → place < 256
 few_of xs ys place same within few = omega (arith, same, within, few)

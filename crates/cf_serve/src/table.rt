@@ -59,6 +59,14 @@ pub(crate) fn place_of<'a>(places: &[Place<'a>], number: usize) -> Place<'a>
     places[number]
 }
 
+/// The place behind a session that had its turn, which those behind it move up to where it does not stay.
+fn place_behind(index: usize, stays: bool) -> usize
+    requires index { index < 2 ^ 64 - 1 }
+    ensures { result ≡ index + (if stays then 1 else 0) }
+{
+    if stays { index + 1 } else { index }
+}
+
 /// Gives a session its turn where something can move for it and it need not rest, and leaves it where it ends; answers whether it
 /// stays.
 fn turn_one<L: Service, D: Desk>(
@@ -212,7 +220,43 @@ impl Table {
         Ok(stays)
     }
 
-    /// Gives each session its turn, in the order in which they came; those that end are taken out.
+    /// The place of the first session, from this one on, whose number is this one or a later one; how many stand where there is none.
+    fn place_from(&self, index: usize, number: u64) -> usize
+        requires index { index ≤ vec_len self.now.sessions }
+        ensures index { index ≤ result }
+        ensures within { result ≤ vec_len self.now.sessions }
+    {
+        let (mut low, mut high) = (index, self.sessions.len());
+        while low < high {
+            let middle = low + (high - low) / 2;
+            if self.sessions[middle].number < number {
+                low = middle + 1;
+            } else {
+                high = middle;
+            }
+        }
+        low
+    }
+
+    /// The place of the next session, from this one on, for which the links say that something can move; how many stand where there is
+    /// none.
+    fn next_at<L: Service>(&self, index: usize, links: &mut L) -> usize
+        requires index { index ≤ vec_len self.now.sessions }
+        ensures index { index ≤ result }
+        ensures within { result ≤ vec_len self.now.sessions }
+        ensures told { L.told links.new ≡ L.told links.old }
+        ensures place { L.place links.new ≡ L.place links.old }
+    {
+        match self.sessions.get(index) {
+            Some(served) => match links.next_ready(served.number) {
+                Some(number) => self.place_from(index, number),
+                None => self.sessions.len(),
+            },
+            None => index,
+        }
+    }
+
+    /// Gives each session its turn that the links say is ready, in the order in which they came; those that end are taken out.
     pub(crate) fn turns<L: Service, D: Desk>(
         &mut self,
         alloc: Global,
@@ -251,11 +295,10 @@ impl Table {
         ensures cause { HasCause (DeskValue.faults (D.value desk.old)) (DeskValue.faults (D.value desk.new)) (IsErr result) }
     {
         let mut buf = [0u8; MOST_BYTES];
-        let mut index = 0;
+        let mut index = self.next_at(0, links);
         while index < self.sessions.len() {
-            if self.turn_at(alloc, index, places, moment, most, &mut buf, links, desk)? {
-                index += 1;
-            }
+            let stays = self.turn_at(alloc, index, places, moment, most, &mut buf, links, desk)?;
+            index = self.next_at(place_behind(index, stays), links);
         }
         Ok(())
     }

@@ -64,11 +64,16 @@ impl Place {
         }
     }
 
+    /// Asks whether a client may wait that can be taken now, in milliseconds.
+    pub fn may_take(&mut self, now: u64) -> bool {
+        self.is_asked = true;
+        self.may_accept && now >= self.rests_until
+    }
+
     /// Takes a client, if one waits; `now` is in milliseconds. Where the system could not take one, for want of descriptors say,
     /// the place rests for a second, and is asked again then.
     pub fn accept(&mut self, now: u64) -> Option<(TcpStream, SocketAddr)> {
-        self.is_asked = true;
-        if !self.may_accept || now < self.rests_until {
+        if !self.may_take(now) {
             return None;
         }
         match self.listener.accept() {

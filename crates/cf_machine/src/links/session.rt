@@ -8,7 +8,7 @@ ghost use Rattle.cf_machine.specs.Moved.{IsOn};
 
 use crate::links::sides::{ClientStream, ControllerStream, Moved};
 use crate::links::watch::watch_over;
-use crate::peer::Peer;
+use crate::peer::{Peer, Rest};
 use cf_view::{Endpoint, Side};
 use mio::event::Event;
 use mio::net::TcpStream as Begun;
@@ -364,6 +364,8 @@ impl Session {
             _ => None,
         };
         Leaving {
+            number: self.number,
+            may_read: true,
             client: Some(self.client.peer),
             controller,
             until: now.saturating_add(LEAVE_MILLIS),
@@ -375,20 +377,25 @@ impl Session {
 /// not read.
 #[derive(Drop)]
 pub(crate) struct Leaving {
+    /// That of the session.
+    pub number: u64,
+    /// Something may have come that was not read away.
+    pub may_read: bool,
     client: Option<Peer<TcpStream>>,
     controller: Option<Peer<TcpStream>>,
     until: u64,
 }
 
 impl Leaving {
-    /// Reads away a part of what came (65,536 octets a side at most); whether both connections are gone, as they ended, or two
-    /// seconds have passed.
+    /// Reads away a part of what came (65,536 octets a side at most), where something may have come; whether both connections are
+    /// gone, as they ended, or two seconds have passed.
     pub fn drain(&mut self, now: u64) -> bool {
-        if now >= self.until || is_over(&mut self.client) {
-            self.client = None;
+        if now >= self.until {
+            return true;
         }
-        if now >= self.until || is_over(&mut self.controller) {
-            self.controller = None;
+        if self.may_read {
+            let has_more = drain_side(&mut self.client);
+            self.may_read = drain_side(&mut self.controller) || has_more;
         }
         self.client.is_none() && self.controller.is_none()
     }
@@ -399,10 +406,19 @@ impl Leaving {
     }
 }
 
-fn is_over(peer: &mut Option<Peer<TcpStream>>) -> bool {
-    match peer {
+/// Reads away a part of what came from one side, which is dropped at its end; whether more may have come.
+fn drain_side(side: &mut Option<Peer<TcpStream>>) -> bool {
+    let rest = match side {
         Some(peer) => peer.drain(),
-        None => true,
+        None => return false,
+    };
+    match rest {
+        Rest::Over => {
+            *side = None;
+            false
+        }
+        Rest::Later => false,
+        Rest::Now => true,
     }
 }
 

@@ -7,6 +7,7 @@ use crate::links::place::Place;
 use crate::links::session::{Leaving, Reached, Session, is_at, session_of};
 use crate::links::sides::Moved;
 use crate::links::supervisor::Supervisor;
+use crate::links::turns::Turns;
 use cf_view::{Endpoint, Side};
 use mio::{Events, Poll, Token};
 use std::alloc::Global;
@@ -42,7 +43,11 @@ pub(crate) struct Sockets<'a, R: Net + Clock> {
     /// Where among them the session stands that was asked for its turn last. They are asked in their order, so that the next one stands
     /// there or behind it.
     asked: usize,
+    turns: Turns,
+    /// In the order in which they were left.
     leaving: Vec<Leaving>,
+    /// Something may have come for one of them that was not read away.
+    may_drain: bool,
     begun: Instant,
     /// The moment at which it began, in microseconds since 1970, by the clock that may be set.
     begun_at: u64,
@@ -65,7 +70,10 @@ impl<'a, R: Net + Clock> Sockets<'a, R> {
             places: Vec::new(alloc),
             sessions: Vec::with_capacity(alloc, SESSIONS)?,
             asked: 0,
+            // One that is closed as it comes stands beside all others.
+            turns: Turns::new(alloc, SESSIONS + 1)?,
             leaving: Vec::with_capacity(alloc, LEAVING)?,
+            may_drain: false,
             begun: Instant::now(rt)?,
             begun_at,
             now: 0,
@@ -95,14 +103,12 @@ impl<'a, R: Net + Clock> Sockets<'a, R> {
         ensures inside { IfSome result (λ at. at < length self.entry.now.sessions.items) }
         ensures own { IfSome result (HoldsAt (λ found. found.number ≡ session) self.entry.now.sessions.items) }
     {
-        let next = self.asked.saturating_add(1);
-        if is_at(&self.sessions, self.asked, session) {
-            Some(self.asked)
-        } else if is_at(&self.sessions, next, session) {
-            Some(next)
-        } else {
-            session_of(&self.sessions, session)
-        }
+        seat_near(&self.sessions, self.asked, session)
+    }
+
+    /// The first session, of those with this number or a later one, that has a turn in this round.
+    pub fn next_ready(&self, from: u64) -> Option<u64> {
+        self.turns.next(from)
     }
 
     /// Whether a session has a turn now, which begins with this. One of a number that no session has has one, so that its next call
@@ -148,15 +154,30 @@ impl<'a, R: Net + Clock> Sockets<'a, R> {
         if let Some(supervisor) = &mut self.supervisor {
             supervisor.tell(now);
         }
-        self.leaving.retain_mut(|leaving| !leaving.drain(now));
+        self.drain_left();
+        self.turns.settle(&self.sessions, now);
         let wait = self.longest_wait().map(Duration::from_millis);
         for place in self.places.iter_mut() {
             place.begin_round();
         }
         self.poll.poll(&mut self.events, wait)?;
         self.read_clock()?;
-        self.note_events();
+        self.note_events()?;
+        self.turns.look(&self.sessions, self.now)?;
         Ok(self.moment)
+    }
+
+    /// Reads away what came for those that were left, where the system said that something did or the time of one is over.
+    fn drain_left(&mut self) {
+        let now = self.now;
+        let is_over = match self.leaving.first() {
+            Some(oldest) => oldest.longest_wait(now) == 0,
+            None => false,
+        };
+        if self.may_drain || is_over {
+            self.leaving.retain_mut(|leaving| !leaving.drain(now));
+            self.may_drain = self.leaving.iter().any(|leaving| leaving.may_read);
+        }
     }
 
     /// How many milliseconds may pass before the next round, where the system has no news before.
@@ -168,13 +189,14 @@ impl<'a, R: Net + Clock> Sockets<'a, R> {
         for place in self.places.iter() {
             wait = sooner(wait, place.longest_wait(self.now));
         }
-        for session in self.sessions.iter() {
-            wait = sooner(wait, Some(session.longest_wait(self.now)));
+        wait = sooner(wait, Some(self.turns.longest_wait(self.now)));
+        if self.may_drain {
+            return Some(0);
         }
-        for leaving in self.leaving.iter() {
-            wait = sooner(wait, Some(leaving.longest_wait(self.now)));
+        match self.leaving.first() {
+            Some(oldest) => sooner(wait, Some(oldest.longest_wait(self.now))),
+            None => wait,
         }
-        wait
     }
 
     /// Reads the clock that only goes forward, for the round: milliseconds since the service began, and the moment since 1970.
@@ -185,8 +207,9 @@ impl<'a, R: Net + Clock> Sockets<'a, R> {
         Ok(())
     }
 
-    /// Hands what the system says to the places and sessions. What it says late of a session that is gone is no one's.
-    fn note_events(&mut self) {
+    /// Hands what the system says to the places and sessions, and to those that were left. What it says late of one that is gone is no
+    /// one's. An error is want of memory.
+    fn note_events(&mut self) -> io::Result<()> {
         for event in self.events.iter() {
             let token = event.token().0;
             if let Some(place) = self.places.get_mut(usize::MAX - token) {
@@ -198,9 +221,30 @@ impl<'a, R: Net + Clock> Sockets<'a, R> {
             } else {
                 Side::Controller
             };
-            if let Some(at) = session_of(&self.sessions, (token / 2) as u64) {
-                self.sessions[at].note(side, event);
+            let number = (token / 2) as u64;
+            if let Some(at) = seat_near(&self.sessions, self.asked, number) {
+                let session = &mut self.sessions[at];
+                session.note(side, event);
+                if session.longest_wait(self.now) == 0 {
+                    self.turns.wake(number)?;
+                }
+                continue;
             }
+            for leaving in self.leaving.iter_mut() {
+                if leaving.number == number {
+                    leaving.may_read = true;
+                    self.may_drain = true;
+                }
+            }
+        }
+        Ok(())
+    }
+
+    /// Whether a client may wait at a place, counted from 0.
+    pub fn may_take(&mut self, place: u32) -> bool {
+        match self.places.get_mut(place as usize) {
+            Some(place) => place.may_take(self.now),
+            None => false,
         }
     }
 
@@ -215,8 +259,14 @@ impl<'a, R: Net + Clock> Sockets<'a, R> {
         };
         let client = endpoint_of(from);
         let taken = Session::new(session, client, stream, self.poll.registry())?;
-        self.sessions.push(taken)?;
-        Ok(Some(client))
+        self.turns.wake(session)?;
+        match self.sessions.push(taken) {
+            Ok(()) => Ok(Some(client)),
+            Err(error) => {
+                self.turns.forget(session);
+                Err(error.into())
+            }
+        }
     }
 
     /// Asks whether the controller of a session took the connection, and begins to connect where that was not begun. `NotConnected`
@@ -261,12 +311,29 @@ impl<'a, R: Net + Clock> Sockets<'a, R> {
     /// Leaves both connections of a session.
     pub fn drop_session(&mut self, session: u64) {
         if let Some(at) = self.seat_of(session) {
+            self.turns.forget(session);
             let leaving = self.sessions.remove(at).leave(self.now);
             if self.leaving.len() < LEAVING {
                 // There is room for it.
                 let _ = self.leaving.push(leaving);
+                self.may_drain = true;
             }
         }
+    }
+}
+
+/// Where the session of a number stands: in a place or in the next, or where a search finds it.
+fn seat_near(sessions: &[Session], near: usize, number: u64) -> Option<usize>
+    ensures inside { IfSome result (λ at. at < length sessions.now) }
+    ensures own { IfSome result (HoldsAt (λ found. found.number ≡ number) sessions.now) }
+{
+    let next = near.saturating_add(1);
+    if is_at(sessions, near, number) {
+        Some(near)
+    } else if is_at(sessions, next, number) {
+        Some(next)
+    } else {
+        session_of(sessions, number)
     }
 }
 

@@ -63,6 +63,10 @@ impl Service for SetBack {
         self.links.arrive(place, session)
     }
 
+    fn next_ready(&mut self, from: u64) -> Option<u64> {
+        self.links.next_ready(from)
+    }
+
     fn is_ready(&mut self, session: u64) -> bool {
         self.links.is_ready(session)
     }
