@@ -47,6 +47,12 @@ pub record HasRead (assets : List Asset) (capture : Content) (old new : List Flo
   pub read : IsReadFrom assets capture more
   pub behind : new ≡ old ++ more
 
+-- and what is read of captures of these names, of one after the other
+pub record HasReadAll (assets : List Asset) (content : List ℕ → Content) (captures : List (List ℕ)) (old new : List FlowValue) : Type 0 where
+  pub more : List FlowValue
+  pub read : AreReadFrom assets content captures more
+  pub behind : new ≡ old ++ more
+
 -- ---- what is drafted
 
 -- a draft of a policy by what was read of captures: a policy that allows all of it, as a text

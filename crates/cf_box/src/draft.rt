@@ -1,7 +1,7 @@
 //! `draft POLICY OUT CAPTURE..`: a first policy is written that allows what captures show.
 ghost use Rattle.std.specs.Prelude.{◌≡◌, ◌∷◌, [], Err, IfErr, IfOk, OnOk, map, string_bytes};
 ghost use Rattle.cf_words.specs.Command.{Draft as DraftCommand};
-ghost use Rattle.cf_box.specs.Draft.{DraftsAs, HasRead, StopsReading, WritesDraftText, counted_draft};
+ghost use Rattle.cf_box.specs.Draft.{DraftsAs, HasRead, HasReadAll, StopsReading, WritesDraftText, counted_draft};
 ghost use Rattle.cf_box.specs.Ends.{Meets};
 ghost use Rattle.cf_draft.specs.Parts.{AreReadFrom};
 ghost use Rattle.cf_ending.specs.Outside.{FilesNeverFall, ReadsOnly, SinkValue, files_value, outside};
@@ -64,13 +64,34 @@ fn read_captures<F: Files>(
     ensures only { ReadsOnly (map string_bytes captures.now) (files_value F.Files files.old) (files_value F.Files files.new) }
 {
     let mut parts = Parts::new(alloc);
-    for capture in captures {
-        match read_capture(alloc, policy, capture.as_str(), &mut parts, files) {
-            Ok(()) => {}
-            Err(stop) => return Err(stop),
-        }
+    match read_each(alloc, policy, captures, &mut parts, files) {
+        Ok(()) => Ok(parts),
+        Err(stop) => Err(stop),
     }
-    Ok(parts)
+}
+
+/// Adds what is read of the flows of captures, of one after the other.
+fn read_each<F: Files>(
+    alloc: Global,
+    policy: &Policy,
+    captures: &[String],
+    parts: &mut Parts,
+    files: &mut F,
+) -> Result<(), Stop>
+    requires within { IsWithin policy.now }
+    ensures read { OnOk result (HasReadAll policy.now.assets (F.content files.old) (map string_bytes captures.now)
+        (map flow_value parts.old.flows.items) (map flow_value parts.new.flows.items)) }
+    ensures stop { IfErr result (λ s. StopsReading (map string_bytes captures.now) (files_value F.Files files.old)
+        (files_value F.Files files.new) s) }
+    ensures only { ReadsOnly (map string_bytes captures.now) (files_value F.Files files.old) (files_value F.Files files.new) }
+{
+    let Some((capture, rest)) = captures.split_first() else {
+        return Ok(());
+    };
+    match read_capture(alloc, policy, capture.as_str(), parts, files) {
+        Ok(()) => read_each(alloc, policy, rest, parts, files),
+        Err(stop) => Err(stop),
+    }
 }
 
 /// Adds what is read of the flows of a capture.

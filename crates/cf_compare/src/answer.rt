@@ -111,11 +111,10 @@ pub fn partner_of<'a>(asset: &Asset, other: &'a Policy) -> Option<&'a Asset>
     ensures none { IfNone result (All (λ b. IsSameController asset.now b → ⊥) other.now.assets) }
 {
     let assets = other.assets.as_slice();
-    assets.iter().find(|partner| is_same_controller(asset, partner))
+    assets.iter().find(|partner| is_same(asset, partner))
 }
 
-/// Whether two assets are one controller under one name: their endpoint, protocol, station and master are the same too.
-pub fn is_same_controller(asset: &Asset, partner: &Asset) -> bool
+fn is_same(asset: &Asset, partner: &Asset) -> bool
     ensures { Decides result (IsSameController asset.now partner.now) }
 {
     asset.name.as_str() == partner.name.as_str()

@@ -9,7 +9,5 @@ mod rows;
 mod rules;
 mod search;
 
-pub use answer::{
-    CompareFault, Compared, compare, first_difference, is_same_controller, partner_of,
-};
+pub use answer::{CompareFault, Compared, compare, first_difference, partner_of};
 pub use count::{MOST_CELLS, cells};

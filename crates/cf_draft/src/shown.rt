@@ -1,5 +1,6 @@
 //! Whether rules allow what flows show of an asset, and no other act.
-ghost use Rattle.std.specs.Prelude.{◌≡◌, ◌<◌, Contains, IfOk, map, true};
+ghost use Rattle.std.specs.Prelude.{◌≡◌, Contains, Decides, IfOk, map, true};
+ghost use Rattle.cf_compare.specs.Inclusion.{IsSameController};
 ghost use Rattle.cf_learn.specs.Seen.{act_of};
 ghost use Rattle.cf_learn.specs.declared.seen.Seen.{Seen};
 ghost use Rattle.cf_policy.specs.Laws.{IsAllowed};
@@ -8,7 +9,7 @@ ghost use Rattle.cf_policy.specs.Within.{IsAssetWithin};
 ghost use Rattle.cf_watch.specs.FlowValue.{flow_value};
 ghost use Rattle.cf_draft.specs.Draft.{AllowsOnlyShown, AllowsShown, IsDraftedAsset};
 
-use cf_compare::{MOST_CELLS, cells, first_difference, is_same_controller};
+use cf_compare::{MOST_CELLS, cells, first_difference};
 use cf_learn::{RulesFault, Seen, learned_asset, seen_in};
 use cf_policy::{Asset, Verdict, verdict};
 use cf_view::{Act, NoMemory};
@@ -39,6 +40,17 @@ pub(crate) fn is_drafted(
         return Ok(true);
     }
     allows_only_shown(alloc, asset, place, flows, drafted)
+}
+
+/// Whether two assets are one controller under one name.
+fn is_same_controller(drafted: &Asset, asset: &Asset) -> bool
+    ensures { Decides result (IsSameController drafted.now asset.now) }
+{
+    drafted.name.as_str() == asset.name.as_str()
+        && drafted.endpoint == asset.endpoint
+        && drafted.protocol == asset.protocol
+        && drafted.station == asset.station
+        && drafted.master == asset.master
 }
 
 /// Whether each act that flows show is allowed.
