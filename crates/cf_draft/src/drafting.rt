@@ -37,21 +37,44 @@ pub fn draft_policy(alloc: Global, policy: &Policy, parts: &Parts) -> Result<Dra
     ensures text { IfOk result (λ d. text_meaning (string_bytes d.text) ≡ Ok d.policy) }
     ensures stops { IfErr result (StopsAt (map flow_value parts.now.flows.items) policy.now.assets) }
 {
-    match proposed(alloc, policy, parts) {
+    match proposed(alloc, policy, parts, false) {
         Ok(Some(draft)) => Ok(draft),
-        Ok(None) => exact(alloc, policy, parts.flows.as_slice()),
+        Ok(None) => exact_or_wide(alloc, policy, parts),
         Err(_) => Err(LearnFault::NoMemory),
     }
 }
 
-/// What is proposed, where it keeps to what was read.
-fn proposed(alloc: Global, policy: &Policy, parts: &Parts) -> Result<Option<Draft>, NoMemory>
+/// The draft that allows exactly what was read, or where that has too many rules what is proposed, told as widened.
+fn exact_or_wide(alloc: Global, policy: &Policy, parts: &Parts) -> Result<Draft, LearnFault>
+    requires within { IsWithin policy.now }
+    ensures drafted { IfOk result (λ d. AreDrafted (map flow_value parts.now.flows.items) d.widened policy.now.assets d.policy.assets) }
+    ensures within { IfOk result (λ d. IsWithin d.policy) }
+    ensures text { IfOk result (λ d. text_meaning (string_bytes d.text) ≡ Ok d.policy) }
+    ensures stops { IfErr result (StopsAt (map flow_value parts.now.flows.items) policy.now.assets) }
+{
+    match exact(alloc, policy, parts.flows.as_slice()) {
+        Ok(draft) => Ok(draft),
+        Err(fault) => match proposed(alloc, policy, parts, true) {
+            Ok(Some(draft)) => Ok(draft),
+            Ok(None) => Err(fault),
+            Err(_) => Err(LearnFault::NoMemory),
+        },
+    }
+}
+
+/// What is proposed, where it keeps to what was read; `is_wide` tells it as widened, whether it was or not.
+fn proposed(
+    alloc: Global,
+    policy: &Policy,
+    parts: &Parts,
+    is_wide: bool,
+) -> Result<Option<Draft>, NoMemory>
     requires within { IsWithin policy.now }
     ensures { IfOk result (λ found. IfSome found (λ d.
         AreDrafted (map flow_value parts.now.flows.items) d.widened policy.now.assets d.policy.assets
         × IsWithin d.policy × (text_meaning (string_bytes d.text) ≡ Ok d.policy))) }
 {
-    let Ok(proposal) = propose(alloc, policy, parts) else {
+    let Ok(proposal) = propose(alloc, policy, parts, is_wide) else {
         return Err(NoMemory);
     };
     match read_policy(alloc, proposal.text.as_bytes()) {

@@ -16,16 +16,17 @@ pub(crate) struct Proposal {
     pub(crate) widened: u64,
 }
 
-/// Proposes rules for each asset of a policy. Nothing is promised of them.
+/// Proposes rules for each asset of a policy. Nothing is promised of them. `is_wide`: one asset more is told as widened.
 pub(crate) fn propose(
     alloc: Global,
     policy: &Policy,
     parts: &Parts,
+    is_wide: bool,
 ) -> Result<Proposal, AllocError> {
     let assets = policy.assets.as_slice();
     let mut text = Writer::new(alloc);
-    let mut widened: u64 = 0;
-    put_head(&mut text, !assets.is_empty());
+    let mut widened: u64 = u64::from(is_wide);
+    put_head(&mut text, !assets.is_empty(), is_wide);
     for (place, asset) in assets.iter().enumerate() {
         let width = propose_asset(alloc, asset, (place % 65_536) as u32, parts, &mut text)?;
         if width != Width::Nothing {

@@ -8,10 +8,15 @@ use cf_policy::{Asset, Protocol, Span};
 use cf_policylang::code_name;
 
 /// Puts what stands at the head of a draft.
-pub(crate) fn put_head(text: &mut Writer, has_assets: bool) {
+pub(crate) fn put_head(text: &mut Writer, has_assets: bool, is_wide: bool) {
     text.put(
         "# A first policy: it allows what was recorded, and also what an intruder did meanwhile. Read it before use.\n",
     );
+    if is_wide {
+        text.put(
+            "# Rules for exactly what was recorded would be too many, so it was not tested whether these allow more.\n",
+        );
+    }
     text.put("version = 3\n");
     if !has_assets {
         text.put("asset = []\n");
@@ -74,7 +79,8 @@ pub(crate) fn put_rule(
     put_addresses(text, cover.clients.as_slice());
     text.put("]\ncodes = [");
     put_codes(text, protocol, cover.codes.as_slice());
-    put_numbers(text, "]\ngroups = [", cover.groups.as_slice());
+    text.put("]\ngroups = [");
+    put_groups(text, protocol, cover.groups.as_slice());
     put_numbers(text, "]\npoints = [", cover.points.as_slice());
     if !cover.values.is_empty() {
         put_numbers(text, "]\nvalues = [", cover.values.as_slice());
@@ -139,6 +145,34 @@ fn put_code(text: &mut Writer, protocol: Protocol, code: i64) {
             text.put("\"");
         }
         None => text.number(code),
+    }
+}
+
+/// Puts a list of groups by their names, where they have some.
+fn put_groups(text: &mut Writer, protocol: Protocol, spans: &[Span]) {
+    for (place, span) in spans.iter().enumerate() {
+        text.put(if place == 0 { "\"" } else { ", \"" });
+        put_group(text, protocol, span.low);
+        if span.low != span.high {
+            text.put("..");
+            put_group(text, protocol, span.high);
+        }
+        text.put("\"");
+    }
+}
+
+fn put_group(text: &mut Writer, protocol: Protocol, group: i64) {
+    match (protocol, group) {
+        (Protocol::Dnp3, 1..=65_535) => {
+            text.put("g");
+            text.number(group.wrapping_div(256));
+            text.put("v");
+            text.number(group & 255);
+        }
+        (Protocol::Iec104, 5) => text.put("request"),
+        (Protocol::Iec104, 6) => text.put("activation"),
+        (Protocol::Iec104, 8) => text.put("deactivation"),
+        _ => text.number(group),
     }
 }
 
