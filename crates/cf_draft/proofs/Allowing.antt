@@ -1,7 +1,7 @@
 -- What rules allow that were held against what was shown, and what a learned asset allows.
-use Rattle.std.proofs.Common.{◌≡◌, ◌+◌, ◌<◌, ℕ, zero, suc, List, [], ◌∷◌, length, slice_get, get_or, Some, refl, sym, ap, subst, ◌∙◌, arith}
+use Rattle.std.proofs.Common.{◌≡◌, ◌+◌, ◌<◌, ℕ, zero, suc, List, [], ◌∷◌, length, slice_get, get_or, Some, refl, sym, ap, subst, ◌∙◌, arith, below_more}
 use Rattle.std.specs.Prelude.{Contains}
-use Rattle.std.proofs.lemmas.Option.{get_or_from_slice_get}
+use Rattle.std.proofs.lemmas.Option.{get_or_from_slice_get, slice_get-get_or}
 use Rattle.cf_acts.specs.Commands.{IsOfCommand}
 use Rattle.cf_compare.specs.Inclusion.{AllowsAllOf, IsSameController}
 use Rattle.cf_learn.specs.Assets.{AreLearned, AreSeen, IsLearnedAsset, with_rules}
@@ -66,3 +66,18 @@ pub drafted_at : (flows : List FlowValue) (widened : ℕ) (assets drafted : List
 drafted_at flows widened assets drafted place d e asset own is a o =
     subst (λ x. IsDraftedAsset x place flows widened own) (get_or_from_slice_get assets place asset d a)
     (subst (λ y. IsDraftedAsset (get_or assets place d) place flows widened y) (get_or_from_slice_get drafted place own e o) is)
+
+-- what was seen up to a place is allowed, and what stands there too
+pub all_more : (seen : List Seen) (drafted : Asset) (i : ℕ) (d : Seen) → i < length seen →
+    ((k : ℕ) → k < i → (s : Seen) → slice_get seen k ≡ Some s → IsAllowed (verdict_of drafted s.kind.client (act_of s))) → d ≡ get_or seen i d →
+    IsAllowed (verdict_of drafted d.kind.client (act_of d)) →
+    (k : ℕ) → k < i + 1 → (s : Seen) → slice_get seen k ≡ Some s → IsAllowed (verdict_of drafted s.kind.client (act_of s))
+all_more seen drafted i d inside before is allowed = below_more (λ k. (s : Seen) → slice_get seen k ≡ Some s → IsAllowed (verdict_of drafted s.kind.client (act_of s))) i before
+    (λ s at. subst (λ x. IsAllowed (verdict_of drafted x.kind.client (act_of x))) (is ∙ get_or_from_slice_get seen i s d at) allowed)
+
+-- all of it is
+pub all_allowed : (seen : List Seen) (drafted : Asset) →
+    ((k : ℕ) → k < length seen → (s : Seen) → slice_get seen k ≡ Some s → IsAllowed (verdict_of drafted s.kind.client (act_of s))) →
+    (s : Seen) → Contains seen s → IsAllowed (verdict_of drafted s.kind.client (act_of s))
+all_allowed seen drafted each s here =
+    each here.0 here.1 s (slice_get-get_or seen here.0 s here.1 ∙ ap Some here.2)

@@ -1,5 +1,5 @@
 //! What is read of recordings: each flow, and each other stretch of one, from its first unit on.
-ghost use Rattle.std.specs.Prelude.{◌≡◌, ◌≤◌, [], All, IfOk, OnOk, drop, length, map};
+ghost use Rattle.std.specs.Prelude.{◌≡◌, ◌≤◌, ◌++◌, ◌∷◌, [], All, IfOk, OnOk, drop, length, map};
 ghost use Rattle.cf_policy.specs.declared.Protocol.{Protocol};
 ghost use Rattle.cf_review.specs.FirstUnit.{IsReadPart, from_place};
 ghost use Rattle.cf_watch.specs.FlowValue.{AreStretchesFor, IsForAsset, flow_value, stretch_value};

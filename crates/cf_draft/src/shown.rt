@@ -1,6 +1,6 @@
 //! Whether rules allow what flows show of an asset, and no other act.
 ghost use Rattle.std.specs.Prelude.{◌≡◌, Contains, Decides, IfOk, map, true};
-ghost use Rattle.cf_compare.specs.Inclusion.{IsSameController};
+ghost use Rattle.cf_compare.specs.Inclusion.{AllowsAllOf, IsSameController};
 ghost use Rattle.cf_learn.specs.Seen.{act_of};
 ghost use Rattle.cf_learn.specs.declared.seen.Seen.{Seen};
 ghost use Rattle.cf_policy.specs.Laws.{IsAllowed};
@@ -109,14 +109,24 @@ fn allows_only_shown(
     ensures { IfOk result (λ yes. yes ≡ true → AllowsOnlyShown asset.now place (map flow_value flows.now) drafted.now) }
 {
     match learned_asset(alloc, asset, place, flows) {
-        Ok(exact) => {
-            if cells(alloc, drafted, &exact)? > MOST_CELLS {
-                return Ok(false);
-            }
-            let difference = first_difference(alloc, drafted, &exact)?;
-            Ok(difference.is_none())
-        }
+        Ok(exact) => is_included(alloc, drafted, &exact),
         Err(RulesFault::TooMany) => Ok(false),
         Err(RulesFault::NoMemory) => Err(NoMemory),
+    }
+}
+
+/// Whether the second asset allows all that the first allows; no where there is too much to compare.
+fn is_included(alloc: Global, drafted: &Asset, exact: &Asset) -> Result<bool, NoMemory>
+    requires drafted { IsAssetWithin drafted.now }
+    requires exact { IsAssetWithin exact.now }
+    ensures { IfOk result (λ yes. yes ≡ true → AllowsAllOf drafted.now exact.now) }
+{
+    if cells(alloc, drafted, exact)? > MOST_CELLS {
+        return Ok(false);
+    }
+    match first_difference(alloc, drafted, exact) {
+        Ok(None) => Ok(true),
+        Ok(Some(_)) => Ok(false),
+        Err(_) => Err(NoMemory),
     }
 }
