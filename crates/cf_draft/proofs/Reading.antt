@@ -1,7 +1,7 @@
 -- What is read of flows, of one after the other.
-use Rattle.std.proofs.Common.{◌≡◌, ◌<◌, ◌∙◌, ℕ, List, [], ◌∷◌, ◌++◌, length, map, get_or, slice_get, Option, Some, refl, sym, ap, subst, arith, append_assoc}
+use Rattle.std.proofs.Common.{◌≡◌, ◌+◌, ◌<◌, ◌∙◌, take, ℕ, List, [], ◌∷◌, ◌++◌, length, map, get_or, slice_get, Option, Some, refl, sym, ap, subst, arith, append_assoc}
 use Rattle.std.specs.Prelude.{All}
-use Rattle.std.proofs.lemmas.List.{append-nil, get_or-map, length-map}
+use Rattle.std.proofs.lemmas.List.{append-nil, get_or-map, length-map, map-append, map_more}
 use Rattle.cf_policy.specs.declared.Asset.{Asset}
 use Rattle.cf_watch.specs.FlowValue.{AreStretchesFor, FlowValue, IsForAsset, StretchValue, flow_value, stretch_value}
 use Rattle.cf_watch.specs.declared.Flow.{Flow}
@@ -61,3 +61,14 @@ for_stretch assets stretches all i s inside is =
     let here : get_or (map (λ (x : StretchValue). x.flow) values) i (flow_value s.flow) ≡ flow_value s.flow =
     get_or-map (λ (x : StretchValue). x.flow) values i (stretch_value s) (flow_value s.flow) (omega (arith, inside, size)) ∙ ap (λ (x : StretchValue). x.flow) one in
     subst (IsForAsset assets) here (all i (flow_value s.flow) (omega (arith, inside, size, sizes)))
+
+-- the flows of stretches
+abbrev pub flows_in : List Stretch → List FlowValue
+flows_in stretches = map (λ (x : StretchValue). x.flow) (map stretch_value stretches)
+
+pub flows_more : (stretches : List Stretch) (i : ℕ) (s : Stretch) → i < length stretches → s ≡ get_or stretches i s →
+    flows_in (take i stretches) ++ flow_value s.flow ∷ [] ≡ flows_in (take (i + 1) stretches)
+flows_more stretches i s inside is =
+    let one : map stretch_value (take i stretches) ++ stretch_value s ∷ [] ≡ map stretch_value (take (i + 1) stretches) =
+    ap (λ g. map stretch_value (take i stretches) ++ stretch_value g ∷ []) is ∙ sym (map_more stretch_value stretches i s inside) in
+    sym (map-append (λ (x : StretchValue). x.flow) (map stretch_value (take i stretches)) (stretch_value s ∷ [])) ∙ ap (map (λ (x : StretchValue). x.flow)) one

@@ -131,14 +131,10 @@ fn are_drafted(
         return Ok(false);
     }
     for place in 0..assets.len() {
-        if !is_drafted(
-            alloc,
-            &assets[place],
-            place as u32,
-            flows,
-            widened,
-            &drafted[place],
-        )? {
+        let asset = &assets[place];
+        let own = &drafted[place];
+        let is_so = is_drafted(alloc, asset, place as u32, flows, widened, own)?;
+        if !is_so {
             return Ok(false);
         }
     }

@@ -73,7 +73,8 @@ fn allows_shown(
 fn allows_all(drafted: &Asset, seen: &[Seen]) -> bool
     ensures { result ≡ true → (s : Seen) → Contains seen.now s → IsAllowed (verdict_of drafted.now s.kind.client (act_of s)) }
 {
-    for one in seen {
+    for place in 0..seen.len() {
+        let one = &seen[place];
         if !allows(drafted, one) {
             return false;
         }
