@@ -5,7 +5,6 @@ use Rattle.cf_run.specs.RunCapture.{AreApart, RunNamesValue}
 use Rattle.cf_sift.specs.Names.{SiftNamesValue}
 use Rattle.cf_words.specs.Command.{Command, Check, Compare, Draft, Judge, Learn, Migrate, Packets, Relay, Review, Run, Sift, World}
 use Rattle.cf_words.specs.Names.{are_names, printed_number_in}
-use Rattle.cf_words.specs.declared.draft.TheConstants.{MOST_CAPTURES}
 
 -- the words after `check`: the name of a policy
 abbrev pub check_of : List (List ℕ) → Option Command
@@ -17,14 +16,12 @@ abbrev pub compare_of : List (List ℕ) → Option Command
 compare_of (policy ∷ other ∷ []) = if are_names (policy ∷ other ∷ []) then Some (Compare policy other) else None
 compare_of _ = None
 
--- a draft reads at most so many captures
-abbrev pub most_captures : ℕ
-most_captures = MOST_CAPTURES
-
 -- the words after `draft`: the names of a policy, of the policy that is written, and of one to 64 captures
 abbrev pub draft_of : List (List ℕ) → Option Command
 draft_of (policy ∷ out ∷ captures) =
-    if nat_le 1 (length captures) && nat_le (length captures) most_captures && are_names (policy ∷ out ∷ captures) then Some (Draft policy out captures) else None
+    if nat_le 1 (length captures) && (nat_le (length captures) 64 && are_names (policy ∷ out ∷ captures)) then
+    Some (Draft policy out captures)
+    else None
 draft_of _ = None
 
 -- the words after `judge`: the names of a policy and of a capture
