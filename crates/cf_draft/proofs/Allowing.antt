@@ -68,11 +68,11 @@ learned_drafts flows widened assets learned are = record {
 
 -- what was seen up to a place is allowed, and what stands there too
 pub all_more : (seen : List Seen) (drafted : Asset) (i : ℕ) (d : Seen) → i < length seen →
-    ((k : ℕ) → k < i → (s : Seen) → slice_get seen k ≡ Some s → IsAllowed (verdict_of drafted s.kind.client (act_of s))) → d ≡ get_or seen i d →
-    IsAllowed (verdict_of drafted d.kind.client (act_of d)) →
+    ((k : ℕ) → k < i → (s : Seen) → slice_get seen k ≡ Some s → IsAllowed (verdict_of drafted s.kind.client (act_of s))) →
+    IsAllowed (verdict_of drafted (get_or seen i d).kind.client (act_of (get_or seen i d))) →
     (k : ℕ) → k < i + 1 → (s : Seen) → slice_get seen k ≡ Some s → IsAllowed (verdict_of drafted s.kind.client (act_of s))
-all_more seen drafted i d inside before is allowed = below_more (λ k. (s : Seen) → slice_get seen k ≡ Some s → IsAllowed (verdict_of drafted s.kind.client (act_of s))) i before
-    (λ s at. subst (λ x. IsAllowed (verdict_of drafted x.kind.client (act_of x))) (is ∙ get_or_from_slice_get seen i s d at) allowed)
+all_more seen drafted i d inside before allowed = below_more (λ k. (s : Seen) → slice_get seen k ≡ Some s → IsAllowed (verdict_of drafted s.kind.client (act_of s))) i before
+    (λ s at. subst (λ x. IsAllowed (verdict_of drafted x.kind.client (act_of x))) (get_or_from_slice_get seen i s d at) allowed)
 
 -- all of it is
 pub all_allowed : (seen : List Seen) (drafted : Asset) →

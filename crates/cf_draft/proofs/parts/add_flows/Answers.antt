@@ -15,7 +15,7 @@ bounds-assets-flow c =
     omega (arith, here.asset)
 
 pub add_part-requires : goal.add_part-requires
-add_part-requires c = (for_flow c.args.assets.now c.args.flows.now c.requires.flows c.loop-flow.flow-index c.flow-item.result c.loop-flow-test.true c.flow-item.is).born
+add_part-requires c = record { born = (for_flow c.args.assets.now c.args.flows.now c.requires.flows c.loop-flow.flow-index c.flow-item.result c.loop-flow-test.true c.flow-item.is).born }
 
 pub loop-flow-preserved : goal.loop-flow-preserved
 loop-flow-preserved c =

@@ -15,7 +15,7 @@ bounds-assets-stretch c =
     omega (arith, here.asset)
 
 pub add_part-requires : goal.add_part-requires
-add_part-requires c = (for_stretch c.args.assets.now c.args.stretches.now c.requires.stretches c.loop-stretch.stretch-index c.stretch-item.result c.loop-stretch-test.true c.stretch-item.is).born
+add_part-requires c = record { born = (for_stretch c.args.assets.now c.args.stretches.now c.requires.stretches c.loop-stretch.stretch-index c.stretch-item.result c.loop-stretch-test.true c.stretch-item.is).born }
 
 pub loop-stretch-preserved : goal.loop-stretch-preserved
 loop-stretch-preserved c =
