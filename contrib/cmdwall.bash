@@ -1,7 +1,7 @@
 # Completion of cmdwall's words in bash: source this file, or put it into the folder of bash-completion as 'cmdwall'.
 _cmdwall() {
     local word=${COMP_WORDS[COMP_CWORD]} command=${COMP_WORDS[1]:-} place=$((COMP_CWORD - 1))
-    local commands='sift check compare learn migrate packets judge review run relay serve world'
+    local commands='sift check compare learn draft migrate packets judge review run relay serve world'
     COMPREPLY=()
     if [ "$place" -eq 0 ]; then
         mapfile -t COMPREPLY < <(compgen -W "$commands help --help --version" -- "$word")
@@ -24,7 +24,7 @@ _cmdwall() {
             return
             ;;
         sift:3 | relay:[34] | serve:2 | world:[12]) return ;;
-        check:1 | compare:[12] | learn:[123] | migrate:[12] | packets:1 | judge:[12] | review:[123] | sift:[14567] | run:[1234] | relay:[15] | serve:[13] | world:[3456]) ;;
+        check:1 | compare:[12] | learn:[123] | draft:[1-9] | draft:[1-6][0-9] | migrate:[12] | packets:1 | judge:[12] | review:[123] | sift:[14567] | run:[1234] | relay:[15] | serve:[13] | world:[3456]) ;;
         *) return ;;
     esac
     mapfile -t COMPREPLY < <(compgen -f -- "$word")

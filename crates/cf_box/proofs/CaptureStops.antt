@@ -56,11 +56,11 @@ listed_to {file} found l is = record {
 }
 
 -- by no moment, and by no place
-form_apart : (of : FormRefusal) → (form_refusal of ≢ refusal.Clock) × (form_refusal of ≢ refusal.Large)
+pub form_apart : (of : FormRefusal) → (form_refusal of ≢ refusal.Clock) × (form_refusal of ≢ refusal.Large)
 form_apart form.Short = ((λ e. cc e), (λ e. cc e))
 form_apart _ = ((λ e. cc e), (λ e. cc e))
 
-block_apart : (of : BlockRefusal) → (block_refusal of ≢ refusal.Clock) × (block_refusal of ≢ refusal.Large)
+pub block_apart : (of : BlockRefusal) → (block_refusal of ≢ refusal.Clock) × (block_refusal of ≢ refusal.Large)
 block_apart block.Block = ((λ e. cc e), (λ e. cc e))
 block_apart _ = ((λ e. cc e), (λ e. cc e))
 

@@ -19,7 +19,7 @@ use Rattle.cf_policylang.specs.Documents.{policy_meaning}
 use Rattle.cf_policylang.specs.declared.PolicyRefusal.{PolicyRefusal}
 use Rattle.cf_run.specs.RunCapture.{HasRunRecords}
 use Rattle.cf_ending.specs.Captures.{EndsAt, EndsIn, Refuses, RefusesIn}
-use Rattle.cf_words.specs.Command.{Command, Compare, Judge, Packets, Review, Run, World, asset_name, capture_file, other_file, policy_file, Learn}
+use Rattle.cf_words.specs.Command.{Command, Compare, Draft, Judge, Packets, Review, Run, World, asset_name, capture_file, other_file, policy_file, Learn}
 use Rattle.cf_box.specs.Compare.{ExceedsAt, IsNotIncluded}
 use Rattle.cf_box.specs.Ends.{CutsCapture, CutsRun, CutsStream, Denies, EndsIdle, ExceedsCells, ExceedsRules, LacksAsset, LinkFails, Meets, RefusesCapture, RefusesMadePolicy, RefusesPolicy}
 use Rattle.cf_ending.specs.Outside.{Outside, ReadFailed, WriteFailed}
@@ -174,29 +174,30 @@ pub record EndsInForm (c : Command) (before : Outside) : Type 0 where
   pub cut : (place : ℕ) → CutsCapture c before place → ⊥
   pub run_cut : (place : ℕ) → CutsRun c before place → ⊥
 
-pub ends_in_form : (c : Command) (before : Outside) → IsInForm c before → TellsMade c before → EndsInForm c before
-ends_in_form (Packets capture) before good tells =
+pub ends_in_form : (c : Command) (before : Outside) → IsInForm c before → TellsMade c before → HoldsWhatItAsks c before → EndsInForm c before
+ends_in_form (Packets capture) before good tells asked =
     let (bytes, told, has) = good capture refl in
     record {
       refused = λ r h. listing_unrefused set.Plain bytes has r (subst (λ f. Refuses HasListedRecords f r) told h.0);
       cut = λ place h. listing_uncut set.Plain bytes has place (subst (λ f. EndsAt HasListedRecords f Cut place) told h);
       run_cut = λ place h. h;
     }
-ends_in_form (Run policy names) before good tells =
+ends_in_form (Run policy names) before good tells asked =
     let (bytes, told, has) = good names.capture refl in
     let uncut : (place : ℕ) → RunCuts (before.files.content names.capture) place → ⊥ = λ place h. not_cut_run bytes has place (subst (λ f. RunCuts f place) told h) in
     record { refused = λ r h. not_refused_run bytes has r (subst (λ f. RunRefuses f r) told h); cut = uncut; run_cut = uncut }
-ends_in_form (Judge policy capture) before good tells =
+ends_in_form (Judge policy capture) before good tells asked =
     let (bytes, told, has) = good capture refl in
     record { refused = not_refused_watch set.Plain bytes has _ told; cut = not_cut_watch set.Plain bytes has _ told; run_cut = λ place h. h }
-ends_in_form (Learn policy capture out) before good tells =
+ends_in_form (Learn policy capture out) before good tells asked =
     let (bytes, told, has) = good capture refl in
     record { refused = not_refused_watch set.Plain bytes has _ told; cut = not_cut_watch set.Plain bytes has _ told; run_cut = λ place h. h }
-ends_in_form (Review policy capture log) before good tells =
+ends_in_form (Draft policy out captures) before good tells asked = record { refused = asked.unrefused; cut = asked.uncut; run_cut = λ place h. h }
+ends_in_form (Review policy capture log) before good tells asked =
     let (bytes, told, has) = good capture refl in
     record { refused = not_refused_watch set.Recorded bytes has _ told; cut = not_cut_watch set.Recorded bytes has _ told; run_cut = λ place h. h }
-ends_in_form (World seed sessions policy names) before good tells = record { refused = λ r h. tells.1 h; cut = λ place h. tells.1 h; run_cut = λ place h. tells.1 h }
-ends_in_form _ before good tells = record { refused = λ r h. h; cut = λ place h. h; run_cut = λ place h. h }
+ends_in_form (World seed sessions policy names) before good tells asked = record { refused = λ r h. tells.1 h; cut = λ place h. tells.1 h; run_cut = λ place h. tells.1 h }
+ends_in_form _ before good tells asked = record { refused = λ r h. h; cut = λ place h. h; run_cut = λ place h. h }
 
 -- nor is a policy that has a meaning, or that the command made
 made_none : (c : Command) (before : Outside) → TellsMade c before → RefusesMadePolicy c before → ⊥
@@ -239,13 +240,14 @@ asked_is_small (Compare policy other) before name asked d = not_exceeding d.0 d.
 asked_is_small c before name asked d = absurd d
 
 asked_is_room : (c : Command) (before : Outside) (name : List ℕ) → HoldsWhatItAsks c before → ExceedsRules c before name → ⊥
+asked_is_room (Draft policy out captures) before name asked d = asked.small name d
 asked_is_room (Learn policy capture out) before name asked d = asked name d
 asked_is_room c before name asked d = absurd d
 
 module _ (c : Command) (before middle : Outside) (failed : Type 0) (status : ℕ) (input : HasInput c before middle)
     (reads : ReadFailed c before middle → ⊥) (writes : WriteFailed before middle → ⊥) (links : LinkFails c before middle.pair → ⊥) (puts : failed → ⊥) where
   in_form : EndsInForm c before
-  in_form = ends_in_form c before input.capture input.made
+  in_form = ends_in_form c before input.capture input.made input.holds
 
   is_complete : (r : Result Done Stop) → Meets c before middle r → IsOf r failed status → (status ≡ 0) ⊎ (status ≡ 13)
   is_complete (Ok d) meets (inl h) = inl h

@@ -15,10 +15,11 @@ use Rattle.cf_policy.specs.declared.Asset.{Asset}
 use Rattle.cf_policy.specs.declared.Policy.{Policy}
 use Rattle.cf_policylang.specs.Documents.{policy_meaning}
 use Rattle.cf_policylang.specs.declared.PolicyRefusal.{PolicyRefusal}
-use Rattle.cf_words.specs.Command.{Command, Check, Compare, Judge, Migrate, Packets, Review, Run, Relay, World, Sift, policy_file, Learn}
+use Rattle.cf_words.specs.Command.{Command, Check, Compare, Draft, Judge, Migrate, Packets, Review, Run, Relay, World, Sift, policy_file, Learn}
 use Rattle.cf_view.specs.declared.LinkSet.TheVariants as set
 use Rattle.cf_box.specs.Compare.{IsIncluded, OfPolicies, TellsNotIncluded}
 use Rattle.cf_box.specs.Ends.{Does, LacksAsset, Meets, PassesPolicy, RefusesPolicy}
+use Rattle.cf_box.specs.Draft.{Drafts}
 use Rattle.cf_box.specs.Learn.{Learns}
 use Rattle.cf_ending.specs.Outside.{Outside, ReadFailed, WriteFailed}
 use Rattle.cf_box.specs.PolicyFile.{FindsAsset, HasPolicy, IsRefusedBy, StopsPolicy, TellsAsset}
@@ -54,6 +55,8 @@ does_pass before after (Compare policy second) d m =
       other = λ file e. let same : second ≡ file = cc in (theirs, subst (λ f. HasPolicy (before.files.content f) theirs) same m.includes.2.has_theirs);
       asset = λ file name e f. cc f;
     }
+does_pass before after (Draft policy out captures) d m =
+    let l : Drafts policy captures before m.holds.draft = m.holds.drafts in policy_passes (Draft policy out captures) before policy l.known refl refl refl l.recorded.has_policy
 does_pass before after (Judge policy capture) d m = policy_passes (Judge policy capture) before policy m.keeps.0 refl refl refl m.keeps.2.has_policy
 does_pass before after (Migrate policy out) d m = policy_passes (Migrate policy out) before policy m.keeps.meaning refl refl refl m.keeps.has
 does_pass before after (Learn policy capture out) d m =

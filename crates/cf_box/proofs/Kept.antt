@@ -10,9 +10,10 @@ use Rattle.cf_run.specs.RunCapture.{RunNamesValue}
 use Rattle.cf_run.specs.declared.run.RunFault.{RunFault}
 use Rattle.cf_run.specs.declared.run.RunFault.TheVariants as fault
 use Rattle.cf_run.specs.declared.run.RunRefusal.TheVariants as by
-use Rattle.cf_words.specs.Command.{Command, Check, Compare, Judge, Migrate, Packets, Review, Run, Relay, World, Sift, output_files, Learn}
+use Rattle.cf_words.specs.Command.{Command, Check, Compare, Draft, Judge, Migrate, Packets, Review, Run, Relay, World, Sift, output_files, Learn}
 use Rattle.cf_ending.specs.Ending.{status_of, stop_status}
 use Rattle.cf_box.specs.Ends.{Does, Leaves, Meets, StopsFor}
+use Rattle.cf_box.specs.Draft.{DraftLeaves}
 use Rattle.cf_box.specs.Learn.{LearnLeaves}
 use Rattle.cf_box.specs.Migrate.{MigrateLeaves}
 use Rattle.cf_ending.specs.Outside.{Outside}
@@ -95,6 +96,10 @@ module _ (before after : Outside) where
   learn_keeps policy capture out stop.WriteFault l = l.others
   learn_keeps policy capture out s l = nothing_written (Learn policy capture out) l.content
 
+  draft_keeps : (policy out : List ℕ) (captures : List (List ℕ)) (s : Stop) → DraftLeaves policy out captures before after s → Keeps (Draft policy out captures)
+  draft_keeps policy out captures stop.WriteFault l = l.others
+  draft_keeps policy out captures s l = nothing_written (Draft policy out captures) l.content
+
   review_keeps : (policy capture log : List ℕ) (s : Stop) → ReviewLeaves policy capture log before after s → Keeps (Review policy capture log)
   review_keeps policy capture log (stop.Denied (denial.Remarks counts)) l = l.0.others
   review_keeps policy capture log stop.WriteFault l = l.others
@@ -111,6 +116,7 @@ module _ (before after : Outside) where
   stop_keeps (Check policy) s l = nothing_written (Check policy) l.same.content
   stop_keeps (Compare policy other) s l = nothing_written (Compare policy other) l.same.content
   stop_keeps (Judge policy capture) s l = nothing_written (Judge policy capture) l.same.content
+  stop_keeps (Draft policy out captures) s l = draft_keeps policy out captures s l
   stop_keeps (Learn policy capture out) s l = learn_keeps policy capture out s l
   stop_keeps (Review policy capture log) s l = review_keeps policy capture log s l
   stop_keeps (Migrate policy out) s l = migrate_keeps policy out s l
@@ -141,6 +147,10 @@ module _ (before after : Outside) where
   learn_unwritten policy capture out stop.WriteFault w l = absurd (none_of 4 w (omega arith) (omega arith) (omega arith))
   learn_unwritten policy capture out s w l = l.content
 
+  draft_unwritten : (policy out : List ℕ) (captures : List (List ℕ)) (s : Stop) → WritesNothing (stop_status s) → DraftLeaves policy out captures before after s → after.files.content ≡ before.files.content
+  draft_unwritten policy out captures stop.WriteFault w l = absurd (none_of 4 w (omega arith) (omega arith) (omega arith))
+  draft_unwritten policy out captures s w l = l.content
+
   review_unwritten : (policy capture log : List ℕ) (s : Stop) → WritesNothing (stop_status s) → ReviewLeaves policy capture log before after s → after.files.content ≡ before.files.content
   review_unwritten policy capture log (stop.Denied (denial.Remarks counts)) w l = absurd (none_of 15 w (omega arith) (omega arith) (omega arith))
   review_unwritten policy capture log stop.WriteFault w l = absurd (none_of 4 w (omega arith) (omega arith) (omega arith))
@@ -163,6 +173,7 @@ module _ (before after : Outside) where
 
   -- such a status leaves the files as they were: a line a command
   unwritten_by : (k : Command) (s : Stop) → WritesNothing (stop_status s) → TellsMade k before → StopsFor k before after s → Leaves k before after s → after.files.content ≡ before.files.content
+  unwritten_by (Draft policy out captures) s w t f l = draft_unwritten policy out captures s w l
   unwritten_by (Learn policy capture out) s w t f l = learn_unwritten policy capture out s w l
   unwritten_by (Review policy capture log) s w t f l = review_unwritten policy capture log s w l
   unwritten_by (Migrate policy out) s w t f l = migrate_unwritten policy out s w l

@@ -2,6 +2,7 @@ mod CaptureExact
 mod CaptureStops
 mod Comparing
 mod Complete
+mod Drafting
 mod Exact
 mod Judging
 mod Kept

@@ -2,7 +2,7 @@
 use Rattle.std.proofs.Common.{◌≡◌, ℕ, List, [], ◌∷◌, Some, ap, arith, inl, subst, sym, ◌∙◌}
 use Rattle.cf_outside.proofs.Frames.{later_all}
 use Rattle.cf_outside.specs.Faults.{HasCauseIn, Rose}
-use Rattle.cf_words.specs.Command.{Command, Check, Compare, Judge, Learn, Migrate, Packets, Relay, Review, Run, Sift, World, input_files, policy_file}
+use Rattle.cf_words.specs.Command.{Command, Check, Compare, Draft, Judge, Learn, Migrate, Packets, Relay, Review, Run, Sift, World, input_files, policy_file}
 use Rattle.cf_ending.specs.Outside.{FilesValue, ReadsOnly, RisesIn, RoseIn}
 
 -- one file was read
@@ -32,6 +32,17 @@ rises_both name second old mid new first cause = record {
   others = λ other n. cause.others other n.1.0 ∙ first.others other (n.0, tt);
 }
 
+-- one was read, and then others
+pub rises_then : (name : List ℕ) (names : List (List ℕ)) (old mid new : List ℕ → ℕ) → RisesIn (name ∷ []) old mid → RisesIn names mid new → RisesIn (name ∷ names) old new
+rises_then name names old mid new first later = record {
+  later = λ n. let a = first.later n in let b = later.later n in omega (arith, a, b);
+  others = λ other n. later.others other n.1 ∙ first.others other (n.0, tt);
+}
+
+-- only the first of some was read
+pub rises_front : (name : List ℕ) (names : List (List ℕ)) (old new : List ℕ → ℕ) → RisesIn (name ∷ []) old new → RisesIn (name ∷ names) old new
+rises_front name names old new first = record { later = first.later; others = λ other n. first.others other (n.0, tt) }
+
 -- a read of a file that failed after files were read
 pub since_read : {names : List (List ℕ)} (before middle after : FilesValue) → ReadsOnly names before middle → (file : List ℕ) →
     Rose (middle.read_faults file) (after.read_faults file) → Rose (before.read_faults file) (after.read_faults file)
@@ -42,6 +53,7 @@ pub reads_policy : (c : Command) (name : List ℕ) (old new : List ℕ → ℕ) 
 reads_policy (Check policy) name old new is rose = let same : name ≡ policy = cc in inl (subst (λ n. Rose (old n) (new n)) same rose)
 reads_policy (Compare policy other) name old new is rose = let same : name ≡ policy = cc in inl (subst (λ n. Rose (old n) (new n)) same rose)
 reads_policy (Judge policy capture) name old new is rose = let same : name ≡ policy = cc in inl (subst (λ n. Rose (old n) (new n)) same rose)
+reads_policy (Draft policy out captures) name old new is rose = let same : name ≡ policy = cc in inl (subst (λ n. Rose (old n) (new n)) same rose)
 reads_policy (Learn policy capture out) name old new is rose = let same : name ≡ policy = cc in inl (subst (λ n. Rose (old n) (new n)) same rose)
 reads_policy (Migrate policy out) name old new is rose = let same : name ≡ policy = cc in inl (subst (λ n. Rose (old n) (new n)) same rose)
 reads_policy (Packets capture) name old new is rose = cc is

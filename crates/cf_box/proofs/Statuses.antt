@@ -11,9 +11,10 @@ use Rattle.cf_sift.specs.Stored.{stored_history}
 use Rattle.cf_outside.specs.Faults.{Rose}
 use Rattle.cf_outside.specs.PairValue.{PairValue}
 use Rattle.cf_policylang.specs.declared.PolicyRefusal.{PolicyRefusal}
-use Rattle.cf_words.specs.Command.{Command, Compare, Judge, Migrate, Packets, Review, Run, Relay, World, Sift, Learn, input_files}
+use Rattle.cf_words.specs.Command.{Command, Compare, Draft, Judge, Migrate, Packets, Review, Run, Relay, World, Sift, Learn, input_files}
 use Rattle.cf_ending.specs.Ending.{Prints, Reports, end_text, status_of, stop_status, unprinted_status}
 use Rattle.cf_box.specs.Ends.{CutsCapture, CutsRun, CutsStream, Denies, EndsIdle, ExceedsCells, ExceedsRules, LacksAsset, LinkFails, Meets, RefusesCapture, RefusesPolicy}
+use Rattle.cf_box.specs.Draft.{HoldsDraft}
 use Rattle.cf_box.specs.Learn.{HoldsLearned}
 use Rattle.cf_box.specs.Migrate.{KeepsMeaning}
 use Rattle.cf_ending.specs.Outside.{Outside, ReadFailed, RoseIn, SinkValue, WriteFailed}
@@ -162,6 +163,13 @@ module _ (failed : Type 0) (status : ℕ) where
       record { learned = k.learned; learns = k.learns; holds_text = record { text = t.text; is_document = t.is_document; means = t.means; in_file = ap (λ f. f.content out) same ∙ t.in_file } }
   learns_from before middle after policy capture out same (Err s) m h is = absurd (not_done s h is)
 
+  -- a policy that was drafted is written
+  drafts_from : (before middle after : Outside) (policy out : List ℕ) (captures : List (List ℕ)) → after.files ≡ middle.files → (r : Result Done Stop) →
+      Meets (Draft policy out captures) before middle r → IsOf r failed status → status ≡ 0 → HoldsDraft policy out captures before after
+  drafts_from before middle after policy out captures same (Ok d) m h is =
+      let k = m.holds in record { draft = k.draft; drafts = k.drafts; in_file = ap (λ f. f.content out) same ∙ k.in_file }
+  drafts_from before middle after policy out captures same (Err s) m h is = absurd (not_done s h is)
+
   -- a review is written where it has a remark, and where it has none
   reviewed_holds : (before middle after : Outside) (policy capture log : List ℕ) (counts : Counts) → after.files ≡ middle.files → WritesReview policy capture log before middle counts →
       HoldsReview policy capture log before after
@@ -292,6 +300,10 @@ module _ {c : Command} {before after : Outside} {status : ℕ} (e : Explains c b
   pub learns_told : (policy capture out : List ℕ) → c ≡ Learn policy capture out → status ≡ 0 → HoldsLearned policy capture out before after
   learns_told policy capture out is =
       learns_from Unprinted status before e.middle after policy capture out e.reports.files e.r (subst (λ k. Meets k before e.middle e.r) is e.meets) explained
+
+  pub drafts_told : (policy out : List ℕ) (captures : List (List ℕ)) → c ≡ Draft policy out captures → status ≡ 0 → HoldsDraft policy out captures before after
+  drafts_told policy out captures is =
+      drafts_from Unprinted status before e.middle after policy out captures e.reports.files e.r (subst (λ k. Meets k before e.middle e.r) is e.meets) explained
 
   pub reviews_told : (policy capture log : List ℕ) → c ≡ Review policy capture log → (status ≡ 0) ⊎ (status ≡ 15) → ReviewHolds policy capture log before after status
   reviews_told policy capture log is =

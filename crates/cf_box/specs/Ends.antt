@@ -10,8 +10,9 @@ use Rattle.cf_policylang.specs.declared.PolicyRefusal.{PolicyRefusal}
 use Rattle.cf_box.specs.Check.{CheckLeaves, Checks}
 use Rattle.cf_words.specs.Command.{Command, Check, Compare, Judge, Migrate, Packets}
 use Rattle.cf_words.specs.Command.{Review, Run, Relay, World, Sift, asset_name, other_file}
-use Rattle.cf_words.specs.Command.{policy_file, Learn}
+use Rattle.cf_words.specs.Command.{policy_file, Draft, Learn}
 use Rattle.cf_box.specs.Compare.{CompareLeaves, Compares, DeniesInclusion, FilesExceed}
+use Rattle.cf_box.specs.Draft.{CapturesShowTooMuch, DraftLeaves, SomeCuts, SomeRefuses, WritesDraft}
 use Rattle.cf_ending.specs.Ending.{Puts, Reports, counted_in}
 use Rattle.cf_box.specs.Judge.{JudgesClean, Objects}
 use Rattle.cf_box.specs.Watching.{ReviewCuts, ReviewRefuses, WatchCuts, WatchRefuses}
@@ -67,6 +68,7 @@ pub record PassesPolicy (c : Command) (before : Outside) : Type 0 where
 -- makes for itself is in form: so it is only where the file does not tell what it holds
 abbrev pub RefusesCapture : Command → Outside → CaptureRefusal → Type 0
 RefusesCapture (Packets capture) before r = ListingRefuses (before.files.content capture) r
+RefusesCapture (Draft policy out captures) before r = SomeRefuses before.files.content captures r
 RefusesCapture (Judge policy capture) before r = WatchRefuses (before.files.content capture) r
 RefusesCapture (Learn policy capture out) before r = WatchRefuses (before.files.content capture) r
 RefusesCapture (Review policy capture log) before r = ReviewRefuses (before.files.content capture) r
@@ -77,6 +79,7 @@ RefusesCapture _ before r = ⊥
 -- the capture of a command ends inside the record at this place: a line a command that reads one
 abbrev pub CutsCapture : Command → Outside → ℕ → Type 0
 CutsCapture (Packets capture) before place = ListingCuts (before.files.content capture) place
+CutsCapture (Draft policy out captures) before place = SomeCuts before.files.content captures place
 CutsCapture (Judge policy capture) before place = WatchCuts (before.files.content capture) place
 CutsCapture (Learn policy capture out) before place = WatchCuts (before.files.content capture) place
 CutsCapture (Review policy capture log) before place = ReviewCuts (before.files.content capture) place
@@ -94,6 +97,7 @@ CutsRun _ before place = ⊥
 abbrev pub CutsStream : Command → (before : Outside) → (pair : PairValue) → CutReason → Type 0
 CutsStream (Check policy) before pair reason = ⊥
 CutsStream (Compare policy other) before pair reason = ⊥
+CutsStream (Draft policy out captures) before pair reason = ⊥
 CutsStream (Judge policy capture) before pair reason = ⊥
 CutsStream (Learn policy capture out) before pair reason = ⊥
 CutsStream (Migrate policy out) before pair reason = ⊥
@@ -128,6 +132,7 @@ ExceedsCells _ before name = ⊥
 
 -- the capture shows so much of the asset of this name that it would have too many rules: a line a command that learns
 abbrev pub ExceedsRules : Command → Outside → (name : List ℕ) → Type 0
+ExceedsRules (Draft policy out captures) before name = CapturesShowTooMuch policy captures before name
 ExceedsRules (Learn policy capture out) before name = FilesShowTooMuch policy capture before name
 ExceedsRules _ before name = ⊥
 
@@ -153,6 +158,7 @@ StopsFor c before after (stop.TooManyCells name) = ExceedsCells c before name.by
 abbrev pub Does : Command → (before after : Outside) → Done → Type 0
 Does (Check policy) before after d = Checks policy before after d
 Does (Compare policy other) before after d = Compares policy other before after d
+Does (Draft policy out captures) before after d = WritesDraft policy out captures before after d
 Does (Judge policy capture) before after d = JudgesClean policy capture before after d
 Does (Learn policy capture out) before after d = WritesLearned policy capture out before after d
 Does (Migrate policy out) before after d = Migrates policy out before after d
@@ -167,6 +173,7 @@ Does (Sift policy asset client names) before after d = Sifts policy asset client
 abbrev pub Leaves : Command → (before after : Outside) → Stop → Type 0
 Leaves (Check policy) before after s = CheckLeaves before after s
 Leaves (Compare policy other) before after s = CompareLeaves before after s
+Leaves (Draft policy out captures) before after s = DraftLeaves policy out captures before after s
 Leaves (Judge policy capture) before after s = CheckLeaves before after s
 Leaves (Learn policy capture out) before after s = LearnLeaves policy capture out before after s
 Leaves (Migrate policy out) before after s = MigrateLeaves policy out before after s

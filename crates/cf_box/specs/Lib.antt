@@ -1,5 +1,6 @@
 pub mod Check
 pub mod Compare
+pub mod Draft
 pub mod Ends
 pub mod Judge
 pub mod Laws

@@ -21,8 +21,9 @@ use Rattle.cf_policylang.specs.Documents.{policy_meaning}
 use Rattle.cf_policylang.specs.declared.PolicyRefusal.{PolicyRefusal}
 use Rattle.cf_run.specs.RunCapture.{RunNamesValue}
 use Rattle.cf_words.specs.Command.{Command, Check, Compare, Judge, Migrate, Packets, Review, Run, Relay, World, Sift, AsksPair, asset_name}
-use Rattle.cf_words.specs.Command.{capture_file, input_files, other_file, output_files, policy_file, Learn}
+use Rattle.cf_words.specs.Command.{capture_file, input_files, other_file, output_files, policy_file, Draft, Learn}
 use Rattle.cf_box.specs.Compare.{IncludesAll, IsIncluded, OfPolicies, TellsNotIncluded}
+use Rattle.cf_box.specs.Draft.{AreInForm}
 use Rattle.cf_box.specs.Ends.{CutsCapture, CutsStream, Denies, EndsIdle, ExceedsCells, LacksAsset, LinkFails, RefusesCapture, RefusesPolicy}
 use Rattle.cf_box.specs.Ends.{ExceedsRules}
 use Rattle.cf_box.specs.Judge.{HasJudgement, IsShown, KeepsPolicy, NeverObjects}
@@ -147,6 +148,7 @@ TellsMade _ before = Unit {0}
 -- what is asked of a command's files is so: a line a command that asks
 abbrev pub HoldsWhatItAsks : Command → Outside → Type 0
 HoldsWhatItAsks (Compare policy other) before = IncludesAll policy other before
+HoldsWhatItAsks (Draft policy out captures) before = AreInForm policy captures before
 HoldsWhatItAsks (Judge policy capture) before = NeverObjects policy capture before
 HoldsWhatItAsks (Learn policy capture out) before = NeverTooMuch policy capture before
 HoldsWhatItAsks (Review policy capture log) before = NeverRemarks policy capture before
@@ -210,6 +212,7 @@ pub record TellsNoAsset (c : Command) (before : Outside) : Type 0 where
 abbrev pub TellsCut : Command → (before : Outside) → (pair : PairValue) → Type 0
 TellsCut (Check file) before pair = ⊥
 TellsCut (Compare file other) before pair = ⊥
+TellsCut (Draft file out captures) before pair = ⊥
 TellsCut (Judge file capture) before pair = ⊥
 TellsCut (Learn file capture out) before pair = ⊥
 TellsCut (Migrate file out) before pair = ⊥

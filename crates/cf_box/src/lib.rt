@@ -3,6 +3,7 @@
 
 mod check;
 mod compare;
+mod draft;
 mod judge;
 mod laws;
 mod learn;

@@ -118,7 +118,7 @@ pub(crate) fn counted(policy: &Policy) -> Done
 }
 
 /// How many rules all assets have.
-fn count_rules(assets: &[Asset]) -> u64
+pub(crate) fn count_rules(assets: &[Asset]) -> u64
     requires { AreAssetsWithin assets.now }
     ensures { result ≡ rule_count assets.now }
 {

@@ -1,6 +1,7 @@
 //! The top call.
 ghost use Rattle.std.specs.Prelude.{◌≡◌, ◌≤◌, ◌⊎◌, ◌↔◌, IsNone, List, Some, map, string_bytes, ℕ};
-ghost use Rattle.cf_words.specs.Command.{AsksPair, input_files, Compare, Judge, Migrate, Packets, Review, Run, Sift, World, Learn};
+ghost use Rattle.cf_words.specs.Command.{AsksPair, input_files, Compare, Draft, Judge, Migrate, Packets, Review, Run, Sift, World, Learn};
+ghost use Rattle.cf_box.specs.Draft.{HoldsDraft};
 ghost use Rattle.cf_box.specs.Ends.{Ends, Meets, TellsCounts};
 ghost use Rattle.cf_box.specs.Laws.{HasLaws};
 ghost use Rattle.cf_box.specs.Learn.{HoldsLearned};
@@ -24,6 +25,7 @@ ghost use Rattle.cf_sift.specs.Names.{SiftNamesValue};
 
 use crate::check::check;
 use crate::compare::compare_files;
+use crate::draft::draft_captures;
 use crate::judge::judge_capture;
 use crate::laws::laws_hold;
 use crate::learn::learn_capture;
@@ -64,6 +66,11 @@ fn perform<F: Files, O: Sink, P: Pair>(
     match command {
         Command::Check { policy } => check(alloc, policy, files),
         Command::Compare { policy, other } => compare_files(alloc, policy, other, files),
+        Command::Draft {
+            policy,
+            out,
+            captures,
+        } => draft_captures(alloc, policy, out, captures, files),
         Command::Judge { policy, capture } => judge_capture(alloc, policy, capture, files),
         Command::Learn {
             policy,
@@ -178,6 +185,13 @@ pub fn box_main<F: Files, O: Sink, P: Pair>(
     ensures learns { (policy capture file : List ℕ) → command_of (map string_bytes words.now) ≡ Some (Learn policy capture file)
         → result ≡ 0 →
         HoldsLearned policy capture file (outside_value F.Files O.Sink P.Pair files.old out.old pair.old)
+        (outside_value F.Files O.Sink P.Pair files.new out.new pair.new) }
+
+    // A policy that was drafted allows each act that any of the captures shows, to the same clients, and where no asset was widened it
+    // allows, of the acts that commands can have, no other.
+    ensures drafts { (policy file : List ℕ) (captures : List (List ℕ)) → command_of (map string_bytes words.now) ≡ Some
+        (Draft policy file captures) → result ≡ 0 →
+        HoldsDraft policy file captures (outside_value F.Files O.Sink P.Pair files.old out.old pair.old)
         (outside_value F.Files O.Sink P.Pair files.new out.new pair.new) }
 
     // The log of a review holds exactly the lines of all that the policy objects to in the capture, in the order of its records: none

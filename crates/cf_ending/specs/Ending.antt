@@ -77,11 +77,16 @@ commands_text admitted refused = codes "admitted " ++ decimal admitted ++ codes 
 abbrev pub unobjected_text : (flows commands : ℕ) → List ℕ
 unobjected_text flows commands = codes "yes flows " ++ decimal flows ++ codes " commands " ++ decimal commands ++ codes "\n"
 
+-- the numbers of assets and of rules of a draft, and of the assets that were widened
+abbrev pub drafted_text : (assets rules widened : ℕ) → List ℕ
+drafted_text assets rules widened = codes "ok " ++ decimal assets ++ codes " " ++ decimal rules ++ codes " widened " ++ decimal widened ++ codes "\n"
+
 -- what is printed of work that was done; the lines of a listing were printed before
 abbrev pub done_text : Done → Option (List ℕ)
 done_text (done.Sifted admitted refused) = Some (commands_text admitted refused)
 done_text (done.Relayed admitted refused) = Some (commands_text admitted refused)
 done_text (done.Checked assets rules) = Some (codes "ok " ++ decimal assets ++ codes " " ++ decimal rules ++ codes "\n")
+done_text (done.Drafted assets rules widened) = Some (drafted_text assets rules widened)
 done_text done.Included = Some (codes "included\n")
 done_text (done.Unobjected flows commands) = Some (unobjected_text flows commands)
 done_text done.Listed = None

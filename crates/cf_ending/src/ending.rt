@@ -1,7 +1,7 @@
 //! How the program ends: what was done, or why the work stopped, as a status and a printed text.
 ghost use Rattle.std.specs.Prelude.{◌≡◌, ◌≤◌, ◌+◌, ◌++◌, codes, decimal, length, option_map};
 ghost use Rattle.cf_audit.specs.Text.{cut_text};
-ghost use Rattle.cf_ending.specs.Ending.{Prints, Puts, capture_number, commands_text, counted_in, done_text, end_text, status_of, stop_status, stop_text};
+ghost use Rattle.cf_ending.specs.Ending.{Prints, Puts, capture_number, commands_text, counted_in, done_text, drafted_text, end_text, status_of, stop_status, stop_text};
 ghost use Rattle.cf_ending.specs.Ending.{summary_text, unobjected_text, unprinted_status};
 ghost use Rattle.cf_ending.specs.Outside.{sink_value};
 ghost use Rattle.cf_ending.specs.Denial.{count_line, reviewed_text};
@@ -30,6 +30,12 @@ pub enum Done {
     Relayed { admitted: u64, refused: u64 },
     /// A policy was read, with its numbers of assets and of all rules.
     Checked { assets: u64, rules: u64 },
+    /// A policy was drafted, with its numbers of assets and of all rules, and how many assets allow more than was shown of them.
+    Drafted {
+        assets: u64,
+        rules: u64,
+        widened: u64,
+    },
     /// A policy allows only what another allows.
     Included,
     /// Nothing that clients sent in a capture is objected to, with the numbers of flows and of commands that the policy allows.
@@ -217,6 +223,20 @@ fn checked_text(assets: u64, rules: u64) -> EndText
     text
 }
 
+fn drafted_text(assets: u64, rules: u64, widened: u64) -> EndText
+    ensures { result.bytes ≡ drafted_text assets rules widened }
+{
+    let mut text = EndText::new();
+    text.push_str("ok ");
+    push_number(&mut text, assets);
+    text.push_str(" ");
+    push_number(&mut text, rules);
+    text.push_str(" widened ");
+    push_number(&mut text, widened);
+    text.push_str("\n");
+    text
+}
+
 fn policy_refused_text(refusal: &PolicyRefusal) -> EndText
     ensures { result.bytes ≡ codes "policy refused " ++ refusal_text refusal.now ++ codes "\n" }
 {
@@ -362,6 +382,11 @@ fn done_text(done: &Done) -> Option<EndText>
             Some(commands_text(*admitted, *refused))
         }
         Done::Checked { assets, rules } => Some(checked_text(*assets, *rules)),
+        Done::Drafted {
+            assets,
+            rules,
+            widened,
+        } => Some(drafted_text(*assets, *rules, *widened)),
         Done::Included => Some(line("included\n")),
         Done::Unobjected { flows, commands } => Some(unobjected_text(*flows, *commands)),
         Done::Listed => None,

@@ -24,7 +24,13 @@ enum Role {
 const PLACE: &str = "NAME=A.B.C.D:PORT";
 
 const COMMANDS: &str =
-    "sift, check, compare, learn, migrate, packets, judge, review, run, relay, serve, world";
+    "sift, check, compare, learn, draft, migrate, packets, judge, review, run, relay, serve, world";
+
+/// What help calls a capture of a draft.
+const CAPTURE: &str = "CAPTURE";
+
+/// The most captures of a draft.
+const CAPTURE_LIMIT: usize = 64;
 
 /// The most places of a service.
 const PLACE_LIMIT: usize = 256;
@@ -36,6 +42,7 @@ fn form_of(command: &str) -> Option<&'static str> {
         "check" => Some("POLICY"),
         "compare" => Some("POLICY OTHER"),
         "learn" => Some("POLICY CAPTURE OUT"),
+        "draft" => Some("POLICY OUT CAPTURE"),
         "migrate" => Some("POLICY OUT"),
         "judge" => Some("POLICY CAPTURE"),
         "review" => Some("POLICY CAPTURE LOG"),
@@ -53,9 +60,10 @@ fn count_of(form: &str) -> usize {
     form.split(' ').count()
 }
 
-/// What help calls the word at an index of a form: behind the last another place.
+/// What help calls the word at an index of a form: behind the last another place, or another capture.
 fn name_at(form: &str, index: usize) -> &str {
-    form.split(' ').nth(index).unwrap_or(PLACE)
+    let last = if has_places(form) { PLACE } else { CAPTURE };
+    form.split(' ').nth(index).unwrap_or(last)
 }
 
 /// What a word is, by what help calls it.
@@ -117,7 +125,7 @@ fn push_no_command(out: &mut Page, word: &str) {
 /// What is wrong with the words after a command, and its form.
 fn push_command_fault(out: &mut Page, command: &str, form: &str, words: &[String]) {
     let wanted = count_of(form);
-    let goes_on = has_places(form);
+    let goes_on = goes_on(form);
     if wanted == words.len() || (goes_on && wanted < words.len()) {
         push_words_fault(out, command, form, words);
     } else {
@@ -125,6 +133,16 @@ fn push_command_fault(out: &mut Page, command: &str, form: &str, words: &[String
     }
     let more = if goes_on { ".." } else { "" };
     out.push_all(&["\n  cmdwall ", command, " ", form, more]);
+}
+
+/// Whether more words may follow the last one.
+fn goes_on(form: &str) -> bool {
+    has_places(form) || has_captures(form)
+}
+
+/// Whether more captures may follow the last word.
+fn has_captures(form: &str) -> bool {
+    form.ends_with(" OUT CAPTURE")
 }
 
 /// Whether more places may follow the last word.
@@ -135,7 +153,7 @@ fn has_places(form: &str) -> bool {
 /// Too few or too many words.
 fn push_wrong_count(out: &mut Page, command: &str, form: &str, count: usize) {
     let wanted = count_of(form);
-    let takes = if has_places(form) {
+    let takes = if goes_on(form) {
         " takes at least "
     } else {
         " takes "
@@ -155,6 +173,7 @@ fn push_words_fault(out: &mut Page, command: &str, form: &str, words: &[String])
     if !push_word_faults(out, form, words)
         && !push_twins(out, form, words)
         && !push_same_places(out, form, words)
+        && !push_many_captures(out, form, words)
     {
         out.push_all(&["the words behind ", command, " have no form"]);
     }
@@ -268,6 +287,15 @@ fn push_twins(out: &mut Page, form: &str, words: &[String]) -> bool {
         }
     }
     false
+}
+
+/// Says that there are too many captures, and whether it did.
+fn push_many_captures(out: &mut Page, form: &str, words: &[String]) -> bool {
+    if !has_captures(form) || words.len().saturating_sub(2) <= CAPTURE_LIMIT {
+        return false;
+    }
+    out.push("there are more than 64 captures");
+    true
 }
 
 /// Says which asset or endpoint stands twice among the places, or that there are too many, and whether it did.

@@ -36,6 +36,9 @@ usage:
   cmdwall learn POLICY CAPTURE OUT
       writes a policy with the assets of POLICY that allows exactly what clients sent them in
       a capture; read it before use
+  cmdwall draft POLICY OUT CAPTURE..
+      writes a first policy with the assets of POLICY, in few rules, that allows all that
+      clients sent them in 1 to 64 captures; read it before use
   cmdwall migrate POLICY OUT
       writes a policy as a document of version 2, or of version 3 where a rule has a log, in
       which lists of points that several rules have stand once, as sets: OUT means exactly
@@ -68,8 +71,8 @@ status:
    6  the capture is refused: 1 it is short, 2 its magic, 3 its version, 4 its link type,
       5 a record of more than 262,144 bytes, 6 a moment of 2^32 seconds or more, 7 a byte
       at place 2^40, 9 the length of a pcapng block or what stands in it, 10 a section
-      header, 11 an interface, 12 a unit of time; and for judge, review and learn 8 more than
-      67,108,864 bytes
+      header, 11 an interface, 12 a unit of time; and for judge, review, learn and draft 8
+      more than 67,108,864 bytes
    7  the capture ends inside the record or the block that begins at the printed place
    8  the port, the client or the controller of a relay failed; or a place of serve cannot be
       listened at, or its wait or clock failed
@@ -79,8 +82,8 @@ status:
   13  memory ran out
   15  POLICY allows what OTHER does not: the asset that OTHER lacks or the act is printed;
       or CAPTURE does not keep POLICY: judge prints the first objection, review counts them
-  16  CAPTURE of learn shows so much of the printed asset that it would have more than 1,024
-      rules
+  16  CAPTURE of learn or draft shows so much of the printed asset that it would have more
+      than 1,024 rules
   17  the rules of the printed asset are too many to compare
 ";
 
@@ -167,6 +170,31 @@ use (docs/POLICY.md, 'From a recording to a policy').
 example:
   cmdwall world 7 3 world.toml world.pcap out.pcap out.log
   cmdwall learn world.toml world.pcap learned.toml
+";
+
+const DRAFT: &str = "\
+cmdwall draft POLICY OUT CAPTURE..
+
+writes a first policy that allows what captures show, as a person would have written it
+
+  POLICY    a text in the policy language (docs/POLICY.md) with the assets; its rules play no part
+  OUT       is created behind all else, and gets the policy, of version 3
+  CAPTURE   1 to 64 pcap or pcapng files in their order, each of at most 67,108,864 bytes, of
+            Ethernet, raw IP or Linux cooked, which are read as review reads them
+
+All names differ. A rule has all codes, groups, points, values and clients that belong together.
+Above it stands how many commands it would have let through, from when to when (UTC), and how the
+last of them began. Rules that write stand first, and of these the rare ones. Standard output has
+'ok', the numbers of assets and of all rules, and 'widened' with the number of assets that allow
+more than the captures show: those that would have had more than 32 rules. They have the span of
+the values seen, then that of the points, and then clients of one code share these.
+
+A draft also allows what an intruder did while the captures were taken: read it before use
+(docs/REVIEW.md, 'Observe first').
+
+example:
+  cmdwall world 7 3 world.toml world.pcap out.pcap out.log
+  cmdwall draft world.toml draft.toml world.pcap
 ";
 
 const MIGRATE: &str = "\
@@ -377,6 +405,7 @@ pub enum Topic {
     Check,
     Compare,
     Learn,
+    Draft,
     Migrate,
     Packets,
     Judge,
@@ -432,6 +461,7 @@ fn topic_of(word: &str) -> Option<Topic> {
         "check" => Some(Topic::Check),
         "compare" => Some(Topic::Compare),
         "learn" => Some(Topic::Learn),
+        "draft" => Some(Topic::Draft),
         "migrate" => Some(Topic::Migrate),
         "packets" => Some(Topic::Packets),
         "judge" => Some(Topic::Judge),
@@ -456,6 +486,7 @@ pub fn print_topic(rt: &impl Print, topic: Topic) -> io::Result<()> {
         Topic::Check => CHECK,
         Topic::Compare => COMPARE,
         Topic::Learn => LEARN,
+        Topic::Draft => DRAFT,
         Topic::Migrate => MIGRATE,
         Topic::Packets => PACKETS,
         Topic::Judge => JUDGE,

@@ -35,7 +35,7 @@ const TOO_LONG: PolicyRefusal = PolicyRefusal {
     rule: 0,
 };
 
-/// The files that a command reads; an empty name stands for none.
+/// The files that a command reads, but for the captures of a draft; an empty name stands for none.
 fn inputs_of<'a>(command: &Command<'a>) -> [&'a str; 2] {
     match command {
         Command::Check { policy }
@@ -53,10 +53,19 @@ fn inputs_of<'a>(command: &Command<'a>) -> [&'a str; 2] {
             capture,
             ..
         } => [*policy, *capture],
+        Command::Draft { policy, .. } => [*policy, ""],
         Command::Packets { capture } => [*capture, ""],
         Command::Run { policy, names } => [*policy, names.capture],
         Command::Sift { policy, names, .. } => [*policy, names.stream],
         Command::World { .. } => ["", ""],
+    }
+}
+
+/// The captures of a draft.
+fn captures_of<'a>(command: &Command<'a>) -> &'a [String] {
+    match command {
+        Command::Draft { captures, .. } => *captures,
+        _ => &[],
     }
 }
 
@@ -67,7 +76,9 @@ fn outputs_of<'a>(command: &Command<'a>) -> [&'a str; 4] {
         | Command::Compare { .. }
         | Command::Judge { .. }
         | Command::Packets { .. } => [""; 4],
-        Command::Learn { out, .. } | Command::Migrate { out, .. } => [*out, "", "", ""],
+        Command::Draft { out, .. }
+        | Command::Learn { out, .. }
+        | Command::Migrate { out, .. } => [*out, "", "", ""],
         Command::Relay { log, .. } | Command::Review { log, .. } => [*log, "", "", ""],
         Command::Run { names, .. } => [names.out, names.log, "", ""],
         Command::Sift { names, .. } => [names.out, names.replies, names.log, ""],
@@ -84,6 +95,9 @@ pub fn expect_files<R: FileSystem>(
         if !name.is_empty() {
             files.expect(name)?;
         }
+    }
+    for name in captures_of(command) {
+        files.expect(name.as_str())?;
     }
     for name in outputs_of(command) {
         if !name.is_empty() {
@@ -141,6 +155,10 @@ fn remark<R: FileSystem + Eprint + AllocGlobal>(
             out,
         } => {
             remark_on_learned(rt, policy, capture, printed, files)?;
+            warn_of_learned(rt, out)
+        }
+        Command::Draft { out, .. } => {
+            remark_on_drafted(rt, out, printed)?;
             warn_of_learned(rt, out)
         }
         Command::Judge { policy, capture } => {
@@ -212,6 +230,7 @@ fn explain_bad_capture<R: FileSystem + Eprint + AllocGlobal>(
         }
         Command::Judge { capture, .. } | Command::Learn { capture, .. }
             if status == CAPTURE_REFUSED => explain_watched(rt, LinkSet::Plain, capture, files),
+        Command::Draft { captures, .. } => explain_captures(rt, captures, status, files),
         Command::Review { capture, .. } if status == CAPTURE_REFUSED => {
             explain_watched(rt, LinkSet::Recorded, capture, files)
         }
@@ -346,6 +365,7 @@ fn policy_of<'a>(command: &Command<'a>) -> Option<&'a str> {
         Command::Packets { .. } => None,
         Command::Check { policy }
         | Command::Compare { policy, .. }
+        | Command::Draft { policy, .. }
         | Command::Judge { policy, .. }
         | Command::Learn { policy, .. }
         | Command::Migrate { policy, .. }
@@ -424,6 +444,64 @@ fn warn_of_learned<R: Eprint>(rt: &R, out: &str) -> io::Result<()> {
     eprintln!(rt;
         "cmdwall: {out} also allows what an intruder did while the capture was taken: read it before use"
     )
+}
+
+/// How many assets of a draft were widened, if any were.
+fn remark_on_drafted<R: Eprint>(rt: &R, out: &str, printed: &str) -> io::Result<()> {
+    if printed.ends_with(" widened 0\n") {
+        return Ok(());
+    }
+    eprintln!(rt;
+        "cmdwall: {out} allows more than was recorded, of each asset that would have more than 32 rules: its comments say what was widened"
+    )
+}
+
+/// The first of the captures of a draft that is refused or cut, with its number among them, and why. Of a pipe, which cannot be read a
+/// second time, no more is said.
+fn explain_captures<R: FileSystem + Eprint + AllocGlobal>(
+    rt: &R,
+    captures: &[String],
+    status: u8,
+    files: &mut RealFiles<'_, R>,
+) -> io::Result<()> {
+    for (place, capture) in captures.iter().enumerate() {
+        let name = capture.as_str();
+        if is_bad_capture(rt, name, status, files)? {
+            let number = place.saturating_add(1);
+            eprintln!(rt; "cmdwall: capture {number} of the words, {name}, is at fault; nothing was written")?;
+            return explain_one(rt, name, status, files);
+        }
+    }
+    Ok(())
+}
+
+fn is_bad_capture<R: FileSystem + AllocGlobal>(
+    rt: &R,
+    name: &str,
+    status: u8,
+    files: &mut RealFiles<'_, R>,
+) -> io::Result<bool> {
+    let mut octet = [0u8; 1];
+    if status == CAPTURE_REFUSED {
+        if let ReadAnswer::Got(_) = files.read_at(name, CAPTURE_LIMIT, &mut octet) {
+            return Ok(true);
+        }
+    }
+    let message = capture_message(rt.alloc(), LinkSet::Recorded, name, false, files)?;
+    Ok(message.is_some())
+}
+
+fn explain_one<R: FileSystem + Eprint + AllocGlobal>(
+    rt: &R,
+    name: &str,
+    status: u8,
+    files: &mut RealFiles<'_, R>,
+) -> io::Result<()> {
+    if status == CAPTURE_REFUSED {
+        explain_watched(rt, LinkSet::Recorded, name, files)
+    } else {
+        explain_capture(rt, LinkSet::Recorded, name, false, files)
+    }
 }
 
 /// Why one policy is not included in another.

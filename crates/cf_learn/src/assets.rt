@@ -46,7 +46,7 @@ pub fn learn(alloc: Global, policy: &Policy, flows: &[Flow]) -> Result<Policy, L
 }
 
 /// The asset at a place with the rules that allow what the flows show of it.
-fn learned_asset(
+pub fn learned_asset(
     alloc: Global,
     asset: &Asset,
     place: u32,

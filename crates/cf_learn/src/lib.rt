@@ -8,6 +8,7 @@ mod reading;
 mod runs;
 mod seen;
 
-pub use assets::{LearnFault, learn};
+pub use assets::{LearnFault, learn, learned_asset};
 pub use learning::{RulesFault, learned_rules};
+pub use reading::{push_front, seen_in};
 pub use seen::{Kind, Seen};

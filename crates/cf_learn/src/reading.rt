@@ -29,7 +29,7 @@ use cf_watch::Flow;
 use std::alloc::{AllocError, Global};
 
 /// What the flows show of the asset at this place.
-pub(crate) fn seen_in(
+pub fn seen_in(
     alloc: Global,
     asset: &Asset,
     place: u32,
@@ -76,7 +76,7 @@ fn push_bytes(
 }
 
 /// Adds the acts of the unit at the front of bytes, if one is whole, and tells how many octets it takes.
-fn push_front(
+pub fn push_front(
     seen: &mut Vec<Seen>,
     assembly: &mut Assembly,
     asset: &Asset,

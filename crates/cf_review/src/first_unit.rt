@@ -16,7 +16,7 @@ use cf_watch::Flow;
 
 /// The byte of a flow, counted from 0, from which on it is read: the first one, and of a flow that begins amid its stream the first at
 /// which a unit of the protocol begins, if there is one.
-pub(crate) fn first_place(protocol: &Protocol, flow: &Flow) -> usize
+pub fn first_place(protocol: &Protocol, flow: &Flow) -> usize
     ensures part { IsReadPart protocol.now (flow_value flow.now) (from_place result (flow_value flow.now)) }
     ensures inside { result ≤ length flow.now.bytes.items }
 {

@@ -10,6 +10,7 @@ mod reviewing;
 mod spelling;
 
 pub use counting::{Counts, count};
+pub use first_unit::first_place;
 pub use laws::{
     bytes_come_in_order, judge_tells_the_first, records_come_first, syn_flows_are_watched,
 };

@@ -7,6 +7,7 @@ use Rattle.cf_sift.specs.Names.{SiftNamesValue}
 pub data Command : Type 0 where
   Check : (policy : List ℕ) → Command
   Compare : (policy other : List ℕ) → Command
+  Draft : (policy out : List ℕ) (captures : List (List ℕ)) → Command
   Judge : (policy capture : List ℕ) → Command
   Learn : (policy capture out : List ℕ) → Command
   Migrate : (policy out : List ℕ) → Command
@@ -21,6 +22,7 @@ pub data Command : Type 0 where
 abbrev pub policy_file : Command → Option (List ℕ)
 policy_file (Check policy) = Some policy
 policy_file (Compare policy other) = Some policy
+policy_file (Draft policy out captures) = Some policy
 policy_file (Judge policy capture) = Some policy
 policy_file (Learn policy capture out) = Some policy
 policy_file (Migrate policy out) = Some policy
@@ -40,6 +42,7 @@ other_file _ = None
 abbrev pub asset_name : Command → Option (List ℕ)
 asset_name (Check policy) = None
 asset_name (Compare policy other) = None
+asset_name (Draft policy out captures) = None
 asset_name (Judge policy capture) = None
 asset_name (Learn policy capture out) = None
 asset_name (Migrate policy out) = None
@@ -50,10 +53,11 @@ asset_name (Relay policy asset port idles log) = Some asset
 asset_name (World seed sessions policy names) = None
 asset_name (Sift policy asset client names) = Some asset
 
--- the file from which it reads a capture; a world has one that it makes itself
+-- the file from which it reads its one capture; a world has one that it makes itself, and a draft has a list of captures
 abbrev pub capture_file : Command → Option (List ℕ)
 capture_file (Check policy) = None
 capture_file (Compare policy other) = None
+capture_file (Draft policy out captures) = None
 capture_file (Judge policy capture) = Some capture
 capture_file (Learn policy capture out) = Some capture
 capture_file (Migrate policy out) = None
@@ -68,6 +72,7 @@ capture_file (Sift policy asset client names) = None
 abbrev pub input_files : Command → List (List ℕ)
 input_files (Check policy) = policy ∷ []
 input_files (Compare policy other) = policy ∷ other ∷ []
+input_files (Draft policy out captures) = policy ∷ captures
 input_files (Judge policy capture) = policy ∷ capture ∷ []
 input_files (Learn policy capture out) = policy ∷ capture ∷ []
 input_files (Migrate policy out) = policy ∷ []
@@ -82,6 +87,7 @@ input_files (Sift policy asset client names) = policy ∷ names.stream ∷ []
 abbrev pub output_files : Command → List (List ℕ)
 output_files (Check policy) = []
 output_files (Compare policy other) = []
+output_files (Draft policy out captures) = out ∷ []
 output_files (Judge policy capture) = []
 output_files (Learn policy capture out) = out ∷ []
 output_files (Migrate policy out) = out ∷ []

@@ -1,9 +1,9 @@
 -- The words behind the name of each command, and the command that they are: `check_of` and its like.
-use Rattle.std.specs.Prelude.{◌≢◌, ℕ, ◌-◌, ◌^◌, ◌≤◌, List, [], ◌∷◌, Option, None, Some, if◌then◌else◌, option_and_then, option_map}
+use Rattle.std.specs.Prelude.{◌≢◌, ℕ, ◌-◌, ◌^◌, ◌≤◌, ◌&&◌, nat_le, List, [], ◌∷◌, length, Option, None, Some, if◌then◌else◌, option_and_then, option_map}
 use Rattle.cf_policylang.specs.Numbers.{address}
 use Rattle.cf_run.specs.RunCapture.{AreApart, RunNamesValue}
 use Rattle.cf_sift.specs.Names.{SiftNamesValue}
-use Rattle.cf_words.specs.Command.{Command, Check, Compare, Judge, Learn, Migrate, Packets, Relay, Review, Run, Sift, World}
+use Rattle.cf_words.specs.Command.{Command, Check, Compare, Draft, Judge, Learn, Migrate, Packets, Relay, Review, Run, Sift, World}
 use Rattle.cf_words.specs.Names.{are_names, printed_number_in}
 
 -- the words after `check`: the name of a policy
@@ -15,6 +15,14 @@ check_of _ = None
 abbrev pub compare_of : List (List ℕ) → Option Command
 compare_of (policy ∷ other ∷ []) = if are_names (policy ∷ other ∷ []) then Some (Compare policy other) else None
 compare_of _ = None
+
+-- the words after `draft`: the names of a policy, of the policy that is written, and of one to 64 captures
+abbrev pub draft_of : List (List ℕ) → Option Command
+draft_of (policy ∷ out ∷ captures) =
+    if nat_le 1 (length captures) && (nat_le (length captures) 64 && are_names (policy ∷ out ∷ captures)) then
+    Some (Draft policy out captures)
+    else None
+draft_of _ = None
 
 -- the words after `judge`: the names of a policy and of a capture
 abbrev pub judge_of : List (List ℕ) → Option Command

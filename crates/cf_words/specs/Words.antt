@@ -1,8 +1,9 @@
 -- The words that the program takes: `command_of` is the command that they are.
-use Rattle.std.specs.Prelude.{ℕ, ◌≤◌, List, [], ◌∷◌, Option, None, codes, bytes_eq, if◌then◌else◌}
-use Rattle.cf_words.specs.Command.{Command, Check, Compare, Judge, Migrate, Packets, Review, Run, Relay, World, Sift, Learn}
+use Rattle.std.specs.Prelude.{ℕ, ◌≤◌, List, [], ◌∷◌, map, Option, None, codes, bytes_eq, string_bytes, if◌then◌else◌}
+use Rattle.cf_words.specs.Command.{Command, Check, Compare, Draft, Judge, Migrate, Packets, Review, Run, Relay, World, Sift, Learn}
 use Rattle.cf_words.specs.Forms.{check_of}
 use Rattle.cf_words.specs.Forms.{compare_of}
+use Rattle.cf_words.specs.Forms.{draft_of}
 use Rattle.cf_words.specs.Forms.{judge_of}
 use Rattle.cf_words.specs.Forms.{learn_of}
 use Rattle.cf_words.specs.Forms.{migrate_of}
@@ -23,6 +24,7 @@ command_of [] = None
 command_of (name ∷ words) =
     if bytes_eq name (codes "check") then check_of words
     else if bytes_eq name (codes "compare") then compare_of words
+    else if bytes_eq name (codes "draft") then draft_of words
     else if bytes_eq name (codes "judge") then judge_of words
     else if bytes_eq name (codes "learn") then learn_of words
     else if bytes_eq name (codes "migrate") then migrate_of words
@@ -38,6 +40,7 @@ command_of (name ∷ words) =
 abbrev pub command_value : CommandFields → Command
 command_value (fields.Check policy) = Check policy.now
 command_value (fields.Compare policy other) = Compare policy.now other.now
+command_value (fields.Draft policy out captures) = Draft policy.now out.now (map string_bytes captures.now)
 command_value (fields.Judge policy capture) = Judge policy.now capture.now
 command_value (fields.Learn policy capture out) = Learn policy.now capture.now out.now
 command_value (fields.Migrate policy out) = Migrate policy.now out.now

@@ -2,6 +2,7 @@
 ghost use Rattle.std.specs.Prelude.{◌≡◌, IfSome, map, option_map, string_bytes};
 ghost use Rattle.cf_words.specs.Words.{HasFitWords, command_of, command_value};
 
+use crate::draft::read_draft;
 use crate::files::{
     read_check, read_compare, read_judge, read_learn, read_migrate, read_packets, read_review,
 };
@@ -23,6 +24,12 @@ pub enum Command<'a> {
     Compare {
         policy: &'a str,
         other: &'a str,
+    },
+    /// Write a first policy that allows what 1 to `MOST_CAPTURES` captures show.
+    Draft {
+        policy: &'a str,
+        out: &'a str,
+        captures: &'a [String],
     },
     /// Judge what clients sent in a capture.
     Judge {
@@ -92,6 +99,9 @@ pub fn read_words(words: &[String]) -> Option<Command<'_>>
     }
     if name.as_str() == "compare" {
         return read_compare(rest);
+    }
+    if name.as_str() == "draft" {
+        return read_draft(rest);
     }
     if name.as_str() == "judge" {
         return read_judge(rest);

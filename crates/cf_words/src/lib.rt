@@ -2,6 +2,7 @@
 #![tactic(auto)]
 
 mod command;
+mod draft;
 mod files;
 mod names;
 mod relay;
@@ -11,4 +12,5 @@ pub mod status;
 mod world;
 
 pub use command::{Command, read_words};
+pub use draft::MOST_CAPTURES;
 pub use names::{are_names, printed_number_in};

@@ -1,5 +1,5 @@
 //! Names of files and numbers among the words.
-ghost use Rattle.std.specs.Prelude.{◌≡◌, ◌↔◌, IsTrue, bytes_eq, decimal, map};
+ghost use Rattle.std.specs.Prelude.{◌≡◌, ◌↔◌, IsTrue, bytes_eq, decimal, map, string_bytes};
 ghost use Rattle.std.specs.List.{list_any};
 ghost use Rattle.cf_words.specs.Names.{are_names, printed_number, printed_number_in};
 
@@ -55,6 +55,29 @@ pub fn are_names(names: &[&str]) -> bool
         return false;
     }
     are_names(rest)
+}
+
+/// Whether no word is empty, and no two are equal.
+#[tactic(auto, using(crate::proofs::FileNames::list_any_of_map))]
+pub(crate) fn are_all_names(words: &[String]) -> bool
+    ensures { result ≡ are_names (map string_bytes words.now) }
+{
+    let Some((name, rest)) = words.split_first() else {
+        return true;
+    };
+    if name.as_str().is_empty() {
+        return false;
+    }
+    if is_among_words(name.as_str(), rest) {
+        return false;
+    }
+    are_all_names(rest)
+}
+
+fn is_among_words(name: &str, words: &[String]) -> bool
+    ensures { result ≡ list_any (λ w. bytes_eq name.now (string_bytes w)) words.now }
+{
+    words.iter().any(|other| name == other.as_str())
 }
 
 fn is_among(name: &str, names: &[&str]) -> bool

@@ -12,19 +12,19 @@ use std::test::Fail;
 /// A row: words, apart by spaces (`-` is an empty one), and what is said of them.
 pub(super) const WORDS: &str = r#"
 there are no words; a first one names the command
-  commands are sift, check, compare, learn, migrate, packets, judge, review, run, relay, serve, world; 'cmdwall --help' says more
+  commands are sift, check, compare, learn, draft, migrate, packets, judge, review, run, relay, serve, world; 'cmdwall --help' says more
 
 chek p
 "chek" is no command; did you mean check?
-  commands are sift, check, compare, learn, migrate, packets, judge, review, run, relay, serve, world; 'cmdwall --help' says more
+  commands are sift, check, compare, learn, draft, migrate, packets, judge, review, run, relay, serve, world; 'cmdwall --help' says more
 
 help juge
 "juge" is no command; did you mean judge?
-  commands are sift, check, compare, learn, migrate, packets, judge, review, run, relay, serve, world; 'cmdwall --help' says more
+  commands are sift, check, compare, learn, draft, migrate, packets, judge, review, run, relay, serve, world; 'cmdwall --help' says more
 
 filter p
 "filter" is no command
-  commands are sift, check, compare, learn, migrate, packets, judge, review, run, relay, serve, world; 'cmdwall --help' says more
+  commands are sift, check, compare, learn, draft, migrate, packets, judge, review, run, relay, serve, world; 'cmdwall --help' says more
 
 check
 check takes 1 word, and has 0

@@ -8,7 +8,7 @@ use Rattle.cf_box.proofs.Complete.{complete_told}
 use Rattle.cf_box.proofs.Exact.{exact_told}
 use Rattle.cf_box.proofs.Kept.{kept_told, unwritten_told}
 use Rattle.cf_box.proofs.RunHolds.{run_told}
-use Rattle.cf_box.proofs.Statuses.{Explains, capture_told, cells_told, cut_told, denied_told, idle_told, includes_told, judged_told, lack_told, link_told, lists_told, migrates_told, passes_told, read_told, refusal_told, stream_told, write_told, learns_told, reviews_told, rules_told}
+use Rattle.cf_box.proofs.Statuses.{Explains, capture_told, cells_told, cut_told, denied_told, drafts_told, idle_told, includes_told, judged_told, lack_told, link_told, lists_told, migrates_told, passes_told, read_told, refusal_told, stream_told, write_told, learns_told, reviews_told, rules_told}
 use Rattle.cf_box.proofs.WorldHolds.{own_told, world_told}
 use Rattle.cf_box.proofs.top.box_main.Given.{Over}
 use Rattle.cf_box.proofs.top.box_main.Goals as goal
@@ -104,6 +104,9 @@ returns-in-Some-clause-migrates g c = λ policy out is. migrates_told (explains 
 
 pub returns-in-Some-clause-learns : goal.returns-in-Some-clause-learns
 returns-in-Some-clause-learns g c = λ policy capture file is. learns_told (explains g c) policy capture file (let known = c.in-Some.ensures.command in cc)
+
+pub returns-in-Some-clause-drafts : goal.returns-in-Some-clause-drafts
+returns-in-Some-clause-drafts g c = λ policy file captures is. drafts_told (explains g c) policy file captures (let known = c.in-Some.ensures.command in cc)
 
 pub returns-in-Some-clause-reviews : goal.returns-in-Some-clause-reviews
 returns-in-Some-clause-reviews g c = λ policy capture file is. reviews_told (explains g c) policy capture file (let known = c.in-Some.ensures.command in cc)

@@ -8,6 +8,9 @@ returns-in-Check-clause-meets g c = rw c.in-Check.is (c.check.ensures.meets (sin
 pub returns-in-Compare-clause-meets : goal.returns-in-Compare-clause-meets
 returns-in-Compare-clause-meets g c = rw c.in-Compare.is (c.compare_files.ensures.meets (sink_value g.O.Sink c.args.out.now) (pair_value g.P.Pair c.args.pair.now))
 
+pub returns-in-Draft-clause-meets : goal.returns-in-Draft-clause-meets
+returns-in-Draft-clause-meets g c = rw c.in-Draft.is (c.draft_captures.ensures.meets (sink_value g.O.Sink c.args.out.now) (pair_value g.P.Pair c.args.pair.now))
+
 pub returns-in-Judge-clause-meets : goal.returns-in-Judge-clause-meets
 returns-in-Judge-clause-meets g c = rw c.in-Judge.is (c.judge_capture.ensures.meets (sink_value g.O.Sink c.args.out.now) (pair_value g.P.Pair c.args.pair.now))
 
@@ -40,6 +43,9 @@ returns-in-Check-clause-later g c = rw c.in-Check.is c.check.ensures.later
 
 pub returns-in-Compare-clause-later : goal.returns-in-Compare-clause-later
 returns-in-Compare-clause-later g c = rw c.in-Compare.is c.compare_files.ensures.later
+
+pub returns-in-Draft-clause-later : goal.returns-in-Draft-clause-later
+returns-in-Draft-clause-later g c = rw c.in-Draft.is c.draft_captures.ensures.later
 
 pub returns-in-Judge-clause-later : goal.returns-in-Judge-clause-later
 returns-in-Judge-clause-later g c = rw c.in-Judge.is c.judge_capture.ensures.later

@@ -1,0 +1,21 @@
+use Rattle.std.proofs.Common.{◌≡◌, ◌<◌, ◌∙◌, ℕ, Some, arith, ap, below_more, get_or, length, map, slice_get, subst, sym}
+use Rattle.std.proofs.lemmas.Option.{get_or_from_slice_get, slice_get_within}
+use Rattle.cf_policy.specs.declared.Asset.{Asset}
+use Rattle.cf_watch.specs.FlowValue.{flow_value}
+use Rattle.cf_draft.specs.Draft.{IsDraftedAsset}
+use Rattle.cf_draft.proofs.Allowing.{drafted_here}
+use Rattle.cf_draft.proofs.drafting.are_drafted.Goals as goal
+
+pub loop-place-preserved : goal.loop-place-preserved
+loop-place-preserved c =
+    below_more
+    (λ k. (asset own : Asset) → slice_get c.args.assets.now k ≡ Some asset → slice_get c.args.drafted.now k ≡ Some own → IsDraftedAsset asset k (map flow_value c.args.flows.now) c.args.widened own)
+    c.loop-place.place c.loop-place.invariant
+    (drafted_here (map flow_value c.args.flows.now) c.args.widened c.args.assets.now c.args.drafted.now c.loop-place.place c.index-assets-place.result c.index-drafted-place.result
+    c.index-assets-place.is c.index-drafted-place.is (c.in_ok-is_so.ensures c.if-not-is_so.false))
+
+pub returns : goal.returns
+returns c = λ yes. record {
+  count = omega (arith, c.if-drafted-assets.false);
+  each = λ place asset own a o. c.loop-place.invariant place (let within = slice_get_within c.args.assets.now place asset a in omega (arith, within, c.loop-place-test.false)) asset own a o;
+}

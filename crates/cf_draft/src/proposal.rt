@@ -1,0 +1,68 @@
+//! A draft that is proposed.
+
+use crate::merging::{Width, plan_rules, writes};
+use crate::notes::notes_of;
+use crate::parts::Parts;
+use crate::spelling::{put_asset, put_head, put_rule};
+use crate::writer::Writer;
+use cf_learn::seen_in;
+use cf_policy::{Asset, Policy};
+use std::alloc::{AllocError, Global};
+
+/// A text of a policy, and how many of its assets were widened.
+#[derive(Drop)]
+pub(crate) struct Proposal {
+    pub(crate) text: String,
+    pub(crate) widened: u64,
+}
+
+/// Proposes rules for each asset of a policy. Nothing is promised of them. `is_wide`: one asset more is told as widened.
+pub(crate) fn propose(
+    alloc: Global,
+    policy: &Policy,
+    parts: &Parts,
+    is_wide: bool,
+) -> Result<Proposal, AllocError> {
+    let assets = policy.assets.as_slice();
+    let mut text = Writer::new(alloc);
+    let mut widened: u64 = u64::from(is_wide);
+    put_head(&mut text, !assets.is_empty(), is_wide);
+    for (place, asset) in assets.iter().enumerate() {
+        let width = propose_asset(alloc, asset, (place % 65_536) as u32, parts, &mut text)?;
+        if width != Width::Nothing {
+            widened = widened.saturating_add(1);
+        }
+    }
+    Ok(Proposal {
+        text: text.done()?,
+        widened,
+    })
+}
+
+/// Puts an asset with the rules that are proposed, those that write first, and of these the rare ones.
+fn propose_asset(
+    alloc: Global,
+    asset: &Asset,
+    place: u32,
+    parts: &Parts,
+    text: &mut Writer,
+) -> Result<Width, AllocError> {
+    let seen = seen_in(alloc, asset, place, parts.flows.as_slice())?;
+    let planned = plan_rules(alloc, asset.protocol, seen.as_slice())?;
+    let covers = planned.covers.as_slice();
+    let notes = notes_of(alloc, asset, place, parts, covers)?;
+    put_asset(text, asset, covers.len(), planned.width);
+    let mut order = Vec::new(alloc);
+    for (own, (cover, note)) in covers.iter().zip(notes.iter()).enumerate() {
+        let reads = !writes(asset.protocol, cover);
+        order.push((reads, note.commands, own))?;
+    }
+    order.sort_unstable();
+    for (number, (reads, _, own)) in order.iter().enumerate() {
+        if let (Some(cover), Some(note)) = (covers.get(*own), notes.get(*own)) {
+            let kind = if *reads { "read" } else { "write" };
+            put_rule(text, asset.protocol, kind, number.saturating_add(1), cover, note);
+        }
+    }
+    Ok(planned.width)
+}
