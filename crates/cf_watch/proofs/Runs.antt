@@ -8,11 +8,11 @@ use Rattle.std.proofs.lemmas.Option.{none-some}
 use Rattle.cf_stream.specs.Stream.{Letter, Stream, letter_from}
 use Rattle.cf_watch.specs.Carried.{Carried, end_of, top_of}
 use Rattle.cf_watch.specs.FlowValue.{FlowValue}
-use Rattle.cf_watch.specs.Kept.{HasRuns, came_value, kept}
+use Rattle.cf_watch.specs.Kept.{HasRuns, kept}
 use Rattle.cf_watch.specs.Stretches.{FirstLetter, Run, apart, first_letter, is_nil, is_own, letter_came, all_stretches, runs_of, stretch_of, stretches_from, stretches_of, with_place}
 use Rattle.cf_watch.specs.Watched.{Watched}
-use Rattle.cf_watch.specs.declared.letter.Came.{Came}
-use Rattle.cf_watch.proofs.Letters.{from_at, from_before, stands_to}
+use Rattle.cf_watch.specs.declared.ahead.Portion.{Portion}
+use Rattle.cf_watch.proofs.Letters.{shifted}
 use Rattle.cf_watch.proofs.Standing.{past_end}
 
 -- places without a letter add no run
@@ -56,13 +56,6 @@ apart_same count f g h q = either (is_own count q) refl
 
 -- ---- behind all letters of a flow
 
-shifted : (z : ℤ) (s : Stream) (p k : ℕ) → letter_from (z +ℤ pos k) s (p + k) ≡ letter_from z s p
-shifted z s p k =
-    elim (stands_to z p) [
-      | inl v ↦ from_before (z +ℤ pos k) s (p + k) (omega (arith, ints, v)) ∙ sym (from_before z s p v)
-      | inr (n, e) ↦ from_at (z +ℤ pos k) s (p + k) n (omega (arith, ints, e)) ∙ sym (from_at z s p n e)
-    ]
-
 none_from : (c : Carried) (q : ℕ) → 2 ^ 31 + end_of c ≤ q → letter_came c q ≡ None
 none_from c q h =
     let p = q - 2 ^ 31 in
@@ -76,13 +69,13 @@ none_past_top [] q h = refl
 none_past_top (c ∷ earlier) q h =
     rw (none_past_top earlier q (omega (arith, h)), none_from c q (omega (arith, h))) refl
 
-pub runs_of_flow : (w : Watched) (count : ℕ) (ahead : BTreeMap ℕ Came) (runs : List Run) →
+pub runs_of_flow : (w : Watched) (count : ℕ) (ahead : BTreeMap ℕ Portion) (runs : List Run) →
     ((q : ℕ) → is_own count q ≡ false → kept ahead q ≡ first_letter w.carried q) → HasRuns count ahead runs →
     runs ≡ runs_of (apart count (first_letter w.carried)) (2 ^ 31 + top_of w.carried)
 runs_of_flow w count ahead runs holds has =
     let f = apart count (kept ahead) in
     let g = apart count (first_letter w.carried) in
-    let none : (q : ℕ) → has.places ≤ q → f q ≡ None = λ q h. apart_none count (kept ahead) q (ap (option_map came_value) (has.none_behind q h)) in
+    let none : (q : ℕ) → has.places ≤ q → f q ≡ None = λ q h. apart_none count (kept ahead) q (has.none_behind q h) in
     let same : (q : ℕ) → f q ≡ g q = apart_same count (kept ahead) (first_letter w.carried) holds in
     has.are_runs ∙ runs_by f g has.places same
     ∙ runs_same g has.places (2 ^ 31 + top_of w.carried) (λ q h. sym (same q) ∙ none q h) (λ q h. apart_none count (first_letter w.carried) q (none_past_top w.carried q h))

@@ -1,0 +1,13 @@
+use Rattle.std.proofs.Common.{◌≡◌, ◌∙◌, Option, Some, None, option_map, ℕ, sym, ap}
+use Rattle.cf_stream.specs.Stream.{Letter}
+use Rattle.cf_watch.specs.Stretches.{FirstLetter}
+use Rattle.cf_watch.proofs.Ranges.{kept_by_range, letter_alone, none_by_range}
+use Rattle.cf_watch.proofs.ahead.letter_kept.Goals as goal
+
+pub returns-in-Some : goal.returns-in-Some
+returns-in-Some c =
+    c.letter_in.ensures ∙ letter_alone c.in-Some.portion.now _
+    ∙ sym (ap (option_map (λ (l : FirstLetter). l.letter)) (kept_by_range c.args.ahead.now c.args.place c.range.result c.next_back.new.self c.in-Some.start.now c.in-Some.portion.now (c.range.ensures.in_range tt) c.in-Some.ensures.steps))
+
+pub returns-in-None : goal.returns-in-None
+returns-in-None c = sym (ap (option_map (λ (l : FirstLetter). l.letter)) (none_by_range c.args.ahead.now c.args.place c.range.result (c.range.ensures.in_range tt) c.in-None.ensures.steps.0))
