@@ -1,6 +1,6 @@
 -- What letters of a packet do to a flow, taken in two parts.
-use Rattle.std.proofs.Common.{◌≡◌, ◌≢◌, ◌==◌, if◌then◌else◌, ◌+◌, ◌^◌, ◌≤◌, ◌+ℤ◌, ◌-ℤ◌, ◌≤ℤ◌, ◌⊎◌, ℕ, ℤ, pos, negsuc, Bool, true, false, List, [], ◌∷◌, ◌++◌, length, replicate, Option, Some, None, refl, sym, ap, ◌∙◌, vec_items, is_some, nat_lt, get_or, option_map, inl, inr, arith, subst, length-append, append_assoc}
-use Rattle.std.proofs.lemmas.Bool.{cases_eq, cases_lt, eq-eqb, true≢false}
+use Rattle.std.proofs.Common.{◌≡◌, ◌≢◌, ◌==◌, if◌then◌else◌, ◌+◌, ◌-◌, ◌^◌, ◌<◌, ◌≤◌, ◌+ℤ◌, ◌-ℤ◌, ◌≤ℤ◌, ◌⊎◌, ℕ, ℤ, pos, negsuc, Bool, true, false, List, [], ◌∷◌, ◌++◌, length, replicate, Option, Some, None, refl, sym, ap, ◌∙◌, vec_items, is_some, nat_lt, get_or, option_map, unwrap_or, inl, inr, arith, subst, length-append, append_assoc}
+use Rattle.std.proofs.lemmas.Bool.{cases_eq, cases_lt, eq-eqb, false≢true, true≢false}
 use Rattle.std.proofs.lemmas.Bool.Decides.{nat_tests}
 use Rattle.std.proofs.lemmas.Int.{ints}
 use Rattle.std.proofs.lemmas.Option.{none-some}
@@ -8,17 +8,17 @@ use Rattle.std.proofs.lemmas.List.{append-nil, get_or_append_left, get_or_push, 
 use Rattle.std.specs.BTreeMap.{BTreeMap, get}
 use Rattle.std.specs.Ordering.{nat_cmp}
 use Rattle.std.specs.Option.{option_or}
-use Rattle.cf_stream.specs.Stream.{Byte, Letter, letter_from}
+use Rattle.cf_stream.specs.Stream.{Byte, Letter, Stream, letter_at, letter_from}
 use Rattle.cf_watch.specs.Carried.{Carried, Differs, IsConflictAfter, IsConflictOf, letter_of}
-use Rattle.cf_watch.specs.Kept.{Grows, Holds, IsRoom, Takes, kept, known, letter_value, stream_of}
+use Rattle.cf_watch.specs.Kept.{Grows, Holds, IsRoom, Takes, kept, known, letter_of_portion, letter_value, row_value, stream_of}
 use Rattle.cf_watch.specs.Stretches.{FirstLetter, is_own, letter_came}
 use Rattle.cf_watch.specs.declared.flow.Conflict.{Conflict}
 use Rattle.cf_watch.specs.declared.flow.Flow.{Flow}
 use Rattle.cf_watch.specs.declared.ahead.Portion.{Portion}
 use Rattle.cf_watch.specs.declared.letter.Letter.{Letter as Heard}
 use Rattle.cf_watch.specs.declared.letter.Letter.TheVariants as heard
-use Rattle.cf_watch.proofs.Apart.{came_kept, came_not, holds_both, known_kept, own_not}
-use Rattle.cf_watch.proofs.Letters.{from_append, from_none, from_one, is_behind, is_within, none_of_bytes, shifted}
+use Rattle.cf_watch.proofs.Apart.{came_kept, came_not, first_or_none, holds_both, known_kept, own_not}
+use Rattle.cf_watch.proofs.Letters.{from_append, from_at, from_before, from_none, from_one, is_behind, is_within, none_of_bytes, shifted}
 use Rattle.cf_watch.proofs.Portions.{none_in_room}
 
 pub or_none : (x : Option Letter) → option_or x None ≡ x
@@ -318,3 +318,58 @@ takes_bytes number at xs flow a b holds from room apart =
           let r : IsRoom (n + 2 ^ 31) (length xs) a = room (n + 2 ^ 31) (omega (arith, ints, e)) in
           unknown flow.bytes.items a p (omega (arith, ints, v, low)) (none_in_room a (n + 2 ^ 31) (length xs) (p + 2 ^ 31) r (omega (arith, ints, low, e)) (omega (arith, ints, high, e))))
     ])
+
+-- a portion stands for the letters of a packet
+pub kept_apart : (c : Carried) (p : Portion) (a b : BTreeMap ℕ Portion) (place : ℕ) → pos place ≡ c.at +ℤ pos (2 ^ 31) → p.number ≡ c.number → row_value p.letters ≡ c.text →
+    ((q : ℕ) → q < place → kept b q ≡ kept a q) → ((k : ℕ) → kept b (place + k) ≡ option_or (kept a (place + k)) (letter_of_portion p k)) → (q : ℕ) →
+    kept b q ≡ option_or (kept a q) (letter_came c q)
+kept_apart c p a b place here number text before behind q =
+    let z = c.at +ℤ pos (2 ^ 31) in
+    let f : ℕ → Letter → FirstLetter = λ n l. record { letter = l; number = n } in
+    elim (cases_lt q place) [
+      | inl v ↦ (let none : letter_came c q ≡ None = ap (option_map (f c.number)) (from_before z c.text q (omega (arith, ints, here, v))) in
+          before q v ∙ sym (ap (option_or (kept a q)) none ∙ first_or_none (kept a q)))
+      | inr v ↦
+          let k = q - place in
+          let e : place + k ≡ q = omega (arith, v) in
+          let is : letter_of_portion p k ≡ letter_came c q =
+          ap (λ (n : ℕ). option_map (f n) (letter_at (row_value p.letters) k)) number ∙ ap (λ (s : Stream). option_map (f c.number) (letter_at s k)) text
+          ∙ ap (option_map (f c.number)) (sym (from_at z c.text q k (omega (arith, ints, here, e)))) in
+          subst (λ (r : ℕ). kept b r ≡ option_or (kept a r) (letter_of_portion p k)) e (behind k) ∙ ap (option_or (kept a q)) is
+    ]
+
+-- a letter alone that none was known of
+pub takes_one : (number : ℕ) (at : ℤ) (l : Heard) (s : Stream) (flow : Flow) (a b : BTreeMap ℕ Portion) → s ≡ stream_of l →
+    ((q : ℕ) → kept b q ≡ option_or (kept a q) (letter_came (record { number = number; at = at; text = s }) q)) → pos 0 ≤ℤ at →
+    ((place : ℕ) → pos place ≡ at → known flow.bytes.items a place ≡ None) → Takes (record { number = number; at = at; text = stream_of l }) flow a flow b
+takes_one number at l s flow a b is holds from blank =
+    let place = (natural at from).0 in
+    let e : at ≡ pos place = (natural at from).1 in
+    takes_apart (record { number = number; at = at; text = stream_of l }) flow a b
+    (subst (λ (t : Stream). (q : ℕ) → kept b q ≡ option_or (kept a q) (letter_came (record { number = number; at = at; text = t }) q)) is holds)
+    (λ p x h. elim (cases_eq p place) [
+      | inl i ↦ blank p (ap pos i ∙ sym e)
+      | inr d ↦ absurd (none-some x (sym (from_none at l p (λ j. d (omega (arith, ints, j, e)))) ∙ h))
+    ])
+
+some_of : {X : Type 0} (o : Option X) (x y : X) → o ≡ Some x → o ≡ Some y → x ≡ y
+some_of {X = X} o x y h i = ap (λ (k : Option X). unwrap_or k x) (sym h ∙ i)
+
+-- the same letter makes no conflict
+pub no_differ : (number place : ℕ) (l first : Heard) (f : ℕ → Option Letter) → f place ≡ Some (letter_value first) → (letter_value l ≢ letter_value first → ⊥) → (p : ℕ) →
+    Differs f (record { number = number; at = pos place; text = stream_of l }) p → ⊥
+no_differ number place l first f is same p x =
+    elim (cases_eq p place) [
+      | inl e ↦
+          (let one : x.other ≡ letter_value l = some_of (letter_from (pos place) (stream_of l) p) x.other (letter_value l) x.is (from_one (pos place) l p (ap pos e)) in
+          let was : x.first ≡ letter_value first = some_of (f p) x.first (letter_value first) x.was (ap f e ∙ is) in
+          same (λ i. x.differ (one ∙ i ∙ sym was)))
+      | inr d ↦ none-some x.other (sym (from_none (pos place) l p (λ j. d (omega (arith, ints, j)))) ∙ x.is)
+    ]
+
+pub unchanged : (f : ℕ → Option Letter) (c : Carried) (k : Option Conflict) → ((p : ℕ) → Differs f c p → ⊥) → IsConflictAfter f c k k
+unchanged f c k none = no_conflict f c k k refl none
+
+pub stays : (f : ℕ → Option Letter) (c : Carried) (k : Option Conflict) → is_some k ≡ true → IsConflictAfter f c k k
+stays f c None h = absurd (false≢true h)
+stays f c (Some k) h = refl

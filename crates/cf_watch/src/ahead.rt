@@ -52,6 +52,9 @@ fn letter_in(portion: &Portion, place: u64) -> Option<Letter>
 pub(crate) fn letter_kept(ahead: &Ahead, place: u64) -> Option<Letter>
     ensures { option_map letter_value result ≡ option_map (λ c. c.letter) (kept ahead.now place) }
 {
+    if ahead.is_empty() {
+        return None;
+    }
     match ahead.range(..=place).next_back() {
         Some((start, portion)) => letter_in(portion, place - *start),
         None => None,

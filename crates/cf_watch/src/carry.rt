@@ -48,6 +48,18 @@ fn key_at(at: i64) -> u64
     (at + BELOW as i64) as u64
 }
 
+/// Letters that came with this record.
+fn portion_of(number: u64, letters: Letters) -> Portion
+    requires { number < 2 ^ 32 }
+    ensures letters { row_value result.letters ≡ row_value letters }
+    ensures number { result.number ≡ number }
+{
+    Portion {
+        letters,
+        number: number as u32,
+    }
+}
+
 /// Keeps letters apart where there is room for them.
 fn keep_apart(ahead: &mut Ahead, number: u64, at: i64, letters: Letters) -> Result<(), NoMemory>
     requires number { number < 2 ^ 32 }
@@ -58,11 +70,9 @@ fn keep_apart(ahead: &mut Ahead, number: u64, at: i64, letters: Letters) -> Resu
     ensures { OnOk result ((q : ℕ) → kept ahead.new q
         ≡ option_or (kept ahead.old q) (letter_came (record { number = number; at = at; text = row_value letters }) q)) }
 {
-    let portion = Portion {
-        letters,
-        number: number as u32,
-    };
-    keep_portion(ahead, key_at(at), portion)
+    let portion = portion_of(number, letters);
+    keep_portion(ahead, key_at(at), portion)?;
+    Ok(())
 }
 
 /// A letter alone.
@@ -97,9 +107,28 @@ fn keep(
     ensures takes { OnOk result (Takes (record { number = number; at = at; text = stream_of letter }) flow.old ahead.old flow.new
         ahead.new) }
 {
+    match next_byte(flow.bytes.len(), at, letter) {
+        Some(byte) => {
+            push(flow, number, byte)?;
+            Ok(())
+        }
+        None => {
+            let letters = one(alloc, letter)?;
+            keep_apart(ahead, number, at, letters)?;
+            Ok(())
+        }
+    }
+}
+
+/// The byte that a letter is, where it stands behind those of a flow, which has so many.
+fn next_byte(count: usize, at: i64, letter: Letter) -> Option<u8>
+    requires { pos 0 ≤ℤ at }
+    ensures letter { IfSome result (λ byte. letter ≡ Letter.Byte byte) }
+    ensures place { IfSome result (λ byte. pos count ≡ at) }
+{
     match letter {
-        Letter::Byte(byte) if at as u64 == flow.bytes.len() as u64 => push(flow, number, byte),
-        Letter::Byte(_) | Letter::End => keep_apart(ahead, number, at, one(alloc, letter)?),
+        Letter::Byte(byte) if at as u64 == count as u64 => Some(byte),
+        Letter::Byte(_) | Letter::End => None,
     }
 }
 
@@ -120,7 +149,9 @@ fn keep_below(
     if letter_kept(ahead, key_at(at)).is_some() {
         return Ok(());
     }
-    keep_apart(ahead, number, at, one(alloc, letter)?)
+    let letters = one(alloc, letter)?;
+    keep_apart(ahead, number, at, letters)?;
+    Ok(())
 }
 
 /// Whether two letters differ.
@@ -201,10 +232,11 @@ fn keep_bytes(
         (letter_came (record { number = number; at = at; text = record { bytes = bytes.now; ended = false } }) q)) }
 {
     let mut own = Vec::new(alloc);
-    match own.extend_from_slice(bytes) {
-        Ok(()) => keep_apart(ahead, number, at, Letters::Bytes(own)),
-        Err(_) => Err(NoMemory),
+    if own.extend_from_slice(bytes).is_err() {
+        return Err(NoMemory);
     }
+    keep_apart(ahead, number, at, Letters::Bytes(own))?;
+    Ok(())
 }
 
 /// Takes the first bytes of a text that a packet carries, and answers how many.
