@@ -1,19 +1,17 @@
 -- Letters with their records, which stand apart from the bytes of their flow.
-use Rattle.std.proofs.Common.{◌≡◌, ◌≢◌, ◌==◌, if◌then◌else◌, ◌+◌, ◌^◌, ◌≤◌, ◌+ℤ◌, ℕ, ℤ, pos, Bool, true, false, nat_le, nat_lt, List, ◌++◌, length, Option, Some, None, option_map, is_some, refl, sym, ap, ◌∙◌, inl, inr, arith}
-use Rattle.std.proofs.lemmas.Bool.{cases_eq, cases_lt, eq-eqb, true≢false, false≢true}
+use Rattle.std.proofs.Common.{◌≡◌, ◌≢◌, ◌==◌, ◌+◌, ◌^◌, ◌≤◌, ◌+ℤ◌, ℕ, ℤ, pos, Bool, true, false, nat_le, nat_lt, List, ◌++◌, length, Option, Some, None, option_map, is_some, refl, sym, ap, ◌∙◌, inl, inr, arith}
+use Rattle.std.proofs.lemmas.Bool.{cases_eq, cases_lt, true≢false, false≢true}
 use Rattle.std.proofs.lemmas.Bool.Decides.{nat_tests}
 use Rattle.std.proofs.lemmas.Int.{ints}
 use Rattle.std.proofs.lemmas.Option.{none-some}
-use Rattle.std.specs.BTreeMap.{BTreeMap, get}
-use Rattle.std.specs.Ordering.{nat_cmp}
+use Rattle.std.specs.BTreeMap.{BTreeMap}
 use Rattle.std.specs.Option.{option_or}
-use Rattle.cf_stream.specs.Stream.{Byte, End, Letter, Stream, letter_from}
+use Rattle.cf_stream.specs.Stream.{Letter, Stream, letter_from}
 use Rattle.cf_watch.specs.Carried.{Carried}
 use Rattle.cf_watch.specs.Kept.{Holds, kept, known, letter_value, stream_of}
 use Rattle.cf_watch.specs.Stretches.{FirstLetter, is_own, letter_came}
 use Rattle.cf_watch.specs.declared.ahead.Portion.{Portion}
 use Rattle.cf_watch.specs.declared.letter.Letter.{Letter as Heard}
-use Rattle.cf_watch.specs.declared.letter.Letter.TheVariants as heard
 use Rattle.cf_watch.proofs.Letters.{from_append, from_none, from_one}
 
 pub first_or_none : (x : Option FirstLetter) → option_or x None ≡ x

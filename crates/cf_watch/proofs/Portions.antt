@@ -1,5 +1,5 @@
 -- Portions of letters by the places where they begin.
-use Rattle.std.proofs.Common.{◌≡◌, ◌≢◌, ◌==◌, if◌then◌else◌, ◌+◌, ◌-◌, ◌<◌, ◌≤◌, ◌⊎◌, ℕ, zero, suc, Bool, true, false, nat_lt, List, [], length, Option, Some, None, is_some, option_map, refl, sym, ap, ◌∙◌, inl, inr, arith, subst}
+use Rattle.std.proofs.Common.{◌≡◌, ◌≢◌, ◌+◌, ◌-◌, ◌<◌, ◌≤◌, ◌⊎◌, ℕ, zero, suc, Bool, true, false, nat_lt, List, [], length, Option, Some, None, is_some, option_map, refl, sym, ap, ◌∙◌, inl, inr, arith}
 use Rattle.std.proofs.lemmas.Bool.{cases_eq, cases_lt, eq-eqb}
 use Rattle.std.proofs.lemmas.Bool.Decides.{nat_tests}
 use Rattle.std.proofs.lemmas.Option.{none-some}
@@ -70,14 +70,18 @@ last_or_none a (suc q) = here (get nat_cmp a (suc q)) refl (last_or_none a q)
             | inr d ↦ n r (omega (arith, l, d))
           ])
           | inr (s, p, x) ↦
-              inr (s, p, record {
-                here = x.here;
-                before = let b = x.before in omega (arith, b);
-                none_between = λ r v w. elim (cases_eq r (suc q)) [
-                  | inl i ↦ ap (get nat_cmp a) i ∙ e
-                  | inr d ↦ x.none_between r v (omega (arith, w, d))
-                ];
-              })
+              inr (
+                s,
+                p,
+                record {
+                  here = x.here;
+                  before = let b = x.before in omega (arith, b);
+                  none_between = λ r v w. elim (cases_eq r (suc q)) [
+                    | inl i ↦ ap (get nat_cmp a) i ∙ e
+                    | inr d ↦ x.none_between r v (omega (arith, w, d))
+                  ];
+                },
+              )
         ]
 
 pub kept_last : (a : BTreeMap ℕ Portion) (q s : ℕ) (p : Portion) → IsLast a q s p → kept a q ≡ letter_of_portion p (q - s)
@@ -187,7 +191,7 @@ module _ (a b : BTreeMap ℕ Portion) (place : ℕ) (p : Portion) (here : get na
       let less : place ≤ q = omega arith in
       let back : q - place ≡ k = omega arith in
       let new : IsLast b q place p → kept a q ≡ None → kept b q ≡ option_or (kept a q) (letter_of_portion p k) = λ last none.
-          kept_last b q place p last ∙ ap (letter_of_portion p) back ∙ sym (ap (λ (o : Option FirstLetter). option_or o (letter_of_portion p k)) none) in
+      kept_last b q place p last ∙ ap (letter_of_portion p) back ∙ sym (ap (λ (o : Option FirstLetter). option_or o (letter_of_portion p k)) none) in
       elim (last_or_none a q) [
         | inl n ↦ new (is_last_put q less (λ r v w. n r w)) (kept_none a q n)
         | inr (s, p', x) ↦ elim (cases_lt place s) [

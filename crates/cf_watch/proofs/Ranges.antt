@@ -1,16 +1,16 @@
 -- The portions of a range of places.
-use Rattle.std.proofs.Common.{◌≡◌, ◌≢◌, ◌-◌, ◌<◌, ◌≤◌, ◌++◌, ◌∷◌, [], ℕ, false, List, Option, Some, None, option_map, is_some, refl, sym, ap, ◌∙◌, inl, inr, arith}
+use Rattle.std.proofs.Common.{◌≡◌, ◌≢◌, ◌-◌, ◌≤◌, ◌++◌, ◌∷◌, [], ℕ, false, List, Option, Some, None, option_map, is_some, refl, ap, arith}
 use Rattle.std.proofs.lemmas.Bool.Decides.{nat_tests}
 use Rattle.std.proofs.lemmas.Map.Keys.{ge_from_not_lt, le_from_not_gt}
 use Rattle.std.specs.BTreeMap.{BTreeMap, get, is_at}
 use Rattle.std.specs.BTreeMap.Range.{IsLeBy, IsRangeOf}
-use Rattle.std.specs.Ordering.{is_gt, nat_cmp}
+use Rattle.std.specs.Ordering.{nat_cmp}
 use Rattle.std.specs.declared.ops.Bound.TheVariants.{Included, Unbounded}
 use Rattle.cf_stream.specs.Stream.{Letter, letter_at}
 use Rattle.cf_watch.specs.Kept.{kept, letter_of_portion, row_value}
 use Rattle.cf_watch.specs.Stretches.{FirstLetter}
 use Rattle.cf_watch.specs.declared.ahead.Portion.{Portion}
-use Rattle.cf_watch.proofs.Portions.{IsLast, kept_last, kept_none}
+use Rattle.cf_watch.proofs.Portions.{kept_last, kept_none}
 
 le_by : (a b : ℕ) → a ≤ b → IsLeBy nat_cmp a b
 le_by a b h = grind (arith, nat_tests, h)

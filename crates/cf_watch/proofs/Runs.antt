@@ -1,14 +1,14 @@
 -- The runs of letters, taken place by place.
-use Rattle.std.proofs.Common.{◌≡◌, if◌then◌else◌, ◌+◌, ◌-◌, ◌<◌, ◌≤◌, ◌^◌, ◌+ℤ◌, ℕ, ℤ, pos, zero, suc, Bool, true, false, List, [], ◌∷◌, ◌++◌, reverse, Option, Some, None, option_map, unwrap_or, drop, set, slice_get, refl, sym, ap, ◌∙◌, inl, inr, arith}
-use Rattle.std.proofs.lemmas.Bool.{cases_lt}
-use Rattle.std.specs.BTreeMap.{BTreeMap}
-use Rattle.std.proofs.lemmas.Int.{ints}
+use Rattle.std.proofs.Common.{◌≡◌, if◌then◌else◌, ◌+◌, ◌-◌, ◌<◌, ◌≤◌, ◌^◌, ◌+ℤ◌, ℕ, ℤ, pos, zero, suc, Bool, true, false, List, [], ◌∷◌, ◌++◌, reverse, Option, Some, None, is_some, option_map, unwrap_or, drop, set, slice_get, refl, sym, ap, ◌∙◌, inl, inr, arith}
+use Rattle.std.proofs.lemmas.Bool.{cases_lt, false≢true}
+use Rattle.std.specs.BTreeMap.{BTreeMap, get}
+use Rattle.std.specs.Ordering.{nat_cmp}
 use Rattle.std.proofs.lemmas.List.{reverse-append}
 use Rattle.std.proofs.lemmas.Option.{none-some}
-use Rattle.cf_stream.specs.Stream.{Letter, Stream, letter_from}
+use Rattle.cf_stream.specs.Stream.{Letter, letter_count, letter_from}
 use Rattle.cf_watch.specs.Carried.{Carried, end_of, top_of}
 use Rattle.cf_watch.specs.FlowValue.{FlowValue}
-use Rattle.cf_watch.specs.Kept.{HasRuns, kept}
+use Rattle.cf_watch.specs.Kept.{HasRuns, IsFirst, kept, letter_of_portion, row_value}
 use Rattle.cf_watch.specs.Stretches.{FirstLetter, Run, apart, first_letter, is_nil, is_own, letter_came, all_stretches, runs_of, stretch_of, stretches_from, stretches_of, with_place}
 use Rattle.cf_watch.specs.Watched.{Watched}
 use Rattle.cf_watch.specs.declared.ahead.Portion.{Portion}
@@ -53,6 +53,35 @@ apart_same count f g h q = either (is_own count q) refl
     either : (b : Bool) → is_own count q ≡ b → (if b then None else f q) ≡ (if b then None else g q)
     either true e = refl
     either false e = h q e
+
+-- the letters of the first places are taken out, and their runs are there, the last one first
+pub record HasFirstRuns (count : ℕ) (all left : BTreeMap ℕ Portion) (runs : List Run) : Type 0 where
+  pub from : ℕ
+  pub still : (q : ℕ) → from ≤ q → kept left q ≡ kept all q
+  pub taken : (r : ℕ) → r < from → get nat_cmp left r ≡ None
+  pub are_runs : runs ≡ runs_of (apart count (kept all)) from
+
+-- the letters of the portion that began at the lowest place are among the runs
+abbrev pub PutsFirst : (count start : ℕ) → Portion → (old new : List Run) → Type 0
+PutsFirst count start p old new =
+    (f : ℕ → Option FirstLetter) → ((k : ℕ) → k < letter_count (row_value p.letters) → f (start + k) ≡ letter_of_portion p k) → old ≡ runs_of (apart count f) start →
+    new ≡ runs_of (apart count f) (start + letter_count (row_value p.letters))
+
+pub runs_more : (count : ℕ) (all left new : BTreeMap ℕ Portion) (start : ℕ) (p : Portion) (runs more : List Run) → HasFirstRuns count all left runs → IsFirst start p left new →
+    PutsFirst count start p runs more → HasFirstRuns count all new more
+runs_more count all left new start p runs more was first puts =
+    let past : was.from ≤ start = elim (cases_lt start was.from) [
+      | inl v ↦ absurd (false≢true (sym (ap is_some (was.taken start v)) ∙ first.begins))
+      | inr v ↦ v
+    ] in
+    let f : ℕ → Option FirstLetter = apart count (kept all) in
+    let blank : (q : ℕ) → was.from ≤ q → q < start → f q ≡ None = λ q v w. apart_none count (kept all) q (sym (was.still q v) ∙ first.none_before q w) in
+    record {
+      from = start + letter_count (row_value p.letters);
+      still = λ q v. first.others q v ∙ was.still q (omega (arith, v, past));
+      taken = first.gone;
+      are_runs = puts (kept all) (λ k v. sym (was.still (start + k) (omega (arith, past))) ∙ first.was k v) (was.are_runs ∙ sym (runs_to f was.from start past blank));
+    }
 
 -- ---- behind all letters of a flow
 

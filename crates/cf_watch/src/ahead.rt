@@ -38,13 +38,7 @@ fn letter_in(portion: &Portion, place: u64) -> Option<Letter>
             Some(byte) => Some(Letter::Byte(*byte)),
             None => None,
         },
-        Letters::End => {
-            if place == 0 {
-                Some(Letter::End)
-            } else {
-                None
-            }
-        }
+        Letters::End => { if place == 0 { Some(Letter::End) } else { None } }
     }
 }
 

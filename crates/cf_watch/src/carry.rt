@@ -308,7 +308,14 @@ pub(crate) fn carry(
 {
     carry_text(alloc, flow, ahead, number, at, text)?;
     if ended {
-        carry_letter(alloc, flow, ahead, number, at + text.len() as i64, Letter::End)?;
+        carry_letter(
+            alloc,
+            flow,
+            ahead,
+            number,
+            at + text.len() as i64,
+            Letter::End,
+        )?;
     }
     Ok(())
 }

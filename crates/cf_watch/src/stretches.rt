@@ -128,7 +128,7 @@ fn put_bytes(
     number: u32,
 ) -> Result<(), NoMemory>
     ensures { OnOk result ((f : ℕ → Option FirstLetter) → ((k : ℕ) → k < length bytes.now → f (start + k)
-            ≡ Some (record { letter = Byte (slice_index bytes.now k); number = number })) → reverse (map run_value runs.old.items) ≡ runs_of (apart count f) start
+        ≡ Some (record { letter = Byte (slice_index bytes.now k); number = number })) → reverse (map run_value runs.old.items) ≡ runs_of (apart count f) start
         → reverse (map run_value runs.new.items) ≡ runs_of (apart count f) (start + length bytes.now)) }
 {
     for (i, byte) in bytes.iter().enumerate() {
@@ -149,11 +149,18 @@ fn put_portion(
     portion: &Portion,
 ) -> Result<(), NoMemory>
     ensures { OnOk result ((f : ℕ → Option FirstLetter) → ((k : ℕ) → k < letter_count (row_value portion.now.letters) → f (start + k)
-            ≡ letter_of_portion portion.now k) → reverse (map run_value runs.old.items) ≡ runs_of (apart count f) start
+        ≡ letter_of_portion portion.now k) → reverse (map run_value runs.old.items) ≡ runs_of (apart count f) start
         → reverse (map run_value runs.new.items) ≡ runs_of (apart count f) (start + letter_count (row_value portion.now.letters))) }
 {
     match &portion.letters {
-        Letters::Bytes(bytes) => put_bytes(alloc, runs, count, start, bytes.as_slice(), portion.number),
+        Letters::Bytes(bytes) => put_bytes(
+            alloc,
+            runs,
+            count,
+            start,
+            bytes.as_slice(),
+            portion.number,
+        ),
         Letters::End => Ok(()),
     }
 }

@@ -1,4 +1,3 @@
-use Rattle.std.proofs.Common.{◌≡◌}
 use Rattle.cf_watch.proofs.Portions.{put_before, put_behind}
 use Rattle.cf_watch.proofs.Ranges.{other_key}
 use Rattle.cf_watch.proofs.ahead.keep_portion.Goals as goal

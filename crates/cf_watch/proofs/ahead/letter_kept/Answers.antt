@@ -1,4 +1,4 @@
-use Rattle.std.proofs.Common.{rules, [], length, ◌≡◌, ◌∙◌, Option, Some, None, option_map, ℕ, sym, ap}
+use Rattle.std.proofs.Common.{rules, [], length, ◌≡◌, ◌∙◌, option_map, sym, ap}
 use Rattle.cf_watch.specs.Stretches.{FirstLetter}
 use Rattle.std.proofs.lemmas.List.{nil_from_length}
 use Rattle.cf_watch.proofs.Portions.{nothing_kept}

@@ -1,9 +1,8 @@
-use Rattle.std.proofs.Common.{◌≡◌, ◌∙◌, sym, ap, subst, arith, pos, refl, to_z, of_z, w64, nat_abs, ℕ, ℤ, List, Option, Some, None, option_map}
+use Rattle.std.proofs.Common.{◌≡◌, ◌∙◌, sym, ap, subst, arith, pos, refl, to_z, of_z, w64, nat_abs, ℕ, ℤ, List, Some, option_map}
 use Rattle.std.proofs.lemmas.Bool.{false≢true}
 use Rattle.std.proofs.lemmas.Int.{ints}
 use Rattle.cf_watch.specs.Carried.{IsConflictAfter}
 use Rattle.cf_watch.specs.Kept.{Takes, known, letter_value, stream_of}
-use Rattle.cf_watch.specs.declared.flow.Conflict.{Conflict}
 use Rattle.cf_watch.proofs.Taking.{grows_nothing, no_differ, none_of, stays, takes_conflict, takes_known, unchanged}
 use Rattle.cf_watch.proofs.carry.carry_letter.Goals.{else-is_none-via-then-is_none+else-differ, else-is_none-via-else-is_none}
 use Rattle.cf_watch.proofs.carry.carry_letter.Goals as goal

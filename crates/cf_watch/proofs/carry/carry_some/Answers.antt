@@ -1,10 +1,8 @@
-use Rattle.std.proofs.Common.{rules, ◌≡◌, ◌+◌, ◌≤ℤ◌, ◌+ℤ◌, ◌⊎◌, ◌≤◌, ◌<◌, ◌^◌, to_z, of_z, w64, ℕ, ℤ, pos, List, length, take, subst, sym, ap, arith, ◌∙◌}
+use Rattle.std.proofs.Common.{rules, ◌≡◌, ◌≤ℤ◌, ◌+ℤ◌, ◌⊎◌, ◌≤◌, ◌<◌, ◌^◌, to_z, of_z, w64, ℕ, ℤ, pos, length, take, subst, sym, ap, arith, ◌∙◌}
 use Rattle.std.proofs.lemmas.Int.{ints}
 use Rattle.std.proofs.lemmas.List.{length-take-le}
-use Rattle.std.specs.Option.{option_or}
-use Rattle.cf_watch.specs.Kept.{IsRoom, kept}
-use Rattle.cf_watch.specs.Stretches.{letter_came}
-use Rattle.cf_watch.proofs.Taking.{bytes_from, takes_bytes}
+use Rattle.cf_watch.specs.Kept.{IsRoom}
+use Rattle.cf_watch.proofs.Taking.{takes_bytes}
 use Rattle.cf_watch.proofs.carry.carry_some.Goals as goal
 
 pub returns-clause-takes : goal.returns-clause-takes

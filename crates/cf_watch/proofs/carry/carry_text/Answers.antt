@@ -1,4 +1,4 @@
-use Rattle.std.proofs.Common.{rules, ◌≡◌, ◌+◌, ◌-◌, ◌<◌, ◌≤◌, sym, subst, arith, pos, ◌+ℤ◌, take, drop, length, ◌++◌, false, ℤ, ℕ, List, to_z, of_z, w64}
+use Rattle.std.proofs.Common.{rules, ◌≡◌, ◌+◌, ◌-◌, ◌≤◌, sym, subst, arith, pos, ◌+ℤ◌, take, drop, length, ◌++◌, false, ℤ, ℕ, List, to_z, of_z, w64}
 use Rattle.std.proofs.Math.Seq.{take-add}
 use Rattle.std.proofs.lemmas.Int.{ints}
 use Rattle.std.proofs.lemmas.List.{length-drop, length-take-le, take_all}
