@@ -1,19 +1,17 @@
 -- Letters with their records, which stand apart from the bytes of their flow.
-use Rattle.std.proofs.Common.{◌≡◌, ◌≢◌, ◌==◌, if◌then◌else◌, ◌+◌, ◌^◌, ◌≤◌, ◌+ℤ◌, ℕ, ℤ, pos, Bool, true, false, nat_le, nat_lt, List, ◌++◌, length, Option, Some, None, option_map, is_some, refl, sym, ap, ◌∙◌, inl, inr, arith}
-use Rattle.std.proofs.lemmas.Bool.{cases_eq, cases_lt, eq-eqb, true≢false, false≢true}
+use Rattle.std.proofs.Common.{◌≡◌, ◌≢◌, ◌==◌, ◌+◌, ◌^◌, ◌≤◌, ◌+ℤ◌, ℕ, ℤ, pos, Bool, true, false, nat_le, nat_lt, List, ◌++◌, length, Option, Some, None, option_map, is_some, refl, sym, ap, ◌∙◌, inl, inr, arith}
+use Rattle.std.proofs.lemmas.Bool.{cases_eq, cases_lt, true≢false, false≢true}
 use Rattle.std.proofs.lemmas.Bool.Decides.{nat_tests}
 use Rattle.std.proofs.lemmas.Int.{ints}
 use Rattle.std.proofs.lemmas.Option.{none-some}
-use Rattle.std.specs.BTreeMap.{BTreeMap, get}
-use Rattle.std.specs.Ordering.{nat_cmp}
+use Rattle.std.specs.BTreeMap.{BTreeMap}
 use Rattle.std.specs.Option.{option_or}
-use Rattle.cf_stream.specs.Stream.{Byte, End, Letter, Stream, letter_from}
+use Rattle.cf_stream.specs.Stream.{Letter, Stream, letter_from}
 use Rattle.cf_watch.specs.Carried.{Carried}
-use Rattle.cf_watch.specs.Kept.{HasNoByte, Holds, came_value, kept, known, letter_value, stream_of}
+use Rattle.cf_watch.specs.Kept.{Holds, kept, known, letter_value, stream_of}
 use Rattle.cf_watch.specs.Stretches.{FirstLetter, is_own, letter_came}
-use Rattle.cf_watch.specs.declared.letter.Came.{Came}
+use Rattle.cf_watch.specs.declared.ahead.Portion.{Portion}
 use Rattle.cf_watch.specs.declared.letter.Letter.{Letter as Heard}
-use Rattle.cf_watch.specs.declared.letter.Letter.TheVariants as heard
 use Rattle.cf_watch.proofs.Letters.{from_append, from_none, from_one}
 
 pub first_or_none : (x : Option FirstLetter) → option_or x None ≡ x
@@ -31,10 +29,6 @@ some_or (Some l) y h = refl
 map_or : (f : Letter → FirstLetter) (x y : Option Letter) → option_map f (option_or x y) ≡ option_or (option_map f x) (option_map f y)
 map_or f None y = refl
 map_or f (Some l) y = refl
-
-some_mapped : (o : Option Came) → is_some o ≡ true → is_some (option_map came_value o) ≡ true
-some_mapped None h = h
-some_mapped (Some c) h = refl
 
 -- a place that is none of more bytes is none of fewer
 pub own_less : (m n q : ℕ) → m ≤ n → is_own n q ≡ false → is_own m q ≡ false
@@ -91,51 +85,34 @@ came_append number at xs ys ended q =
     ∙ map_or f (letter_from (at +ℤ pos (2 ^ 31)) s q) (letter_from ((at +ℤ pos (length xs)) +ℤ pos (2 ^ 31)) t q)
 
 -- a letter where one was kept
-pub came_kept : (number : ℕ) (z : ℤ) (l : Heard) (a : BTreeMap ℕ Came) (key : ℕ) → pos key ≡ z +ℤ pos (2 ^ 31) → is_some (get nat_cmp a key) ≡ true → (q : ℕ) →
+pub came_kept : (number : ℕ) (z : ℤ) (l : Heard) (a : BTreeMap ℕ Portion) (key : ℕ) → pos key ≡ z +ℤ pos (2 ^ 31) → is_some (kept a key) ≡ true → (q : ℕ) →
     kept a q ≡ option_or (kept a q) (letter_came (one_of number z l) q)
 came_kept number z l a key e h q =
     elim (cases_eq q key) [
-      | inl i ↦ sym (some_or (kept a q) (letter_came (one_of number z l) q) (some_mapped (get nat_cmp a q) (ap (λ (k : ℕ). is_some (get nat_cmp a k)) i ∙ h)))
+      | inl i ↦ sym (some_or (kept a q) (letter_came (one_of number z l) q) (ap (λ (k : ℕ). is_some (kept a k)) i ∙ h))
       | inr d ↦ sym (ap (option_or (kept a q)) (came_elsewhere number z l q (λ x. d (omega (arith, ints, x, e)))) ∙ first_or_none (kept a q))
     ]
 
 -- a letter of another place
-pub came_not : (number : ℕ) (z : ℤ) (l : Heard) (a : BTreeMap ℕ Came) (q : ℕ) → pos q ≢ z +ℤ pos (2 ^ 31) →
+pub came_not : (number : ℕ) (z : ℤ) (l : Heard) (a : BTreeMap ℕ Portion) (q : ℕ) → pos q ≢ z +ℤ pos (2 ^ 31) →
     kept a q ≡ option_or (kept a q) (letter_came (one_of number z l) q)
 came_not number z l a q d = sym (ap (option_or (kept a q)) (came_elsewhere number z l q d) ∙ first_or_none (kept a q))
 
 ne-eqb : (a b : ℕ) → a ≢ b → (a == b) ≡ false
 ne-eqb a b d = grind (arith, nat_tests, d)
 
--- a letter where none was kept
-pub came_new : (number : ℕ) (z : ℤ) (l : Heard) (a b : BTreeMap ℕ Came) (key : ℕ) → pos key ≡ z +ℤ pos (2 ^ 31) → get nat_cmp a key ≡ None →
-    ((q : ℕ) → get nat_cmp b q ≡ (if q == key then Some (record { letter = l; number = number }) else get nat_cmp a q)) → (q : ℕ) →
-    kept b q ≡ option_or (kept a q) (letter_came (one_of number z l) q)
-came_new number z l a b key e none put q =
-    elim (cases_eq q key) [
-      | inl i ↦
-          let g : get nat_cmp b q ≡ Some (record { letter = l; number = number }) = put q ∙ rw (eq-eqb q key i) refl in
-          let k : kept a q ≡ None = ap (option_map came_value) (ap (get nat_cmp a) i ∙ none) in
-          let c : letter_came (one_of number z l) q ≡ Some (first_of number l) = came_here number z l q (ap pos i ∙ e) in
-          rw (g, k, c) refl
-      | inr d ↦
-          let g : get nat_cmp b q ≡ get nat_cmp a q = put q ∙ rw (ne-eqb q key d) refl in
-          let c : letter_came (one_of number z l) q ≡ None = came_elsewhere number z l q (λ x. d (omega (arith, ints, x, e))) in
-          ap (option_map came_value) g ∙ sym (ap (option_or (kept a q)) c ∙ first_or_none (kept a q))
-    ]
-
-kept_by : (o : Option Came) (l : Letter) → option_map (λ c. letter_value c.letter) o ≡ Some l → is_some o ≡ true
+kept_by : (o : Option FirstLetter) (l : Letter) → option_map (λ c. c.letter) o ≡ Some l → is_some o ≡ true
 kept_by None l h = absurd (none-some l h)
 kept_by (Some c) l h = refl
 
 -- a letter that is known, and is none of the bytes
-pub known_kept : (bytes : List ℕ) (a : BTreeMap ℕ Came) (p : ℕ) (l : Letter) → known bytes a p ≡ Some l → length bytes ≤ p → is_some (get nat_cmp a (p + 2 ^ 31)) ≡ true
+pub known_kept : (bytes : List ℕ) (a : BTreeMap ℕ Portion) (p : ℕ) (l : Letter) → known bytes a p ≡ Some l → length bytes ≤ p → is_some (kept a (p + 2 ^ 31)) ≡ true
 known_kept bytes a p l h i =
     let m : nat_lt p (length bytes) ≡ false = grind (arith, nat_tests, i) in
-    kept_by (get nat_cmp a (p + 2 ^ 31)) l (rw m at h)
+    kept_by (kept a (p + 2 ^ 31)) l (rw m at h)
 
 -- two packets one after the other
-pub holds_both : (number : ℕ) (at : ℤ) (xs ys : List ℕ) (ended : Bool) (a b c : BTreeMap ℕ Came) (m n : ℕ) → m ≤ n →
+pub holds_both : (number : ℕ) (at : ℤ) (xs ys : List ℕ) (ended : Bool) (a b c : BTreeMap ℕ Portion) (m n : ℕ) → m ≤ n →
     Holds (record { number = number; at = at; text = record { bytes = xs; ended = false } }) a m b →
     Holds (record { number = number; at = at +ℤ pos (length xs); text = record { bytes = ys; ended = ended } }) b n c →
     Holds (record { number = number; at = at; text = record { bytes = xs ++ ys; ended = ended } }) a n c
@@ -144,29 +121,3 @@ holds_both number at xs ys ended a b c m n less h i = λ q none.
     let back : Carried = record { number = number; at = at +ℤ pos (length xs); text = record { bytes = ys; ended = ended } } in
     i q none ∙ ap (λ (o : Option FirstLetter). option_or o (letter_came back q)) (h q (own_less m n q less none))
     ∙ first_or_assoc (kept a q) (letter_came front q) (letter_came back q) ∙ ap (option_or (kept a q)) (sym (came_append number at xs ys ended q))
-
-pub not_some : (o : Option Came) → is_some o ≡ false → o ≡ None
-not_some None h = refl
-not_some (Some c) h = absurd (true≢false h)
-
-abbrev came : Heard → ℕ → Came
-came l n = record { letter = l; number = n }
-
-abbrev is_byte : Option Letter → Bool
-is_byte None = false
-is_byte (Some (Byte b)) = true
-is_byte (Some End) = false
-
-no_byte_of : (l : Heard) (n b : ℕ) → ((byte number : ℕ) → Some (came l n) ≢ Some (came (heard.Byte byte) number)) → Some (letter_value l) ≡ Some (Byte b) → ⊥
-no_byte_of (heard.Byte x) n b h e = h x n refl
-no_byte_of heard.End n b h e = absurd (false≢true (ap is_byte e))
-
-no_byte_by : (o : Option Came) (b : ℕ) → ((byte number : ℕ) → o ≢ Some (came (heard.Byte byte) number)) → option_map (λ c. letter_value c.letter) o ≡ Some (Byte b) → ⊥
-no_byte_by None b h e = none-some (Byte b) e
-no_byte_by (Some c) b h e = no_byte_of c.letter c.number b h e
-
--- no byte is known where none is kept and none of the bytes stands
-pub no_byte : (bytes : List ℕ) (a : BTreeMap ℕ Came) (p b : ℕ) → length bytes ≤ p → HasNoByte p a → known bytes a p ≡ Some (Byte b) → ⊥
-no_byte bytes a p b h none e =
-    let m : nat_lt p (length bytes) ≡ false = grind (arith, nat_tests, h) in
-    no_byte_by (get nat_cmp a (p + 2 ^ 31)) b none (rw m at e)

@@ -116,3 +116,11 @@ from_none z l p d =
       | inl v ↦ from_before z (stream_of l) p v
       | inr (k, e) ↦ from_at z (stream_of l) p k e ∙ none_at l k (omega (arith, ints, e, d))
     ]
+
+-- letters and a place moved alike
+pub shifted : (z : ℤ) (s : Stream) (p k : ℕ) → letter_from (z +ℤ pos k) s (p + k) ≡ letter_from z s p
+shifted z s p k =
+    elim (stands_to z p) [
+      | inl v ↦ from_before (z +ℤ pos k) s (p + k) (omega (arith, ints, v)) ∙ sym (from_before z s p v)
+      | inr (n, e) ↦ from_at (z +ℤ pos k) s (p + k) n (omega (arith, ints, e)) ∙ sym (from_at z s p n e)
+    ]

@@ -5,6 +5,8 @@ mod Lengths
 mod Letters
 mod OneStream
 mod Pieces
+mod Portions
+mod Ranges
 mod Runs
 mod Seen
 mod SoFar

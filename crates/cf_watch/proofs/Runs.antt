@@ -1,18 +1,18 @@
 -- The runs of letters, taken place by place.
-use Rattle.std.proofs.Common.{◌≡◌, if◌then◌else◌, ◌+◌, ◌-◌, ◌<◌, ◌≤◌, ◌^◌, ◌+ℤ◌, ℕ, ℤ, pos, zero, suc, Bool, true, false, List, [], ◌∷◌, ◌++◌, reverse, Option, Some, None, option_map, unwrap_or, drop, set, slice_get, refl, sym, ap, ◌∙◌, inl, inr, arith}
-use Rattle.std.proofs.lemmas.Bool.{cases_lt}
-use Rattle.std.specs.BTreeMap.{BTreeMap}
-use Rattle.std.proofs.lemmas.Int.{ints}
+use Rattle.std.proofs.Common.{◌≡◌, if◌then◌else◌, ◌+◌, ◌-◌, ◌<◌, ◌≤◌, ◌^◌, ◌+ℤ◌, ℕ, ℤ, pos, zero, suc, Bool, true, false, List, [], ◌∷◌, ◌++◌, reverse, Option, Some, None, is_some, option_map, unwrap_or, drop, set, slice_get, refl, sym, ap, ◌∙◌, inl, inr, arith}
+use Rattle.std.proofs.lemmas.Bool.{cases_lt, false≢true}
+use Rattle.std.specs.BTreeMap.{BTreeMap, get}
+use Rattle.std.specs.Ordering.{nat_cmp}
 use Rattle.std.proofs.lemmas.List.{reverse-append}
 use Rattle.std.proofs.lemmas.Option.{none-some}
-use Rattle.cf_stream.specs.Stream.{Letter, Stream, letter_from}
+use Rattle.cf_stream.specs.Stream.{Letter, letter_count, letter_from}
 use Rattle.cf_watch.specs.Carried.{Carried, end_of, top_of}
 use Rattle.cf_watch.specs.FlowValue.{FlowValue}
-use Rattle.cf_watch.specs.Kept.{HasRuns, came_value, kept}
+use Rattle.cf_watch.specs.Kept.{HasRuns, IsFirst, kept, letter_of_portion, row_value}
 use Rattle.cf_watch.specs.Stretches.{FirstLetter, Run, apart, first_letter, is_nil, is_own, letter_came, all_stretches, runs_of, stretch_of, stretches_from, stretches_of, with_place}
 use Rattle.cf_watch.specs.Watched.{Watched}
-use Rattle.cf_watch.specs.declared.letter.Came.{Came}
-use Rattle.cf_watch.proofs.Letters.{from_at, from_before, stands_to}
+use Rattle.cf_watch.specs.declared.ahead.Portion.{Portion}
+use Rattle.cf_watch.proofs.Letters.{shifted}
 use Rattle.cf_watch.proofs.Standing.{past_end}
 
 -- places without a letter add no run
@@ -54,14 +54,36 @@ apart_same count f g h q = either (is_own count q) refl
     either true e = refl
     either false e = h q e
 
--- ---- behind all letters of a flow
+-- the letters of the first places are taken out, and their runs are there, the last one first
+pub record HasFirstRuns (count : ℕ) (all left : BTreeMap ℕ Portion) (runs : List Run) : Type 0 where
+  pub from : ℕ
+  pub still : (q : ℕ) → from ≤ q → kept left q ≡ kept all q
+  pub taken : (r : ℕ) → r < from → get nat_cmp left r ≡ None
+  pub are_runs : runs ≡ runs_of (apart count (kept all)) from
 
-shifted : (z : ℤ) (s : Stream) (p k : ℕ) → letter_from (z +ℤ pos k) s (p + k) ≡ letter_from z s p
-shifted z s p k =
-    elim (stands_to z p) [
-      | inl v ↦ from_before (z +ℤ pos k) s (p + k) (omega (arith, ints, v)) ∙ sym (from_before z s p v)
-      | inr (n, e) ↦ from_at (z +ℤ pos k) s (p + k) n (omega (arith, ints, e)) ∙ sym (from_at z s p n e)
-    ]
+-- the letters of the portion that began at the lowest place are among the runs
+abbrev pub PutsFirst : (count start : ℕ) → Portion → (old new : List Run) → Type 0
+PutsFirst count start p old new =
+    (f : ℕ → Option FirstLetter) → ((k : ℕ) → k < letter_count (row_value p.letters) → f (start + k) ≡ letter_of_portion p k) → old ≡ runs_of (apart count f) start →
+    new ≡ runs_of (apart count f) (start + letter_count (row_value p.letters))
+
+pub runs_more : (count : ℕ) (all left new : BTreeMap ℕ Portion) (start : ℕ) (p : Portion) (runs more : List Run) → HasFirstRuns count all left runs → IsFirst start p left new →
+    PutsFirst count start p runs more → HasFirstRuns count all new more
+runs_more count all left new start p runs more was first puts =
+    let past : was.from ≤ start = elim (cases_lt start was.from) [
+      | inl v ↦ absurd (false≢true (sym (ap is_some (was.taken start v)) ∙ first.begins))
+      | inr v ↦ v
+    ] in
+    let f : ℕ → Option FirstLetter = apart count (kept all) in
+    let blank : (q : ℕ) → was.from ≤ q → q < start → f q ≡ None = λ q v w. apart_none count (kept all) q (sym (was.still q v) ∙ first.none_before q w) in
+    record {
+      from = start + letter_count (row_value p.letters);
+      still = λ q v. first.others q v ∙ was.still q (omega (arith, v, past));
+      taken = first.gone;
+      are_runs = puts (kept all) (λ k v. sym (was.still (start + k) (omega (arith, past))) ∙ first.was k v) (was.are_runs ∙ sym (runs_to f was.from start past blank));
+    }
+
+-- ---- behind all letters of a flow
 
 none_from : (c : Carried) (q : ℕ) → 2 ^ 31 + end_of c ≤ q → letter_came c q ≡ None
 none_from c q h =
@@ -76,13 +98,13 @@ none_past_top [] q h = refl
 none_past_top (c ∷ earlier) q h =
     rw (none_past_top earlier q (omega (arith, h)), none_from c q (omega (arith, h))) refl
 
-pub runs_of_flow : (w : Watched) (count : ℕ) (ahead : BTreeMap ℕ Came) (runs : List Run) →
+pub runs_of_flow : (w : Watched) (count : ℕ) (ahead : BTreeMap ℕ Portion) (runs : List Run) →
     ((q : ℕ) → is_own count q ≡ false → kept ahead q ≡ first_letter w.carried q) → HasRuns count ahead runs →
     runs ≡ runs_of (apart count (first_letter w.carried)) (2 ^ 31 + top_of w.carried)
 runs_of_flow w count ahead runs holds has =
     let f = apart count (kept ahead) in
     let g = apart count (first_letter w.carried) in
-    let none : (q : ℕ) → has.places ≤ q → f q ≡ None = λ q h. apart_none count (kept ahead) q (ap (option_map came_value) (has.none_behind q h)) in
+    let none : (q : ℕ) → has.places ≤ q → f q ≡ None = λ q h. apart_none count (kept ahead) q (has.none_behind q h) in
     let same : (q : ℕ) → f q ≡ g q = apart_same count (kept ahead) (first_letter w.carried) holds in
     has.are_runs ∙ runs_by f g has.places same
     ∙ runs_same g has.places (2 ^ 31 + top_of w.carried) (λ q h. sym (same q) ∙ none q h) (λ q h. apart_none count (first_letter w.carried) q (none_past_top w.carried q h))

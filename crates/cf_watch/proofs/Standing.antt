@@ -15,7 +15,7 @@ use Rattle.cf_watch.specs.declared.flow.Flow.{Flow}
 use Rattle.cf_watch.specs.Carried.{AreBorn, Carried, HasBytes, HasConflict, IsConflictAfter, copy_of, end_after, end_of, letter_of, offer_of}
 use Rattle.cf_watch.specs.Kept.{Grows, Takes, kept, known}
 use Rattle.cf_watch.specs.Stretches.{FirstLetter, first_letter, is_own, letter_came}
-use Rattle.cf_watch.specs.declared.letter.Came.{Came}
+use Rattle.cf_watch.specs.declared.ahead.Portion.{Portion}
 use Rattle.cf_watch.proofs.Letters.{from_at, from_before, stands_to}
 use Rattle.cf_watch.proofs.Apart.{own_less}
 use Rattle.cf_watch.proofs.Taking.{grows_both, longer_by}
@@ -56,11 +56,11 @@ offered_all c p =
       | inr v ↦ (let e : nat_lt p (end_of c) ≡ false = grind (arith, nat_tests, v) in rw e (sym (past_end c.at c.text p v)))
     ]
 
-known_byte : (bytes : List ℕ) (a : BTreeMap ℕ Came) (p : ℕ) → p < length bytes → known bytes a p ≡ Some (Byte (get_or bytes p 0))
+known_byte : (bytes : List ℕ) (a : BTreeMap ℕ Portion) (p : ℕ) → p < length bytes → known bytes a p ≡ Some (Byte (get_or bytes p 0))
 known_byte bytes a p h = let e : nat_lt p (length bytes) ≡ true = grind (arith, nat_tests, h) in rw e refl
 
 -- what is known is taken, where no byte stands after it
-taken_by : (bytes : List ℕ) (a : BTreeMap ℕ Came) (copy : ℕ → Option Letter) → ((p : ℕ) → known bytes a p ≡ copy p) → (o : Option Letter) → copy (length bytes) ≡ o →
+taken_by : (bytes : List ℕ) (a : BTreeMap ℕ Portion) (copy : ℕ → Option Letter) → ((p : ℕ) → known bytes a p ≡ copy p) → (o : Option Letter) → copy (length bytes) ≡ o →
     ((b : ℕ) → o ≢ Some (Byte b)) → (ended : Bool) × IsTaken copy (record { bytes = bytes; ended = ended })
 taken_by bytes a copy h (Some (Byte b)) e stops = absurd (stops b refl)
 taken_by bytes a copy h (Some End) e stops = (true, record { bytes = λ p l. sym (h p) ∙ known_byte bytes a p l; ended = λ _. e; unfinished = λ d. absurd (true≢false d) })
@@ -79,7 +79,7 @@ get_same count x i n h =
     let below : i < count = omega (arith, inside, size) in
     sym (get_or_from_slice_get (replicate count x) i n 0 h) ∙ get_or-replicate count i x 0 below
 
-module _ (carried : List Carried) (c : Carried) (old mid new : Flow) (a b d : BTreeMap ℕ Came)
+module _ (carried : List Carried) (c : Carried) (old mid new : Flow) (a b d : BTreeMap ℕ Portion)
     (knew : (p : ℕ) → known old.bytes.items a p ≡ copy_of carried p) (takes : Takes c old a mid b)
     (same : (p : ℕ) → known new.bytes.items d p ≡ known mid.bytes.items b p) (grows : Grows c.number mid new)
     (stops : (x : ℕ) → known new.bytes.items d (length new.bytes.items) ≢ Some (Byte x)) (conflict : new.conflict ≡ mid.conflict) where
@@ -129,7 +129,7 @@ module _ (carried : List Carried) (c : Carried) (old mid new : Flow) (a b d : BT
       }
 
 -- the letters that stand apart
-pub holds_now : (carried : List Carried) (c : Carried) (old mid new : Flow) (a b d : BTreeMap ℕ Came) →
+pub holds_now : (carried : List Carried) (c : Carried) (old mid new : Flow) (a b d : BTreeMap ℕ Portion) →
     ((q : ℕ) → is_own (length old.bytes.items) q ≡ false → kept a q ≡ first_letter carried q) → Takes c old a mid b → Grows c.number mid new →
     ((q : ℕ) → is_own (length new.bytes.items) q ≡ false → kept d q ≡ kept b q) → (q : ℕ) → is_own (length new.bytes.items) q ≡ false →
     kept d q ≡ first_letter (c ∷ carried) q

@@ -1,11 +1,10 @@
 -- The flows in memory as records come.
-use Rattle.std.proofs.Common.{◌≡◌, ◌≢◌, ◌==◌, ◌+◌, ◌-◌, ◌*◌, ◌^◌, ◌<◌, ◌≤◌, ◌⊎◌, ◌&&◌, ℕ, zero, suc, Bool, true, false, cond, nat_lt, List, [], ◌∷◌, ◌++◌, length, set, slice_get, Option, Some, None, option_map, unwrap_or, refl, sym, ap, ◌∙◌, inl, inr, arith, subst, length-append}
+use Rattle.std.proofs.Common.{◌≡◌, ◌≢◌, ◌==◌, ◌+◌, ◌-◌, ◌*◌, ◌^◌, ◌<◌, ◌≤◌, ◌⊎◌, ◌&&◌, ℕ, zero, suc, Bool, true, false, cond, nat_lt, List, [], ◌∷◌, ◌++◌, length, set, slice_get, Option, Some, None, unwrap_or, refl, sym, ap, ◌∙◌, inl, inr, arith, subst, length-append}
 use Rattle.std.proofs.lemmas.Bool.{cases_lt, false≢true}
 use Rattle.std.proofs.lemmas.Bool.Decides.{nat_tests}
 use Rattle.std.proofs.lemmas.List.{length-set}
 use Rattle.std.proofs.lemmas.Option.{none-some, slice_get_within}
-use Rattle.std.specs.Map.{lookup}
-use Rattle.std.specs.BTreeMap.{BTreeMap, get, is_at}
+use Rattle.std.specs.BTreeMap.{BTreeMap, get}
 use Rattle.std.specs.Ordering.{is_eq, nat_cmp, ordering_then}
 use Rattle.std.specs.declared.cmp.Ordering.{Ordering}
 use Rattle.std.specs.declared.cmp.Ordering.TheVariants.{Equal, Greater, Less}
@@ -14,12 +13,13 @@ use Rattle.cf_watch.specs.declared.flow.Flow.{Flow}
 use Rattle.cf_watch.specs.Trail.{AreHeard, IsHeard, key_cmp, key_of}
 use Rattle.cf_packet.specs.Packet.{PacketValue}
 use Rattle.cf_watch.specs.Carried.{AreBorn, HasBytes}
-use Rattle.cf_watch.specs.Kept.{came_value, kept, known}
+use Rattle.cf_watch.specs.Kept.{kept, known}
 use Rattle.cf_view.specs.Endpoints.{same_endpoint}
 use Rattle.cf_watch.specs.Seen.{begins_amid, begun_with, goes_from, opening_amid}
 use Rattle.cf_watch.specs.declared.scope.Scope.{Scope}
 use Rattle.cf_watch.specs.Watched.{Watched, begins_anew, begun_by, goes_at, is_between, last_place, later_place, with_packet}
-use Rattle.cf_watch.specs.declared.letter.Came.{Came}
+use Rattle.cf_watch.specs.declared.ahead.Portion.{Portion}
+use Rattle.cf_watch.proofs.Portions.{nothing_kept}
 use Rattle.cf_watch.specs.declared.watching.FlowKey.{FlowKey}
 use Rattle.cf_watch.specs.declared.watching.Trail.{Trail}
 
@@ -185,17 +185,11 @@ heard_set n flows trails last ws p f t old w h at client_is asset_is is low = re
   found = λ client asset. h.found client asset ∙ sym (last_set client asset ws p old w at (ap (λ c. same_endpoint c client && (w.asset == asset)) client_is ∙ ap (λ a. same_endpoint old.client client && (a == asset)) asset_is));
 }
 
-pub nothing_at : (a : BTreeMap ℕ Came) (q : ℕ) → a.entries ≡ [] → get nat_cmp a q ≡ None
-nothing_at a q e = ap (lookup (is_at (nat_cmp q))) e
-
-nothing_known : (a : BTreeMap ℕ Came) (p : ℕ) → a.entries ≡ [] → known [] a p ≡ None
+nothing_known : (a : BTreeMap ℕ Portion) (p : ℕ) → a.entries ≡ [] → known [] a p ≡ None
 nothing_known a p e =
     let l : nat_lt p 0 ≡ false = grind (arith, nat_tests) in
-    let g : get nat_cmp a (p + 2 ^ 31) ≡ None = nothing_at a (p + 2 ^ 31) e in
+    let g : kept a (p + 2 ^ 31) ≡ None = nothing_kept a (p + 2 ^ 31) e in
     rw (l, g) refl
-
-nothing_kept : (a : BTreeMap ℕ Came) (q : ℕ) → a.entries ≡ [] → kept a q ≡ None
-nothing_kept a q e = ap (option_map came_value) (nothing_at a q e)
 
 -- a flow with nothing carried
 pub heard_first : (f : Flow) (t : Trail) (client : Endpoint) (asset origin : ℕ) (answered : Bool) (midstream : Option ℕ) → f.client ≡ client → f.asset ≡ asset → f.midstream ≡ midstream → f.bytes.items ≡ [] → f.born ≡ [] → f.conflict ≡ None →

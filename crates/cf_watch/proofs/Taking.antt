@@ -1,24 +1,24 @@
 -- What letters of a packet do to a flow, taken in two parts.
-use Rattle.std.proofs.Common.{◌≡◌, ◌≢◌, ◌==◌, if◌then◌else◌, ◌+◌, ◌^◌, ◌≤◌, ◌+ℤ◌, ◌⊎◌, ℕ, ℤ, pos, Bool, true, false, List, [], ◌∷◌, ◌++◌, length, replicate, Option, Some, None, refl, sym, ap, ◌∙◌, vec_items, is_some, nat_lt, get_or, option_map, inl, inr, arith, subst, length-append, append_assoc}
-use Rattle.std.proofs.lemmas.Bool.{cases_eq, cases_lt, eq-eqb, true≢false}
+use Rattle.std.proofs.Common.{◌≡◌, ◌≢◌, ◌==◌, if◌then◌else◌, ◌+◌, ◌-◌, ◌^◌, ◌<◌, ◌≤◌, ◌+ℤ◌, ◌-ℤ◌, ◌≤ℤ◌, ◌⊎◌, ℕ, ℤ, pos, negsuc, Bool, true, false, List, [], ◌∷◌, ◌++◌, length, replicate, Option, Some, None, refl, sym, ap, ◌∙◌, vec_items, is_some, nat_lt, get_or, option_map, unwrap_or, inl, inr, arith, subst, length-append, append_assoc}
+use Rattle.std.proofs.lemmas.Bool.{cases_eq, cases_lt, eq-eqb, false≢true, true≢false}
 use Rattle.std.proofs.lemmas.Bool.Decides.{nat_tests}
 use Rattle.std.proofs.lemmas.Int.{ints}
 use Rattle.std.proofs.lemmas.Option.{none-some}
 use Rattle.std.proofs.lemmas.List.{append-nil, get_or_append_left, get_or_push, length_push, replicate-append-replicate}
-use Rattle.std.specs.BTreeMap.{BTreeMap, get}
-use Rattle.std.specs.Ordering.{nat_cmp}
+use Rattle.std.specs.BTreeMap.{BTreeMap}
 use Rattle.std.specs.Option.{option_or}
-use Rattle.cf_stream.specs.Stream.{Letter, letter_from}
+use Rattle.cf_stream.specs.Stream.{Byte, Letter, Stream, letter_at, letter_from}
 use Rattle.cf_watch.specs.Carried.{Carried, Differs, IsConflictAfter, IsConflictOf, letter_of}
-use Rattle.cf_watch.specs.Kept.{Grows, Holds, Takes, TakesOut, came_value, kept, known, letter_value, stream_of}
-use Rattle.cf_watch.specs.Stretches.{is_own}
+use Rattle.cf_watch.specs.Kept.{Grows, Holds, IsRoom, Takes, kept, known, letter_of_portion, letter_value, row_value, stream_of}
+use Rattle.cf_watch.specs.Stretches.{FirstLetter, is_own, letter_came}
 use Rattle.cf_watch.specs.declared.flow.Conflict.{Conflict}
 use Rattle.cf_watch.specs.declared.flow.Flow.{Flow}
-use Rattle.cf_watch.specs.declared.letter.Came.{Came}
+use Rattle.cf_watch.specs.declared.ahead.Portion.{Portion}
 use Rattle.cf_watch.specs.declared.letter.Letter.{Letter as Heard}
 use Rattle.cf_watch.specs.declared.letter.Letter.TheVariants as heard
-use Rattle.cf_watch.proofs.Apart.{came_kept, came_not, holds_both, known_kept, own_not}
-use Rattle.cf_watch.proofs.Letters.{from_append, from_none, from_one, is_behind, is_within, none_of_bytes}
+use Rattle.cf_watch.proofs.Apart.{came_kept, came_not, first_or_none, holds_both, known_kept, own_not}
+use Rattle.cf_watch.proofs.Letters.{from_append, from_at, from_before, from_none, from_one, is_behind, is_within, none_of_bytes, shifted}
+use Rattle.cf_watch.proofs.Portions.{none_in_room}
 
 pub or_none : (x : Option Letter) → option_or x None ≡ x
 or_none None = refl
@@ -121,7 +121,7 @@ longer_by number old new g =
     let n : length new.bytes.items ≡ length old.bytes.items + length g.more = ap length g.bytes ∙ length-append old.bytes.items g.more in
     omega (arith, n)
 
-pub takes_both : (number : ℕ) (at : ℤ) (xs ys : List ℕ) (ended : Bool) (old mid new : Flow) (a b c : BTreeMap ℕ Came) →
+pub takes_both : (number : ℕ) (at : ℤ) (xs ys : List ℕ) (ended : Bool) (old mid new : Flow) (a b c : BTreeMap ℕ Portion) →
     Takes (bytes_from number at xs) old a mid b → Takes (letters_from number (at +ℤ pos (length xs)) ys ended) mid b new c →
     Takes (letters_from number at (xs ++ ys) ended) old a new c
 takes_both number at xs ys ended old mid new a b c h i = record {
@@ -156,7 +156,7 @@ no_conflict f c (Some k) new same none = same
 no_conflict f c None new same none = subst (λ (k : Option Conflict). IsConflictOf f c k) (sym same) none
 
 -- a letter where none was known
-pub takes_new : (number place : ℕ) (l : Heard) (old new : Flow) (a b : BTreeMap ℕ Came) → known old.bytes.items a place ≡ None →
+pub takes_new : (number place : ℕ) (l : Heard) (old new : Flow) (a b : BTreeMap ℕ Portion) → known old.bytes.items a place ≡ None →
     ((p : ℕ) → known new.bytes.items b p ≡ (if p == place then Some (letter_value l) else known old.bytes.items a p)) → Grows number old new → new.conflict ≡ old.conflict →
     Holds (record { number = number; at = pos place; text = stream_of l }) a (length new.bytes.items) b →
     Takes (record { number = number; at = pos place; text = stream_of l }) old a new b
@@ -172,7 +172,7 @@ takes_new number place l old new a b blank knows grows same holds = record {
 }
 
 -- a letter of a place where one is known is kept there, or stands among the bytes
-holds_known : (number place : ℕ) (l : Heard) (first : Letter) (bytes : List ℕ) (a : BTreeMap ℕ Came) → known bytes a place ≡ Some first →
+holds_known : (number place : ℕ) (l : Heard) (first : Letter) (bytes : List ℕ) (a : BTreeMap ℕ Portion) → known bytes a place ≡ Some first →
     Holds (record { number = number; at = pos place; text = stream_of l }) a (length bytes) a
 holds_known number place l first bytes a is q none =
     elim (cases_eq q (place + 2 ^ 31)) [
@@ -183,7 +183,7 @@ holds_known number place l first bytes a is q none =
     ]
 
 -- a letter where one was known
-pub takes_known : (number place : ℕ) (l first : Heard) (old new : Flow) (a : BTreeMap ℕ Came) → known old.bytes.items a place ≡ Some (letter_value first) →
+pub takes_known : (number place : ℕ) (l first : Heard) (old new : Flow) (a : BTreeMap ℕ Portion) → known old.bytes.items a place ≡ Some (letter_value first) →
     new.bytes ≡ old.bytes → Grows number old new → IsConflictAfter (known old.bytes.items a) (record { number = number; at = pos place; text = stream_of l }) old.conflict new.conflict →
     Takes (record { number = number; at = pos place; text = stream_of l }) old a new a
 takes_known number place l first old new a is same grows conflicts = record {
@@ -211,7 +211,7 @@ conflict_first f c (Some k) now new e i h = absurd (none-some k (sym e))
 conflict_first f c None now new e i h = subst (λ (k : Option Conflict). IsConflictOf f c k) (sym i) h
 
 -- a letter that differs from the one that was known
-pub takes_conflict : (number place : ℕ) (l first : Heard) (old new : Flow) (a : BTreeMap ℕ Came) → known old.bytes.items a place ≡ Some (letter_value first) → letter_value l ≢ letter_value first →
+pub takes_conflict : (number place : ℕ) (l first : Heard) (old new : Flow) (a : BTreeMap ℕ Portion) → known old.bytes.items a place ≡ Some (letter_value first) → letter_value l ≢ letter_value first →
     new.bytes ≡ old.bytes → Grows number old new → old.conflict ≡ None → new.conflict ≡ Some (record { at_record = number; position = pos place }) →
     Takes (record { number = number; at = pos place; text = stream_of l }) old a new a
 takes_conflict number place l first old new a is d same grows fresh now =
@@ -222,32 +222,153 @@ pub none_of : (k : Option Conflict) → is_some k ≡ false → k ≡ None
 none_of None h = refl
 none_of (Some k) h = absurd (true≢false h)
 
--- the byte that came ahead goes after the others
-pub knows_on : (old bytes : List ℕ) (b : ℕ) (a c : BTreeMap ℕ Came) → bytes ≡ old ++ b ∷ [] → TakesOut (length old) b a c → (p : ℕ) → known bytes c p ≡ known old a p
-knows_on old bytes b a c e t p =
+-- a byte goes after the others
+pub knows_push : (old bytes : List ℕ) (b : ℕ) (a : BTreeMap ℕ Portion) → bytes ≡ old ++ b ∷ [] → (p : ℕ) →
+    known bytes a p ≡ (if p == length old then Some (letter_value (heard.Byte b)) else known old a p)
+knows_push old bytes b a e p =
     let n : length bytes ≡ length old + 1 = ap length e ∙ length_push old b in
     elim (cases_lt p (length old)) [
       | inl v ↦ (let g : get_or bytes p 0 ≡ get_or old p 0 = ap (λ (xs : List ℕ). get_or xs p 0) e ∙ get_or_append_left old (b ∷ []) 0 p v in
           let l : nat_lt p (length bytes) ≡ true = rw n (grind (arith, nat_tests, v)) in
           let m : nat_lt p (length old) ≡ true = grind (arith, nat_tests, v) in
-          rw (l, m, g) refl)
+          let d : (p == length old) ≡ false = grind (arith, nat_tests, v) in
+          rw (l, m, g, d) refl)
       | inr v ↦
           let m : nat_lt p (length old) ≡ false = grind (arith, nat_tests, v) in
           elim (cases_eq p (length old)) [
             | inl i ↦ (let g : get_or bytes p 0 ≡ b = ap (λ (xs : List ℕ). get_or xs p 0) e ∙ get_or_push old b 0 p (sym i) in
                 let l : nat_lt p (length bytes) ≡ true = rw n (grind (arith, nat_tests, i)) in
-                let w : get nat_cmp a (p + 2 ^ 31) ≡ Some (record { letter = heard.Byte b; number = t.number }) = ap (λ (k : ℕ). get nat_cmp a (k + 2 ^ 31)) i ∙ t.was in
-                rw (l, m, g, w) refl)
+                rw (l, g, eq-eqb p (length old) i) refl)
             | inr d ↦ (let l : nat_lt p (length bytes) ≡ false = rw n (grind (arith, nat_tests, v, d)) in
-                rw (l, m) (ap (option_map (λ c. letter_value c.letter)) (t.others (p + 2 ^ 31) (λ x. d (omega (arith, x))))))
+                rw (l, m, ne-eqb p (length old) d) refl)
           ]
     ]
 
--- and all others are kept
-pub holds_on : (old bytes : List ℕ) (b : ℕ) (a c : BTreeMap ℕ Came) → bytes ≡ old ++ b ∷ [] → TakesOut (length old) b a c → (q : ℕ) →
-    is_own (length bytes) q ≡ false → kept c q ≡ kept a q
-holds_on old bytes b a c e t q none =
-    let n : length bytes ≡ length old + 1 = ap length e ∙ length_push old b in
-    ap (option_map came_value) (t.others q (λ x.
-    let past = own_not (length bytes) (length old) (subst (λ (k : ℕ). is_own (length bytes) k ≡ false) x none) in
-    absurd (omega (arith, n, past))))
+-- the byte that came ahead goes after the others
+pub knows_on : (old bytes : List ℕ) (b : ℕ) (a : BTreeMap ℕ Portion) → bytes ≡ old ++ b ∷ [] → option_map (λ c. c.letter) (kept a (length old + 2 ^ 31)) ≡ Some (Byte b) → (p : ℕ) →
+    known bytes a p ≡ known old a p
+knows_on old bytes b a e was p =
+    knows_push old bytes b a e p ∙ elim (cases_eq p (length old)) [
+      | inl i ↦ (let m : nat_lt p (length old) ≡ false = grind (arith, nat_tests, i) in
+          let w : option_map (λ c. c.letter) (kept a (p + 2 ^ 31)) ≡ Some (Byte b) = ap (λ (k : ℕ). option_map (λ (c : FirstLetter). c.letter) (kept a (k + 2 ^ 31))) i ∙ was in
+          rw (eq-eqb p (length old) i, m) (sym w))
+      | inr d ↦ rw (ne-eqb p (length old) d) refl
+    ]
+
+-- those that stand apart are the same after a byte of its own place
+pub holds_push : (number : ℕ) (l : Heard) (count : ℕ) (a : BTreeMap ℕ Portion) (q : ℕ) → is_own (count + 1) q ≡ false →
+    kept a q ≡ option_or (kept a q) (letter_came (record { number = number; at = pos count; text = stream_of l }) q)
+holds_push number l count a q none = came_not number (pos count) l a q (λ e.
+    let i : q ≡ count + 2 ^ 31 = omega (arith, ints, e) in
+    let past : count + 1 ≤ count = own_not (count + 1) count (subst (λ (k : ℕ). is_own (count + 1) k ≡ false) i none) in
+    omega (arith, past))
+
+-- ---- letters that are kept apart at once
+
+only_letter : (x : Option FirstLetter) (number : ℕ) (o : Option Letter) →
+    option_map (λ c. c.letter) (option_or x (option_map (λ (l : Letter). let r : FirstLetter = record { letter = l; number = number } in r) o)) ≡ option_or (option_map (λ c. c.letter) x) o
+only_letter None number None = refl
+only_letter None number (Some l) = refl
+only_letter (Some k) number o = refl
+
+came_letter : (c : Carried) (p : ℕ) → letter_came c (p + 2 ^ 31) ≡ option_map (λ (l : Letter). let r : FirstLetter = record { letter = l; number = c.number } in r) (letter_of c p)
+came_letter c p = ap (option_map (λ (l : Letter). let r : FirstLetter = record { letter = l; number = c.number } in r)) (shifted c.at c.text p (2 ^ 31))
+
+-- letters that none was known of, and are kept apart
+pub takes_apart : (c : Carried) (flow : Flow) (a b : BTreeMap ℕ Portion) → ((q : ℕ) → kept b q ≡ option_or (kept a q) (letter_came c q)) →
+    ((p : ℕ) (l : Letter) → letter_of c p ≡ Some l → known flow.bytes.items a p ≡ None) → Takes c flow a flow b
+takes_apart c flow a b holds blank = record {
+  knows = λ p.
+      elim (cases_lt p (length flow.bytes.items)) [
+        | inl v ↦ (let m : nat_lt p (length flow.bytes.items) ≡ true = grind (arith, nat_tests, v) in rw m refl)
+        | inr v ↦ (let m : nat_lt p (length flow.bytes.items) ≡ false = grind (arith, nat_tests, v) in
+            rw m (ap (option_map (λ (k : FirstLetter). k.letter)) (holds (p + 2 ^ 31) ∙ ap (option_or (kept a (p + 2 ^ 31))) (came_letter c p))
+            ∙ only_letter (kept a (p + 2 ^ 31)) c.number (letter_of c p)))
+      ];
+  holds = λ q none. holds q;
+  conflicts = no_conflict (known flow.bytes.items a) c flow.conflict flow.conflict refl (λ p x. none-some x.first (sym (blank p x.other x.is) ∙ x.was));
+  grows = grows_nothing c.number flow;
+}
+
+-- what is not known: none of the bytes, and not kept
+pub unknown : (bytes : List ℕ) (a : BTreeMap ℕ Portion) (p : ℕ) → length bytes ≤ p → kept a (p + 2 ^ 31) ≡ None → known bytes a p ≡ None
+unknown bytes a p v none =
+    let m : nat_lt p (length bytes) ≡ false = grind (arith, nat_tests, v) in
+    rw m (ap (option_map (λ (k : FirstLetter). k.letter)) none)
+
+natural : (z : ℤ) → pos 0 ≤ℤ z → (n : ℕ) × (z ≡ pos n)
+natural (pos n) h = (n, refl)
+natural (negsuc n) h = absurd (omega (arith, ints, h))
+
+-- bytes where there is room, and no byte of the flow
+pub takes_bytes : (number : ℕ) (at : ℤ) (xs : List ℕ) (flow : Flow) (a b : BTreeMap ℕ Portion) →
+    ((q : ℕ) → kept b q ≡ option_or (kept a q) (letter_came (bytes_from number at xs) q)) → (pos 0 -ℤ pos (2 ^ 31)) ≤ℤ at →
+    ((q : ℕ) → pos q ≡ at +ℤ pos (2 ^ 31) → IsRoom q (length xs) a) →
+    ((at +ℤ pos (length xs)) ≤ℤ pos 0) ⊎ (pos (length flow.bytes.items) ≤ℤ at) → Takes (bytes_from number at xs) flow a flow b
+takes_bytes number at xs flow a b holds from room apart =
+    takes_apart (bytes_from number at xs) flow a b holds (λ p l is.
+    let low = is_behind at (record { bytes = xs; ended = false }) p l is in
+    let high = is_within at xs p l is in
+    elim apart [
+      | inl v ↦ absurd (omega (arith, ints, high, v))
+      | inr v ↦ (let at_least : (n : ℕ) × (at ≡ pos n) = natural at (omega (arith, ints, v)) in
+          let n = at_least.0 in
+          let e : at ≡ pos n = at_least.1 in
+          let r : IsRoom (n + 2 ^ 31) (length xs) a = room (n + 2 ^ 31) (omega (arith, ints, e)) in
+          unknown flow.bytes.items a p (omega (arith, ints, v, low)) (none_in_room a (n + 2 ^ 31) (length xs) (p + 2 ^ 31) r (omega (arith, ints, low, e)) (omega (arith, ints, high, e))))
+    ])
+
+-- a portion stands for the letters of a packet
+pub kept_apart : (c : Carried) (p : Portion) (a b : BTreeMap ℕ Portion) (place : ℕ) → pos place ≡ c.at +ℤ pos (2 ^ 31) → p.number ≡ c.number → row_value p.letters ≡ c.text →
+    ((q : ℕ) → q < place → kept b q ≡ kept a q) → ((k : ℕ) → kept b (place + k) ≡ option_or (kept a (place + k)) (letter_of_portion p k)) → (q : ℕ) →
+    kept b q ≡ option_or (kept a q) (letter_came c q)
+kept_apart c p a b place here number text before behind q =
+    let z = c.at +ℤ pos (2 ^ 31) in
+    let f : ℕ → Letter → FirstLetter = λ n l. record { letter = l; number = n } in
+    elim (cases_lt q place) [
+      | inl v ↦ (let none : letter_came c q ≡ None = ap (option_map (f c.number)) (from_before z c.text q (omega (arith, ints, here, v))) in
+          before q v ∙ sym (ap (option_or (kept a q)) none ∙ first_or_none (kept a q)))
+      | inr v ↦
+          let k = q - place in
+          let e : place + k ≡ q = omega (arith, v) in
+          let is : letter_of_portion p k ≡ letter_came c q =
+          ap (λ (n : ℕ). option_map (f n) (letter_at (row_value p.letters) k)) number ∙ ap (λ (s : Stream). option_map (f c.number) (letter_at s k)) text
+          ∙ ap (option_map (f c.number)) (sym (from_at z c.text q k (omega (arith, ints, here, e)))) in
+          subst (λ (r : ℕ). kept b r ≡ option_or (kept a r) (letter_of_portion p k)) e (behind k) ∙ ap (option_or (kept a q)) is
+    ]
+
+-- a letter alone that none was known of
+pub takes_one : (number : ℕ) (at : ℤ) (l : Heard) (s : Stream) (flow : Flow) (a b : BTreeMap ℕ Portion) → s ≡ stream_of l →
+    ((q : ℕ) → kept b q ≡ option_or (kept a q) (letter_came (record { number = number; at = at; text = s }) q)) → pos 0 ≤ℤ at →
+    ((place : ℕ) → pos place ≡ at → known flow.bytes.items a place ≡ None) → Takes (record { number = number; at = at; text = stream_of l }) flow a flow b
+takes_one number at l s flow a b is holds from blank =
+    let place = (natural at from).0 in
+    let e : at ≡ pos place = (natural at from).1 in
+    takes_apart (record { number = number; at = at; text = stream_of l }) flow a b
+    (subst (λ (t : Stream). (q : ℕ) → kept b q ≡ option_or (kept a q) (letter_came (record { number = number; at = at; text = t }) q)) is holds)
+    (λ p x h. elim (cases_eq p place) [
+      | inl i ↦ blank p (ap pos i ∙ sym e)
+      | inr d ↦ absurd (none-some x (sym (from_none at l p (λ j. d (omega (arith, ints, j, e)))) ∙ h))
+    ])
+
+some_of : {X : Type 0} (o : Option X) (x y : X) → o ≡ Some x → o ≡ Some y → x ≡ y
+some_of {X = X} o x y h i = ap (λ (k : Option X). unwrap_or k x) (sym h ∙ i)
+
+-- the same letter makes no conflict
+pub no_differ : (number place : ℕ) (l first : Heard) (f : ℕ → Option Letter) → f place ≡ Some (letter_value first) → (letter_value l ≢ letter_value first → ⊥) → (p : ℕ) →
+    Differs f (record { number = number; at = pos place; text = stream_of l }) p → ⊥
+no_differ number place l first f is same p x =
+    elim (cases_eq p place) [
+      | inl e ↦
+          (let one : x.other ≡ letter_value l = some_of (letter_from (pos place) (stream_of l) p) x.other (letter_value l) x.is (from_one (pos place) l p (ap pos e)) in
+          let was : x.first ≡ letter_value first = some_of (f p) x.first (letter_value first) x.was (ap f e ∙ is) in
+          same (λ i. x.differ (one ∙ i ∙ sym was)))
+      | inr d ↦ none-some x.other (sym (from_none (pos place) l p (λ j. d (omega (arith, ints, j)))) ∙ x.is)
+    ]
+
+pub unchanged : (f : ℕ → Option Letter) (c : Carried) (k : Option Conflict) → ((p : ℕ) → Differs f c p → ⊥) → IsConflictAfter f c k k
+unchanged f c k none = no_conflict f c k k refl none
+
+pub stays : (f : ℕ → Option Letter) (c : Carried) (k : Option Conflict) → is_some k ≡ true → IsConflictAfter f c k k
+stays f c None h = absurd (false≢true h)
+stays f c (Some k) h = refl

@@ -1,14 +1,16 @@
 -- Steps of the proof: what a watcher keeps of a flow in memory, and what the letters of a packet do to it: `Takes`.
-use Rattle.std.specs.Prelude.{◌≡◌, ◌≢◌, ◌+◌, ◌^◌, ◌≤◌, ◌<◌, ℕ, nat_lt, if◌then◌else◌, List, [], ◌∷◌, ◌++◌, length, replicate, slice_index, true, false}
-use Rattle.std.specs.Prelude.{Option, Some, None, option_map}
+use Rattle.std.specs.Prelude.{◌≡◌, ◌+◌, ◌-◌, ◌^◌, ◌≤◌, ◌<◌, ℕ, zero, suc, nat_lt, if◌then◌else◌, List, [], ◌∷◌, ◌++◌, length, replicate, slice_index, true, false}
+use Rattle.std.specs.Prelude.{Option, Some, None, is_some, option_map}
 use Rattle.std.specs.BTreeMap.{BTreeMap, btree_map_len, get}
 use Rattle.std.specs.Option.{option_or}
 use Rattle.std.specs.Ordering.{nat_cmp}
-use Rattle.cf_stream.specs.Stream.{Byte, End, Letter, Stream, letter_from}
+use Rattle.cf_stream.specs.Stream.{Byte, End, Letter, Stream, letter_at, letter_count, letter_from}
 use Rattle.cf_watch.specs.Carried.{Carried, IsConflictAfter}
 use Rattle.cf_watch.specs.declared.flow.Flow.{Flow}
 use Rattle.cf_watch.specs.Stretches.{FirstLetter, Run as RunValue, apart, is_own, letter_came, runs_of}
-use Rattle.cf_watch.specs.declared.letter.Came.{Came}
+use Rattle.cf_watch.specs.declared.ahead.Letters.{Letters}
+use Rattle.cf_watch.specs.declared.ahead.Letters.TheVariants as row
+use Rattle.cf_watch.specs.declared.ahead.Portion.{Portion}
 use Rattle.cf_watch.specs.declared.letter.Letter.{Letter as Heard}
 use Rattle.cf_watch.specs.declared.stretches.Run.{Run}
 use Rattle.cf_watch.specs.declared.letter.Letter.TheVariants as heard
@@ -17,21 +19,41 @@ abbrev pub letter_value : Heard → Letter
 letter_value (heard.Byte b) = Byte b
 letter_value heard.End = End
 
--- the letter that is known at a place: a byte of the flow, or one that came ahead, whose place is counted from 2^31 below
-abbrev pub known : List ℕ → BTreeMap ℕ Came → ℕ → Option Letter
+-- the letters of a portion
+abbrev pub row_value : Letters → Stream
+row_value (row.Bytes v) = record { bytes = v.items; ended = false }
+row_value row.End = record { bytes = []; ended = true }
+
+-- the last portion that begins at a place or before it, and where it begins
+abbrev pub portion_at : BTreeMap ℕ Portion → (q : ℕ) → Option (ℕ × Portion)
+portion_at ahead zero = option_map (λ p. (zero, p)) (get nat_cmp ahead zero)
+portion_at ahead (suc q) = option_or (option_map (λ p. (suc q, p)) (get nat_cmp ahead (suc q))) (portion_at ahead q)
+
+-- the letter of a portion so far behind its beginning
+abbrev pub letter_of_portion : Portion → ℕ → Option FirstLetter
+letter_of_portion p k = option_map (λ l. record { letter = l; number = p.number }) (letter_at (row_value p.letters) k)
+
+-- the letter of a portion at a place
+abbrev pub portion_letter : (q : ℕ) → Option (ℕ × Portion) → Option FirstLetter
+portion_letter q None = None
+portion_letter q (Some e) = letter_of_portion e.1 (q - e.0)
+
+-- what is kept at a place, counted from 2^31 below
+abbrev pub kept : BTreeMap ℕ Portion → ℕ → Option FirstLetter
+kept ahead q = portion_letter q (portion_at ahead q)
+
+-- the letter that is known at a place: a byte of the flow, or one that came ahead
+abbrev pub known : List ℕ → BTreeMap ℕ Portion → ℕ → Option Letter
 known bytes ahead p =
-    if nat_lt p (length bytes) then Some (Byte (slice_index bytes p)) else option_map (λ c. letter_value c.letter) (get nat_cmp ahead (p + 2 ^ 31))
+    if nat_lt p (length bytes) then Some (Byte (slice_index bytes p)) else option_map (λ c. c.letter) (kept ahead (p + 2 ^ 31))
 
--- a letter with its record
-abbrev pub came_value : Came → FirstLetter
-came_value c = record { letter = letter_value c.letter; number = c.number }
-
--- what is kept at a place, so counted
-abbrev pub kept : BTreeMap ℕ Came → ℕ → Option FirstLetter
-kept ahead q = option_map came_value (get nat_cmp ahead q)
+-- from a place on so many letters can be kept: none is there, and no portion begins among the other places
+pub record IsRoom (place count : ℕ) (ahead : BTreeMap ℕ Portion) : Type 0 where
+  pub here : 0 < count → kept ahead place ≡ None
+  pub behind : (r : ℕ) → place < r → r < place + count → get nat_cmp ahead r ≡ None
 
 -- the letters of a packet were kept where none was, but where now the bytes of the flow stand, so many
-abbrev pub Holds : Carried → (old : BTreeMap ℕ Came) → (count : ℕ) → (new : BTreeMap ℕ Came) → Type 0
+abbrev pub Holds : Carried → (old : BTreeMap ℕ Portion) → (count : ℕ) → (new : BTreeMap ℕ Portion) → Type 0
 Holds c old count new = (q : ℕ) → is_own count q ≡ false → kept new q ≡ option_or (kept old q) (letter_came c q)
 
 -- the stream of one letter
@@ -49,29 +71,27 @@ pub record Grows (number : ℕ) (old new : Flow) : Type 0 where
   pub midstream : new.midstream ≡ old.midstream
 
 -- the letters of a packet were taken: each is known where none was, and the first that differs is a conflict
-pub record Takes (c : Carried) (old : Flow) (old_ahead : BTreeMap ℕ Came) (new : Flow) (new_ahead : BTreeMap ℕ Came) : Type 0 where
+pub record Takes (c : Carried) (old : Flow) (old_ahead : BTreeMap ℕ Portion) (new : Flow) (new_ahead : BTreeMap ℕ Portion) : Type 0 where
   pub knows : (p : ℕ) → known new.bytes.items new_ahead p ≡ option_or (known old.bytes.items old_ahead p) (letter_from c.at c.text p)
   pub holds : Holds c old_ahead (length new.bytes.items) new_ahead
   pub conflicts : IsConflictAfter (known old.bytes.items old_ahead) c old.conflict new.conflict
   pub grows : Grows c.number old new
 
--- a byte was taken out of those that came ahead
-pub record TakesOut (place byte : ℕ) (old new : BTreeMap ℕ Came) : Type 0 where
-  pub number : ℕ
-  pub was : get nat_cmp old (place + 2 ^ 31) ≡ Some (record { letter = heard.Byte byte; number = number })
-  pub others : (q : ℕ) → q ≢ place + 2 ^ 31 → get nat_cmp new q ≡ get nat_cmp old q
-  pub fewer : btree_map_len new + 1 ≡ btree_map_len old
+-- of a portion from a place on these are the letters up to where the next one begins
+pub record IsUpToNext (ahead : BTreeMap ℕ Portion) (start : ℕ) (all first : Portion) : Type 0 where
+  pub number : first.number ≡ all.number
+  pub none_between : (r : ℕ) → start < r → r < start + letter_count (row_value first.letters) → get nat_cmp ahead r ≡ None
+  pub same : (k : ℕ) → k < letter_count (row_value first.letters) → letter_at (row_value first.letters) k ≡ letter_at (row_value all.letters) k
+  pub rest : (k : ℕ) → letter_count (row_value first.letters) ≤ k → ((r : ℕ) → r ≤ start + k → get nat_cmp ahead r ≡ None)
+      → letter_at (row_value all.letters) k ≡ None
 
--- no byte stands there
-abbrev pub HasNoByte : (place : ℕ) → BTreeMap ℕ Came → Type 0
-HasNoByte place ahead = (byte number : ℕ) → get nat_cmp ahead (place + 2 ^ 31) ≢ Some (record { letter = heard.Byte byte; number = number })
-
--- this letter stood at the lowest place, and was taken out
-pub record IsFirst (place : ℕ) (came : Came) (old new : BTreeMap ℕ Came) : Type 0 where
-  pub was : get nat_cmp old place ≡ Some came
-  pub none_before : (q : ℕ) → q < place → get nat_cmp old q ≡ None
-  pub gone : get nat_cmp new place ≡ None
-  pub others : (q : ℕ) → q ≢ place → get nat_cmp new q ≡ get nat_cmp old q
+-- the portion that began at the lowest place, up to where the next one begins, was taken out
+pub record IsFirst (place : ℕ) (first : Portion) (old new : BTreeMap ℕ Portion) : Type 0 where
+  pub begins : is_some (get nat_cmp old place) ≡ true
+  pub was : (k : ℕ) → k < letter_count (row_value first.letters) → kept old (place + k) ≡ letter_of_portion first k
+  pub none_before : (q : ℕ) → q < place → kept old q ≡ None
+  pub gone : (r : ℕ) → r < place + letter_count (row_value first.letters) → get nat_cmp new r ≡ None
+  pub others : (q : ℕ) → place + letter_count (row_value first.letters) ≤ q → kept new q ≡ kept old q
   pub fewer : btree_map_len new + 1 ≡ btree_map_len old
 
 -- a run without where it lies in memory
@@ -79,7 +99,7 @@ abbrev pub run_value : Run → RunValue
 run_value r = record { start = r.start; first = r.first; bytes = r.bytes.items; born = r.born; newest = r.newest }
 
 -- these are the runs of all letters that are kept, the last one first, but at the places of the bytes of the flow, which has so many
-pub record HasRuns (count : ℕ) (ahead : BTreeMap ℕ Came) (runs : List RunValue) : Type 0 where
+pub record HasRuns (count : ℕ) (ahead : BTreeMap ℕ Portion) (runs : List RunValue) : Type 0 where
   pub places : ℕ
-  pub none_behind : (q : ℕ) → places ≤ q → get nat_cmp ahead q ≡ None
+  pub none_behind : (q : ℕ) → places ≤ q → kept ahead q ≡ None
   pub are_runs : runs ≡ runs_of (apart count (kept ahead)) places

@@ -1,23 +1,19 @@
 //! What the letters of a packet do to a flow.
-ghost use Rattle.std.specs.Prelude.{◌≡◌, ◌==◌, ◌≢◌, ◌+◌, ◌^◌, ◌++◌, ◌∷◌, [], IfSome, ◌<◌, ◌≤◌, ◌≤ℤ◌, ℕ, pos, None, Some};
-ghost use Rattle.std.specs.Prelude.{OnOk, false, if◌then◌else◌, length, option_map, ◌↔◌, IsTrue, ◌-ℤ◌, ◌<ℤ◌, ◌+ℤ◌};
-ghost use Rattle.std.specs.BTreeMap.{get};
-ghost use Rattle.std.specs.Ordering.{nat_cmp};
-ghost use Rattle.cf_stream.specs.Stream.{Byte};
-ghost use Rattle.cf_watch.specs.Kept.{Grows, HasNoByte, Holds, Takes, TakesOut, kept, known, letter_value, stream_of};
-ghost use Rattle.cf_watch.specs.Stretches.{is_own};
+ghost use Rattle.std.specs.Prelude.{◌≡◌, ◌≢◌, ◌+◌, ◌^◌, ◌++◌, ◌∷◌, [], IfSome, ◌<◌, ◌≤◌, ◌≤ℤ◌, ◌⊎◌, ℕ, pos, None, Some};
+ghost use Rattle.std.specs.Prelude.{OnOk, IfOk, false, length, option_map, take, ◌↔◌, IsTrue, ◌-ℤ◌, ◌<ℤ◌, ◌+ℤ◌};
+ghost use Rattle.std.specs.Option.{option_or};
+ghost use Rattle.cf_stream.specs.Stream.{Byte, letter_count};
+ghost use Rattle.cf_watch.specs.Kept.{Grows, IsRoom, Takes, kept, known, letter_value, row_value, stream_of};
+ghost use Rattle.cf_watch.specs.Stretches.{letter_came};
 
+use crate::ahead::{Ahead, Letters, Portion, keep_portion, letter_kept, room_at};
 use crate::flow::{Conflict, Flow};
-use crate::letter::{Came, Letter};
+use crate::letter::Letter;
 use cf_view::NoMemory;
-use std::collections::BTreeMap;
+use std::alloc::Global;
 
 /// How far below position 0 a letter stands at most, since numbers are read within 2^31 of a position that is at least 0.
 pub(crate) const BELOW: u64 = 1 << 31;
-
-/// Letters by their places, counted from `BELOW` places below position 0, where no byte of the flow stands yet: those that came ahead of
-/// their turn, and those below position 0.
-pub(crate) type Ahead = BTreeMap<u64, Came>;
 
 /// The letter that is known at a place.
 fn letter_at(bytes: &[u8], ahead: &Ahead, place: u64) -> Option<Letter>
@@ -27,10 +23,7 @@ fn letter_at(bytes: &[u8], ahead: &Ahead, place: u64) -> Option<Letter>
     if place < bytes.len() as u64 {
         return Some(Letter::Byte(bytes[place as usize]));
     }
-    match ahead.get(&(place + BELOW)) {
-        Some(came) => Some(came.letter),
-        None => None,
-    }
+    letter_kept(ahead, place + BELOW)
 }
 
 /// Puts a byte after the others.
@@ -46,71 +39,119 @@ fn push(flow: &mut Flow, number: u64, byte: u8) -> Result<(), NoMemory>
     Ok(())
 }
 
-/// Keeps a letter at a place where none is known.
-fn keep(
-    flow: &mut Flow,
-    ahead: &mut Ahead,
-    number: u64,
-    place: u64,
-    letter: Letter,
-) -> Result<(), NoMemory>
-    requires number { number < 2 ^ 32 }
-    requires place { place ≤ 2 ^ 63 }
-    requires blank { known flow.old.bytes.items ahead.old place ≡ None }
-    ensures holds { OnOk result (Holds (record { number = number; at = pos place; text = stream_of letter }) ahead.old
-        (length flow.new.bytes.items) ahead.new) }
-    ensures knows { OnOk result ((p : ℕ) → known flow.new.bytes.items ahead.new p
-        ≡ (if p == place then Some (letter_value letter) else known flow.old.bytes.items ahead.old p)) }
-    ensures grows { OnOk result (Grows number flow.old flow.new) }
-    ensures conflict { flow.new.conflict ≡ flow.old.conflict }
+/// Where a letter stands among those that stand apart.
+fn key_at(at: i64) -> u64
+    requires from { (pos 0 -ℤ pos (2 ^ 31)) ≤ℤ at }
+    requires past { at ≤ℤ pos (2 ^ 62 + 2 ^ 16) }
+    ensures { pos result ≡ at +ℤ pos (2 ^ 31) }
 {
-    match letter {
-        Letter::Byte(byte) if place == flow.bytes.len() as u64 => push(flow, number, byte),
-        Letter::Byte(_) | Letter::End => insert(ahead, place + BELOW, number, letter),
+    (at + BELOW as i64) as u64
+}
+
+/// Letters that came with this record.
+fn portion_of(number: u64, letters: Letters) -> Portion
+    requires { number < 2 ^ 32 }
+    ensures letters { row_value result.letters ≡ row_value letters }
+    ensures number { result.number ≡ number }
+{
+    Portion {
+        letters,
+        number: number as u32,
     }
 }
 
-/// Puts a letter among those that stand apart from the bytes of their flow.
-fn insert(ahead: &mut Ahead, key: u64, number: u64, letter: Letter) -> Result<(), NoMemory>
+/// Keeps letters apart where there is room for them.
+fn keep_apart(ahead: &mut Ahead, number: u64, at: i64, letters: Letters) -> Result<(), NoMemory>
     requires number { number < 2 ^ 32 }
-    ensures { OnOk result ((q : ℕ) → get nat_cmp ahead.new q
-        ≡ (if q == key then Some (record { letter = letter; number = number }) else get nat_cmp ahead.old q)) }
+    requires from { (pos 0 -ℤ pos (2 ^ 31)) ≤ℤ at }
+    requires past { at ≤ℤ pos (2 ^ 62 + 2 ^ 16) }
+    requires some { 0 < letter_count (row_value letters) }
+    requires room { (q : ℕ) → pos q ≡ at +ℤ pos (2 ^ 31) → IsRoom q (letter_count (row_value letters)) ahead.old }
+    ensures { OnOk result ((q : ℕ) → kept ahead.new q
+        ≡ option_or (kept ahead.old q) (letter_came (record { number = number; at = at; text = row_value letters }) q)) }
 {
-    let came = Came {
-        letter,
-        number: number as u32,
-    };
-    match ahead.insert(key, came) {
-        Ok(_) => Ok(()),
-        Err(_) => Err(NoMemory),
+    let portion = portion_of(number, letters);
+    keep_portion(ahead, key_at(at), portion)?;
+    Ok(())
+}
+
+/// A letter alone.
+fn one(alloc: Global, letter: Letter) -> Result<Letters, NoMemory>
+    ensures { IfOk result (λ letters. row_value letters ≡ stream_of letter) }
+{
+    match letter {
+        Letter::Byte(byte) => {
+            let mut bytes = Vec::new(alloc);
+            match bytes.push(byte) {
+                Ok(()) => Ok(Letters::Bytes(bytes)),
+                Err(_) => Err(NoMemory),
+            }
+        }
+        Letter::End => Ok(Letters::End),
+    }
+}
+
+/// Keeps a letter where none is known: the next byte with the others, and else apart.
+fn keep(
+    alloc: Global,
+    flow: &mut Flow,
+    ahead: &mut Ahead,
+    number: u64,
+    at: i64,
+    letter: Letter,
+) -> Result<(), NoMemory>
+    requires number { number < 2 ^ 32 }
+    requires from { pos 0 ≤ℤ at }
+    requires past { at ≤ℤ pos (2 ^ 62 + 2 ^ 16) }
+    requires blank { (place : ℕ) → pos place ≡ at → known flow.old.bytes.items ahead.old place ≡ None }
+    ensures takes { OnOk result (Takes (record { number = number; at = at; text = stream_of letter }) flow.old ahead.old flow.new
+        ahead.new) }
+{
+    match next_byte(flow.bytes.len(), at, letter) {
+        Some(byte) => {
+            push(flow, number, byte)?;
+            Ok(())
+        }
+        None => {
+            let letters = one(alloc, letter)?;
+            keep_apart(ahead, number, at, letters)?;
+            Ok(())
+        }
+    }
+}
+
+/// The byte that a letter is, where it stands behind those of a flow, which has so many.
+fn next_byte(count: usize, at: i64, letter: Letter) -> Option<u8>
+    requires { pos 0 ≤ℤ at }
+    ensures letter { IfSome result (λ byte. letter ≡ Letter.Byte byte) }
+    ensures place { IfSome result (λ byte. pos count ≡ at) }
+{
+    match letter {
+        Letter::Byte(byte) if at as u64 == count as u64 => Some(byte),
+        Letter::Byte(_) | Letter::End => None,
     }
 }
 
 /// Keeps a letter below position 0, where none is kept.
-fn keep_below(ahead: &mut Ahead, number: u64, at: i64, letter: Letter) -> Result<(), NoMemory>
+fn keep_below(
+    alloc: Global,
+    ahead: &mut Ahead,
+    number: u64,
+    at: i64,
+    letter: Letter,
+) -> Result<(), NoMemory>
     requires number { number < 2 ^ 32 }
     requires from { (pos 0 -ℤ pos (2 ^ 31)) ≤ℤ at }
     requires to { at <ℤ pos 0 }
-    ensures same { OnOk result ((p : ℕ) → get nat_cmp ahead.new (p + 2 ^ 31) ≡ get nat_cmp ahead.old (p + 2 ^ 31)) }
-    ensures holds { OnOk result ((count : ℕ) → Holds (record { number = number; at = at; text = stream_of letter }) ahead.old count
-        ahead.new) }
+    ensures { OnOk result ((q : ℕ) → kept ahead.new q
+        ≡ option_or (kept ahead.old q) (letter_came (record { number = number; at = at; text = stream_of letter }) q)) }
 {
-    let key = key_below(at);
-    if ahead.contains_key(&key) {
+    if letter_kept(ahead, key_at(at)).is_some() {
         return Ok(());
     }
-    insert(ahead, key, number, letter)?;
+    let letters = one(alloc, letter)?;
+    keep_apart(ahead, number, at, letters)?;
     Ok(())
-}
-
-/// The place of a letter below position 0, counted from `BELOW` places below it.
-fn key_below(at: i64) -> u64
-    requires from { (pos 0 -ℤ pos (2 ^ 31)) ≤ℤ at }
-    requires to { at <ℤ pos 0 }
-    ensures key { pos result ≡ at +ℤ pos (2 ^ 31) }
-    ensures low { result < 2 ^ 31 }
-{
-    (at + BELOW as i64) as u64
 }
 
 /// Whether two letters differ.
@@ -122,6 +163,7 @@ fn differ(first: Letter, other: Letter) -> bool
 
 /// Takes a letter that a packet carries.
 fn carry_letter(
+    alloc: Global,
     flow: &mut Flow,
     ahead: &mut Ahead,
     number: u64,
@@ -130,17 +172,18 @@ fn carry_letter(
 ) -> Result<(), NoMemory>
     requires number { number < 2 ^ 32 }
     requires from { (pos 0 -ℤ pos (2 ^ 31)) ≤ℤ at }
+    requires past { at ≤ℤ pos (2 ^ 62 + 2 ^ 16) }
     ensures takes { OnOk result (Takes (record { number = number; at = at; text = stream_of letter }) flow.old ahead.old flow.new
         ahead.new) }
 {
     if at < 0 {
-        keep_below(ahead, number, at, letter)?;
+        keep_below(alloc, ahead, number, at, letter)?;
         return Ok(());
     }
     let place = at as u64;
     match letter_at(flow.bytes.as_slice(), ahead, place) {
         None => {
-            keep(flow, ahead, number, place, letter)?;
+            keep(alloc, flow, ahead, number, at, letter)?;
             Ok(())
         }
         Some(first) => {
@@ -155,8 +198,77 @@ fn carry_letter(
     }
 }
 
+/// How many letters of a packet, at most so many, can be kept apart at once from a place on, where the flow has so many bytes.
+fn room_apart(count: usize, ahead: &Ahead, at: i64, most: usize) -> usize
+    requires from { (pos 0 -ℤ pos (2 ^ 31)) ≤ℤ at }
+    requires past { at ≤ℤ pos (2 ^ 62 + 2 ^ 16) }
+    ensures most { result ≤ most }
+    ensures room { (q : ℕ) → pos q ≡ at +ℤ pos (2 ^ 31) → IsRoom q result ahead.now }
+    ensures apart { 0 < result → ((at +ℤ pos result) ≤ℤ pos 0) ⊎ (pos count ≤ℤ at) }
+{
+    if at < 0 {
+        return room_at(ahead, key_at(at), most.min((0 - at) as usize));
+    }
+    if at as u64 <= count as u64 {
+        return 0;
+    }
+    room_at(ahead, key_at(at), most)
+}
+
+/// Keeps bytes apart where there is room for them.
+fn keep_bytes(
+    alloc: Global,
+    ahead: &mut Ahead,
+    number: u64,
+    at: i64,
+    bytes: &[u8],
+) -> Result<(), NoMemory>
+    requires number { number < 2 ^ 32 }
+    requires from { (pos 0 -ℤ pos (2 ^ 31)) ≤ℤ at }
+    requires past { at ≤ℤ pos (2 ^ 62 + 2 ^ 16) }
+    requires some { 0 < length bytes.now }
+    requires room { (q : ℕ) → pos q ≡ at +ℤ pos (2 ^ 31) → IsRoom q (length bytes.now) ahead.old }
+    ensures { OnOk result ((q : ℕ) → kept ahead.new q ≡ option_or (kept ahead.old q)
+        (letter_came (record { number = number; at = at; text = record { bytes = bytes.now; ended = false } }) q)) }
+{
+    let mut own = Vec::new(alloc);
+    if own.extend_from_slice(bytes).is_err() {
+        return Err(NoMemory);
+    }
+    keep_apart(ahead, number, at, Letters::Bytes(own))?;
+    Ok(())
+}
+
+/// Takes the first bytes of a text that a packet carries, and answers how many.
+fn carry_some(
+    alloc: Global,
+    flow: &mut Flow,
+    ahead: &mut Ahead,
+    number: u64,
+    at: i64,
+    text: &[u8],
+) -> Result<usize, NoMemory>
+    requires number { number < 2 ^ 32 }
+    requires from { (pos 0 -ℤ pos (2 ^ 31)) ≤ℤ at }
+    requires past { at ≤ℤ pos (2 ^ 62 + 2 ^ 16) }
+    requires some { 0 < length text.now }
+    ensures some { IfOk result (λ n. 0 < n) }
+    ensures most { IfOk result (λ n. n ≤ length text.now) }
+    ensures takes { IfOk result (λ n. Takes (record { number = number; at = at; text = record { bytes = take n text.now; ended = false } })
+        flow.old ahead.old flow.new ahead.new) }
+{
+    let count = room_apart(flow.bytes.len(), ahead, at, text.len());
+    if count == 0 {
+        carry_letter(alloc, flow, ahead, number, at, Letter::Byte(text[0]))?;
+        return Ok(1);
+    }
+    keep_bytes(alloc, ahead, number, at, &text[..count])?;
+    Ok(count)
+}
+
 /// Takes the bytes that a packet carries, the first of them at a place.
 fn carry_text(
+    alloc: Global,
     flow: &mut Flow,
     ahead: &mut Ahead,
     number: u64,
@@ -170,14 +282,16 @@ fn carry_text(
     ensures takes { OnOk result (Takes (record { number = number; at = at; text = record { bytes = text.now; ended = false } }) flow.old
         ahead.old flow.new ahead.new) }
 {
-    for (i, byte) in text.iter().enumerate() {
-        carry_letter(flow, ahead, number, at + i as i64, Letter::Byte(*byte))?;
+    let mut i = 0;
+    'letters: while i < text.len() {
+        i += carry_some(alloc, flow, ahead, number, at + i as i64, &text[i..])?;
     }
     Ok(())
 }
 
 /// Takes the letters of a packet.
 pub(crate) fn carry(
+    alloc: Global,
     flow: &mut Flow,
     ahead: &mut Ahead,
     number: u64,
@@ -192,57 +306,32 @@ pub(crate) fn carry(
     ensures takes { OnOk result (Takes (record { number = number; at = at; text = record { bytes = text.now; ended = ended } }) flow.old
         ahead.old flow.new ahead.new) }
 {
-    carry_text(flow, ahead, number, at, text)?;
+    carry_text(alloc, flow, ahead, number, at, text)?;
     if ended {
-        carry_letter(flow, ahead, number, at + text.len() as i64, Letter::End)?;
+        carry_letter(
+            alloc,
+            flow,
+            ahead,
+            number,
+            at + text.len() as i64,
+            Letter::End,
+        )?;
     }
     Ok(())
 }
 
 /// Goes on over the bytes that came ahead, up to the first gap or End.
-pub(crate) fn advance(flow: &mut Flow, ahead: &mut Ahead, number: u64) -> Result<(), NoMemory>
+pub(crate) fn advance(flow: &mut Flow, ahead: &Ahead, number: u64) -> Result<(), NoMemory>
     requires number { number < 2 ^ 32 }
-    ensures knows { OnOk result ((p : ℕ) → known flow.new.bytes.items ahead.new p ≡ known flow.old.bytes.items ahead.old p) }
-    ensures holds { OnOk result ((q : ℕ) → is_own (length flow.new.bytes.items) q ≡ false → kept ahead.new q ≡ kept ahead.old q) }
+    ensures knows { OnOk result ((p : ℕ) → known flow.new.bytes.items ahead.now p ≡ known flow.old.bytes.items ahead.now p) }
     ensures grows { OnOk result (Grows number flow.old flow.new) }
-    ensures stops { OnOk result ((b : ℕ) → known flow.new.bytes.items ahead.new (length flow.new.bytes.items) ≢ Some (Byte b)) }
+    ensures stops { OnOk result ((b : ℕ) → known flow.new.bytes.items ahead.now (length flow.new.bytes.items) ≢ Some (Byte b)) }
     ensures conflict { flow.new.conflict ≡ flow.old.conflict }
 {
     'bytes: loop {
-        match take_next(flow.bytes.len() as u64, ahead) {
-            Some(byte) => push(flow, number, byte)?,
-            None => return Ok(()),
+        match letter_kept(ahead, flow.bytes.len() as u64 + BELOW) {
+            Some(Letter::Byte(byte)) => push(flow, number, byte)?,
+            Some(Letter::End) | None => return Ok(()),
         }
-    }
-}
-
-/// Takes the byte at a place out, if one is there.
-fn take_next(place: u64, ahead: &mut Ahead) -> Option<u8>
-    requires { place ≤ 2 ^ 63 }
-    ensures some { IfSome result (λ byte. TakesOut place byte ahead.old ahead.new) }
-    ensures none { result ≡ None → HasNoByte place ahead.new }
-    ensures same { result ≡ None → ahead.new ≡ ahead.old }
-{
-    let key = place + BELOW;
-    match byte_at(ahead, key) {
-        Some(byte) => {
-            let _ = ahead.remove(&key);
-            Some(byte)
-        }
-        None => None,
-    }
-}
-
-/// The byte that stands under a key, if one does.
-fn byte_at(ahead: &Ahead, key: u64) -> Option<u8>
-    ensures some { IfSome result (λ byte. (n : ℕ) × (get nat_cmp ahead.now key ≡ Some (record { letter = Letter.Byte byte; number = n }))) }
-    ensures none { result ≡ None → (byte n : ℕ) → get nat_cmp ahead.now key ≢ Some (record { letter = Letter.Byte byte; number = n }) }
-{
-    match ahead.get(&key) {
-        Some(came) => match came.letter {
-            Letter::Byte(byte) => Some(byte),
-            Letter::End => None,
-        },
-        None => None,
     }
 }

@@ -1,6 +1,7 @@
 //! The flows of a capture, as a watcher between the clients and the assets sees them.
 #![tactic(auto)]
 
+mod ahead;
 mod born;
 mod carry;
 mod fault;

@@ -1,18 +1,17 @@
 //! The bytes of flows that do not follow on their first ones.
 ghost use Rattle.std.specs.Prelude.{◌≡◌, ◌∷◌, [], ◌++◌, ◌^◌, ◌≤◌, List, IfOk, OnOk, Option, Some, None, if◌then◌else◌, length, map, pos, reverse, ◌==◌, ◌+◌};
-ghost use Rattle.std.specs.Prelude.{ℕ, slice_get, IfSome};
-ghost use Rattle.std.specs.BTreeMap.{get};
-ghost use Rattle.std.specs.Ordering.{nat_cmp};
+ghost use Rattle.std.specs.Prelude.{ℕ, slice_index, ◌<◌};
+ghost use Rattle.cf_stream.specs.Stream.{Byte, letter_count};
 ghost use Rattle.cf_watch.specs.FlowValue.{flow_value, stretch_value};
-ghost use Rattle.cf_watch.specs.Kept.{HasRuns, IsFirst, came_value, run_value};
-ghost use Rattle.cf_watch.specs.Stretches.{all_stretches, is_nil, is_own, longer, run_at, stretch_of, stretches_from, stretches_of, with_byte, with_place};
+ghost use Rattle.cf_watch.specs.Kept.{HasRuns, letter_of_portion, row_value, run_value};
+ghost use Rattle.cf_watch.specs.Stretches.{FirstLetter, all_stretches, apart, is_nil, is_own, longer, run_at, runs_of, stretch_of, stretches_from, stretches_of, with_byte, with_place};
 ghost use Rattle.cf_watch.specs.Trail.{IsHeard, IsWatchOf};
 ghost use Rattle.cf_watch.specs.Watched.{Watched};
 
+use crate::ahead::{Ahead, Letters, Portion, take_first};
 use crate::born::Born;
-use crate::carry::{Ahead, BELOW};
+use crate::carry::BELOW;
 use crate::flow::{Flow, Stretch};
-use crate::letter::{Came, Letter};
 use crate::watching::{Trail, Watch};
 use cf_view::NoMemory;
 use std::alloc::Global;
@@ -101,22 +100,68 @@ fn push_run(runs: &mut Vec<Run>, run: Run) -> Result<(), NoMemory>
     }
 }
 
-/// Puts a letter among the runs of all before it, but for End, and the place of a byte of the flow itself, of which it has so many.
-fn put_letter(
+/// Puts a byte among the runs of all before it, but for that at a place of the flow itself, of which it has so many.
+fn put_apart(
     alloc: Global,
     runs: &mut Vec<Run>,
     count: usize,
     place: u64,
-    came: Came,
+    byte: u8,
+    number: u32,
 ) -> Result<(), NoMemory>
     ensures { OnOk result (reverse (map run_value runs.new.items) ≡ with_place place
-        (if is_own count place then None else Some (came_value came)) (reverse (map run_value runs.old.items))) }
+        (if is_own count place then None else Some (record { letter = Byte byte; number = number })) (reverse (map run_value runs.old.items))) }
 {
-    match came.letter {
-        Letter::Byte(byte) if !is_own(count, place) => {
-            put_byte(alloc, runs, place, byte, came.number)
-        }
-        Letter::Byte(_) | Letter::End => Ok(()),
+    if is_own(count, place) {
+        return Ok(());
+    }
+    put_byte(alloc, runs, place, byte, number)
+}
+
+/// Puts the bytes of a portion, which begins at a place, among the runs of all before it.
+fn put_bytes(
+    alloc: Global,
+    runs: &mut Vec<Run>,
+    count: usize,
+    start: u64,
+    bytes: &[u8],
+    number: u32,
+) -> Result<(), NoMemory>
+    ensures { OnOk result ((f : ℕ → Option FirstLetter) → ((k : ℕ) → k < length bytes.now → f (start + k)
+        ≡ Some (record { letter = Byte (slice_index bytes.now k); number = number })) → reverse (map run_value runs.old.items) ≡ runs_of (apart count f) start
+        → reverse (map run_value runs.new.items) ≡ runs_of (apart count f) (start + length bytes.now)) }
+{
+    for (i, byte) in bytes.iter().enumerate() {
+        let Some(place) = start.checked_add(i as u64) else {
+            return Err(NoMemory);
+        };
+        put_apart(alloc, runs, count, place, *byte, number)?;
+    }
+    Ok(())
+}
+
+/// Puts a portion, which begins at a place, among the runs of all before it.
+fn put_portion(
+    alloc: Global,
+    runs: &mut Vec<Run>,
+    count: usize,
+    start: u64,
+    portion: &Portion,
+) -> Result<(), NoMemory>
+    ensures { OnOk result ((f : ℕ → Option FirstLetter) → ((k : ℕ) → k < letter_count (row_value portion.now.letters) → f (start + k)
+        ≡ letter_of_portion portion.now k) → reverse (map run_value runs.old.items) ≡ runs_of (apart count f) start
+        → reverse (map run_value runs.new.items) ≡ runs_of (apart count f) (start + letter_count (row_value portion.now.letters))) }
+{
+    match &portion.letters {
+        Letters::Bytes(bytes) => put_bytes(
+            alloc,
+            runs,
+            count,
+            start,
+            bytes.as_slice(),
+            portion.number,
+        ),
+        Letters::End => Ok(()),
     }
 }
 
@@ -125,20 +170,12 @@ fn runs_in(alloc: Global, count: usize, ahead: &mut Ahead) -> Result<Vec<Run>, N
     ensures { IfOk result (λ runs. HasRuns count ahead.old (reverse (map run_value runs.items))) }
 {
     let mut runs = Vec::new(alloc);
-    'letters: loop {
+    'portions: loop {
         match take_first(ahead) {
-            Some((place, came)) => put_letter(alloc, &mut runs, count, place, came)?,
+            Some((start, portion)) => put_portion(alloc, &mut runs, count, start, &portion)?,
             None => return Ok(runs),
         }
     }
-}
-
-/// Takes the letter of the lowest place out, if there is one.
-fn take_first(ahead: &mut Ahead) -> Option<(u64, Came)>
-    ensures some { IfSome result (λ p. IsFirst p.0 p.1 ahead.old ahead.new) }
-    ensures none { result ≡ None → (q : ℕ) → get nat_cmp ahead.old q ≡ None }
-{
-    ahead.pop_first()
 }
 
 /// The position of the gap, which the first run of a flow tells.

@@ -13,8 +13,9 @@ ghost use Rattle.cf_policy.specs.AtEndpoint.{asset_place};
 ghost use Rattle.cf_watch.specs.Seen.{begins_amid, begun_with, goes_from, goes_to_asset, packet_by, with_frame};
 ghost use Rattle.cf_watch.specs.Watched.{Watched, begins_anew, goes_at, with_packet};
 
+use crate::ahead::Ahead;
 use crate::born::Born;
-use crate::carry::{Ahead, advance, carry};
+use crate::carry::{advance, carry};
 use crate::flow::Flow;
 use crate::place::{has, has_fin, is_opening, text_place, top_after};
 use crate::scope::Scope;
@@ -67,6 +68,7 @@ pub(crate) struct Watch {
 
 /// Takes a packet of a flow.
 fn hear(
+    alloc: Global,
     flow: &mut Flow,
     trail: &mut Trail,
     number: u64,
@@ -81,8 +83,16 @@ fn hear(
 {
     let at = text_place(packet, trail.origin, trail.top);
     let ended = has_fin(packet);
-    carry(flow, &mut trail.ahead, number, at, packet.text, ended)?;
-    advance(flow, &mut trail.ahead, number)?;
+    carry(
+        alloc,
+        flow,
+        &mut trail.ahead,
+        number,
+        at,
+        packet.text,
+        ended,
+    )?;
+    advance(flow, &trail.ahead, number)?;
     trail.top = top_after(trail.top, at, letters_in(packet.text, ended));
     trail.answered = is_answered(trail.answered, packet);
     Ok(())
@@ -285,6 +295,7 @@ impl Watch {
             return Ok(());
         }
         hear(
+            alloc,
             &mut self.flows[place],
             &mut self.trails[place],
             number,
@@ -321,7 +332,7 @@ impl Watch {
             top: 0,
             ahead: BTreeMap::new(alloc),
         };
-        hear(&mut flow, &mut trail, number, packet)?;
+        hear(alloc, &mut flow, &mut trail, number, packet)?;
         self.add(flow, trail)?;
         Ok(())
     }

@@ -1,18 +1,12 @@
-use Rattle.std.proofs.Common.{◌≡◌, ◌≤◌, ◌<◌, ℕ, None, map, reverse}
-use Rattle.std.specs.BTreeMap.{btree_map_len, get}
-use Rattle.std.specs.Ordering.{nat_cmp}
-use Rattle.cf_watch.specs.Kept.{kept, run_value}
-use Rattle.cf_watch.specs.Stretches.{apart, runs_of}
+use Rattle.std.proofs.Common.{map, reverse}
+use Rattle.std.specs.BTreeMap.{btree_map_len}
+use Rattle.cf_watch.specs.Kept.{run_value}
+use Rattle.cf_watch.proofs.Runs.{HasFirstRuns}
 use Rattle.cf_watch.proofs.stretches.runs_in.Given as goal
 
 -- the letters of the first places are taken, and their runs are there
-abbrev pub invariant-letters : goal.invariant-letters
-invariant-letters l = record {
-  from : ℕ;
-  left : (q : ℕ) → from ≤ q → get nat_cmp l.ahead q ≡ get nat_cmp l.fn.ahead q;
-  taken : (q : ℕ) → q < from → get nat_cmp l.ahead q ≡ None;
-  runs : reverse (map run_value l.runs.items) ≡ runs_of (apart l.count (kept l.fn.ahead)) from;
-}
+abbrev pub invariant-portions : goal.invariant-portions
+invariant-portions l = HasFirstRuns l.count l.fn.ahead l.ahead (reverse (map run_value l.runs.items))
 
-abbrev pub decreases-letters : goal.decreases-letters
-decreases-letters l = btree_map_len l.ahead
+abbrev pub decreases-portions : goal.decreases-portions
+decreases-portions l = btree_map_len l.ahead

@@ -1,4 +1,4 @@
-use Rattle.std.proofs.Common.{◌≡◌, ◌∙◌, ap, subst, arith, ℕ, ℤ, max, Bool, ◌||◌, to_z, of_z, w64}
+use Rattle.std.proofs.Common.{◌≡◌, ◌∙◌, ap, subst, refl, arith, ℕ, ℤ, max, Bool, ◌||◌, to_z, of_z, w64}
 use Rattle.std.proofs.lemmas.Int.{ints}
 use Rattle.cf_packet.specs.Packet.{packet_value}
 use Rattle.cf_stream.specs.Stream.{letter_count}
@@ -20,7 +20,7 @@ returns-clause-heard c w h =
     let new = c.advance.new.flow in
     let a = trail.ahead in
     let b = c.carry.new.ahead in
-    let d = c.advance.new.ahead in
+    let d = c.carry.new.ahead in
     let found = c.text_place-at.result in
     let here : to_z w64 (of_z w64 found) ≡ found = omega (arith, ints, c.text_place-at.ensures.from, c.text_place-at.ensures.to, c.requires.low) in
     let at : found ≡ text_place w.origin (top_of w.carried) packet =
@@ -48,6 +48,6 @@ returns-clause-heard c w h =
       origin = h.origin;
       answered = c.is_answered-trail.ensures ∙ ap (λ (x : Bool). x || has_ack packet) h.answered;
       top = c.top_after-trail.ensures ∙ top;
-      holds = holds_now w.carried one old mid new a b d h.holds takes after.grows after.holds;
+      holds = holds_now w.carried one old mid new a b d h.holds takes after.grows (λ q none. refl);
       knows = knows_now w.carried one old mid new a b d h.knows takes after.knows after.grows after.stops after.conflict;
     }
