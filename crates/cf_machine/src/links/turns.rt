@@ -49,17 +49,16 @@ impl Turns {
     /// Ends a round: of those that had a turn, the ones stay that can go on at once, and the others are waited for.
     pub fn settle(&mut self, sessions: &[Session], now: u64) {
         let mut until = self.quiet_until;
-        self.awake
-            .retain(|number| match session_of(sessions, *number) {
-                Some(at) => {
-                    let wait = sessions[at].longest_wait(now);
-                    if wait > 0 {
-                        until = until.min(now.saturating_add(wait));
-                    }
-                    wait == 0
+        self.awake.retain(|number| match session_of(sessions, *number) {
+            Some(at) => {
+                let wait = sessions[at].longest_wait(now);
+                if wait > 0 {
+                    until = until.min(now.saturating_add(wait));
                 }
-                None => false,
-            });
+                wait == 0
+            }
+            None => false,
+        });
         self.quiet_until = until;
     }
 
