@@ -1,4 +1,5 @@
 -- What a session has to pay for behind one turn more, and how many of its commands were refused.
+use Rattle.cf_lane.specs.Caller.{newcomer}
 use Rattle.std.proofs.Common.{Bool, List, None, Option, Some, ap, arith, refl, subst, sym, true, false, ℕ, ◌++◌, ◌-◌, ◌∙◌, ◌∷◌, ◌≡◌, []}
 use Rattle.std.proofs.Common.{if◌then◌else◌}
 use Rattle.std.specs.Prelude.{◌==◌}
@@ -69,7 +70,7 @@ stands_counted at most es own None h = subst (λ (xs : List Entry). IsCountedAs 
 stands_counted at most es own (Some v) h =
     let all = met_at at.port at.asset.endpoint v.met ∷ Moment h.moment ∷ h.answers in
     let f = h.stands.follows in
-    let items = subst (λ (c : Endpoint). AreJudged at.asset c.address (history_of all) f.judged) h.stands.client f.are_judged in
+    let items = subst (λ (c : Endpoint). AreJudged at.asset (newcomer c.address) (history_of all) f.judged) h.stands.client f.are_judged in
     subst (λ (xs : List Entry). IsCountedAs at xs (Some v)) (sym h.split) ((f.judged, (items, f.knows.admitted)), (f.judged, (items, f.knows.refused)))
 
 -- what a turn leaves has its numbers, whether it stands or ended
