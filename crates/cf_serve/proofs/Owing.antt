@@ -57,12 +57,12 @@ module _ (places : List Listening) where
 -- nothing came of a client whose controller was not reached
 pub no_commands : (at : Listening) → IsCountedAs at [] None
 no_commands at =
-    let none = empty_judged at.asset (client_of []).address in
+    let none = empty_judged at.asset (newcomer (client_of []).address) in
     (([], (none, refl)), ([], (none, refl)))
 
 pub met_commands : (at : Listening) (met : Endpoint) → IsCountedAs at (met_at at.port at.asset.endpoint met ∷ []) None
 met_commands at met =
-    let none = empty_judged at.asset met.address in
+    let none = empty_judged at.asset (newcomer met.address) in
     (([], (none, refl)), ([], (none, refl)))
 
 pub stands_counted : (at : Listening) (most : ℕ) (es : List Entry) (own : List (List ℕ)) (o : Option LinkedValue) → StandsAs at most es own o → IsCountedAs at es o
