@@ -1,4 +1,5 @@
 -- Causes that stand in the input, where it is told: no other status comes but those to which they yield.
+use Rattle.cf_lane.specs.Caller.{newcomer, none_before}
 use Rattle.std.proofs.Common.{◌≡◌, ◌⊎◌, ◌++◌, ◌*◌, ℕ, List, All, None, Some, Result, Ok, Err, refl, sym, subst, ◌∙◌, ap, inl, inr, arith}
 use Rattle.std.proofs.lemmas.List.{append_cancel_left}
 use Rattle.cf_audit.specs.declared.line.CutReason.{CutReason}
@@ -171,12 +172,12 @@ module _ (failed : Type 0) (status : ℕ) (before after : Outside) where
         append_cancel_left t.earlier es t.answers same
 
     relayed_cut : (a : Asset) (es : List Entry) (js : List Judged) → FindsAsset (before.files.content file) name a → after.pair.told ≡ with_answers before.pair.told es →
-        AreItemsOf a es js → cut_at a es js ≡ cut_at t.known.asset t.answers t.judged
+        AreItemsOf a none_before es js → cut_at a es js ≡ cut_at t.known.asset t.answers t.judged
     relayed_cut a es js finds told are =
         let asset : a ≡ t.known.asset = found_asset (before.files.content file) name t.known a finds in
         let answers : es ≡ t.answers = relayed_answers es told in
-        let here : AreItemsOf t.known.asset t.answers js = subst (λ x. AreItemsOf x t.answers js) asset (subst (λ l. AreItemsOf a l js) answers are) in
-        let judged : js ≡ t.judged = law t.known.asset (client_of t.answers).address (history_of t.answers) js t.judged here t.are_items in
+        let here : AreItemsOf t.known.asset none_before t.answers js = subst (λ x. AreItemsOf x none_before t.answers js) asset (subst (λ l. AreItemsOf a none_before l js) answers are) in
+        let judged : js ≡ t.judged = law t.known.asset (newcomer (client_of t.answers).address) (history_of t.answers) js t.judged here t.are_items in
         cc
 
     -- a relay that answered so was not cut

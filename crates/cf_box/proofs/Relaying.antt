@@ -1,4 +1,5 @@
 -- An answer about a relay, as the answer of the command; and what an answer says of the pair's list.
+use Rattle.cf_lane.specs.Caller.{none_before}
 use Rattle.std.proofs.Common.{◌≡◌, ◌<◌, ◌⊎◌, ◌*◌, ℕ, List, None, Result, Ok, Err, refl, sym, subst, ap, ◌∙◌, inl, inr, [], ◌∷◌}
 use Rattle.cf_lane.specs.Judged.{Judged}
 use Rattle.cf_outside.specs.Faults.{HasCause, Rose}
@@ -48,11 +49,11 @@ idle_is_late (inr e) = cc e
 
 pub record IsUncut (asset : Asset) (es : List Entry) : Type 0 where
   pub judged : List Judged
-  pub are_items : AreItemsOf asset es judged
+  pub are_items : AreItemsOf asset none_before es judged
   pub uncut : cut_at asset es judged ≡ None
 
 module _ (asset : Asset) (listen most : ℕ) (log : LogContents) (same : Type 0) (es : List Entry) where
-  unstopped : IsUnstopped asset most es → IsUncut asset es
+  unstopped : IsUnstopped asset none_before most es → IsUncut asset es
   unstopped goes = record { judged = goes.judged; are_items = goes.are_items; uncut = goes.uncut }
 
   uncut_at : (r : Result Done Stop) → IsUncutEnd r → (relayed : RelayDone) (end : RelayEnd) → end_answer relayed.admitted relayed.refused end ≡ r →

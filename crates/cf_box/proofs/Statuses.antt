@@ -1,4 +1,5 @@
 -- What a status tells, from the answer that explains it.
+use Rattle.cf_lane.specs.Caller.{newcomer}
 use Rattle.std.proofs.lemmas.List.{append-nil}
 use Rattle.std.proofs.Common.{◌≡◌, ◌≢◌, ◌⊎◌, ◌++◌, [], ℕ, List, Option, None, Some, Result, Ok, Err, sym, subst, ◌≤◌, ◌∙◌, ap, inl, inr, arith}
 use Rattle.cf_audit.specs.declared.line.CutReason.{CutReason}
@@ -203,7 +204,7 @@ module _ (failed : Type 0) (status : ℕ) where
       let t = m.takes in
       let s = t.sifted in
       let whole : stored_history s.bytes ≡ s.history = s.goes.begins ∙ ap (λ l. s.history ++ l) (s.goes.all t.is_cut) ∙ append-nil s.history in
-      let are = subst (λ l. AreJudged t.asset client l s.judged) (sym whole) s.goes.are_judged in
+      let are = subst (λ l. AreJudged t.asset (newcomer client) l s.judged) (sym whole) s.goes.are_judged in
       record {
         asset = t.asset;
         finds = t.finds;
@@ -212,8 +213,8 @@ module _ (failed : Type 0) (status : ℕ) where
         judged = s.judged;
         are_judged = are;
         passed = outputs t.asset side.Controller [] s.judged;
-        passes = law t.asset client (stored_history s.bytes) s.judged are;
-        rates = keep t.asset client (stored_history s.bytes) s.judged are;
+        passes = law t.asset (newcomer client) (stored_history s.bytes) s.judged are;
+        rates = keep t.asset (newcomer client) (stored_history s.bytes) s.judged are;
         output = ap (λ f. f.content names.out) same ∙ s.have.of_out;
       }
   passes_from law keep before middle after policy name client names same (Err s) m h is = absurd (not_done s h is)

@@ -1,5 +1,6 @@
 -- `relay POLICY ASSET PORT IDLES LOG`: a policy between two streams. The main definitions are `HasRelayed`, and `CutsRelay` and
 -- `EndsRelayIdle`, which say it of the pair's answers alone.
+use Rattle.cf_lane.specs.Caller.{none_before}
 use Rattle.std.specs.Prelude.{◌≡◌, ◌⊎◌, ◌*◌, ℕ, List, ◌++◌, None, Some, Result, Ok, Err}
 use Rattle.cf_audit.specs.declared.line.CutReason.{CutReason}
 use Rattle.cf_lane.specs.Judged.{Judged}
@@ -83,7 +84,7 @@ module _ (policy_file asset_name : List ℕ) (before : Outside) (pair : PairValu
     pub answers : List Entry
     pub told : pair.told ≡ with_answers before.pair.told answers
     pub judged : List Judged
-    pub are_items : AreItemsOf asset answers judged
+    pub are_items : AreItemsOf asset none_before answers judged
     pub cuts : cut_at asset answers judged ≡ Some reason
 
   -- the policy's bytes and the pair's answers are told: the asset, the answers of this relay, and their items
@@ -94,7 +95,7 @@ module _ (policy_file asset_name : List ℕ) (before : Outside) (pair : PairValu
     pub answers : List Entry
     pub answers_told : pair.told ≡ Some (earlier ++ answers)
     pub judged : List Judged
-    pub are_items : AreItemsOf known.asset answers judged
+    pub are_items : AreItemsOf known.asset none_before answers judged
 
   -- and they are cut
   abbrev pub TellsCutRelay : Type 0

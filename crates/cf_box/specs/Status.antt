@@ -1,4 +1,5 @@
 -- What a status tells, each by itself, and `IsExactly` and `IsComplete`: when it must be one.
+use Rattle.cf_lane.specs.Caller.{newcomer, none_before}
 use Rattle.std.specs.Prelude.{◌≡◌, ◌≢◌, ◌⊎◌, ℕ, List, [], drop, length, ◌≤◌, Option, None, Some, Ok, Err}
 use Rattle.cf_audit.specs.declared.line.CutReason.{CutReason}
 use Rattle.cf_judge.specs.declared.Judged.{Judged as Judgement}
@@ -107,10 +108,10 @@ pub record SiftPassesAllowed (policy name : List ℕ) (client : ℕ) (names : Si
   pub bytes : List ℕ
   pub whole : IsWhole (before.files.content names.stream) bytes
   pub judged : List Judged
-  pub are_judged : AreJudged asset client (stored_history bytes) judged
+  pub are_judged : AreJudged asset (newcomer client) (stored_history bytes) judged
   pub passed : List ℕ
-  pub passes : Passes asset client [] judged passed
-  pub rates : KeepsRates asset judged
+  pub passes : Passes asset (newcomer client) [] judged passed
+  pub rates : KeepsRates asset none_before judged
   pub output : after.files.content names.out ≡ content_after_write (before.files.content names.out) passed
 
 -- a capture's records, up to the end of its bytes; and the same where each has its moment

@@ -1,4 +1,5 @@
 -- The moments of the items by which a history goes on.
+use Rattle.cf_lane.specs.Caller.{newcomer}
 use Rattle.std.proofs.Common.{◌≡◌, ℕ, zero, suc, Bool, true, false, None, Option, Some, List, [], ◌∷◌, ◌++◌, map, refl, sym, ap, ◌∙◌, subst}
 use Rattle.std.specs.List.{AllByRecursion}
 use Rattle.cf_lane.proofs.Earlier.{in_turn-append}
@@ -80,12 +81,12 @@ module _ (now : ℕ) where
     lines_about earlier (j ∷ js) h = all_both IsAbout (item_lines asset client earlier j j.item) _ (item_about earlier j j.item h.0) (lines_about (earlier ++ j ∷ []) js h.1)
 
     -- the lines by which a history goes on
-    pub new_about : (h fed : List Element) (js ks : List Judged) → AreJudged asset client.address h js → AreJudged asset client.address (h ++ fed) ks →
+    pub new_about : (h fed : List Element) (js ks : List Judged) → AreJudged asset (newcomer client.address) h js → AreJudged asset (newcomer client.address) (h ++ fed) ks →
         AllByRecursion (λ e. e.moment ≡ now) fed → (more : List (List ℕ)) × (lines asset client [] ks ≡ lines asset client [] js ++ more) × AreAbout more
     new_about h fed js ks a b all =
         let split = items_split asset.protocol [] h fed b.items b.are_items in
         let same = one_items asset.protocol (free_unit asset.protocol) [] h a.items split.0 a.are_items split.2 in
-        let f = further asset client.address [] js ks a.dropped b.dropped split.1
+        let f = further asset (newcomer client.address) [] js ks a.dropped b.dropped split.1
         (ap (λ xs. xs ++ split.1) (sym a.are_first ∙ same) ∙ sym split.4 ∙ b.are_first) a.fates b.fates a.goes_on b.goes_on in
         let moments = items_now asset.protocol h fed split.1 split.3 all in
         let own = judged_now f.0 (all_front _ (map place_of f.0) f.1 (subst AreNow (sym f.3) moments)) in (

@@ -1,4 +1,5 @@
 -- The headline of a run, and what it logs.
+use Rattle.cf_lane.specs.Caller.{newcomer}
 use Rattle.std.proofs.Common.{◌≡◌, ℕ, ◌^◌, ◌≤◌, true, false, Option, None, Some, List, [], ◌∷◌, ◌++◌, map, refl, sym, ap, ◌∙◌}
 use Rattle.std.proofs.lemmas.List.{append-nil}
 use Rattle.std.specs.Option.{is_some}
@@ -63,12 +64,12 @@ module _ (one : SessionHasOneStream) (copies : FirstCopiesAreTaken) (works : Wor
           to_client = ap (λ (x : Work). x.to_client) w.is_work;
         };
         far = far f es h;
-        rates = keep f.asset (client_of f).address (history es) w.judged w.are_judged;
+        rates = keep f.asset (newcomer (client_of f).address) (history es) w.judged w.are_judged;
         decodes = λ taken re.
             (let front : IsFront (work_of es).to_controller taken = (one f limit es taken small are (uncut_before limit f es h)).0 re in
             let bytes : outputs f.asset side.Controller [] w.judged ≡ bytes_among taken ++ bytes_among front.more =
             sym (ap (λ (x : Work). x.to_controller.bytes) w.is_work) ∙ front_bytes (work_of es).to_controller taken front in
-            record { front = front; makes = fragments f.asset (client_of f).address (history es) w.judged (bytes_among taken) (bytes_among front.more) w.are_judged bytes });
+            record { front = front; makes = fragments f.asset (newcomer (client_of f).address) (history es) w.judged (bytes_among taken) (bytes_among front.more) w.are_judged bytes });
       }
 
   pub headline : (assets : List Asset) (es : List RunEvent) → AreRunEvents assets limit es → HasHeadline es
@@ -85,7 +86,7 @@ module _ (one : HasOneJudgement) (works : WorkIsOfTheTaken) (limit : ℕ) where
   logged_one : (s : Session) → HasRightEvents limit s → IsLogged s
   logged_one s h = λ judged are.
       let w : Works s.flow.asset (client_of s.flow) (history s.events) (work_of s.events) = works s.flow limit s.events (right_events limit s.flow s.events h) in
-      w.is_work ∙ ap (work_by s.flow.asset (client_of s.flow)) (one s.flow.asset (client_of s.flow).address (history s.events) w.judged judged w.are_judged are)
+      w.is_work ∙ ap (work_by s.flow.asset (client_of s.flow)) (one s.flow.asset (newcomer (client_of s.flow).address) (history s.events) w.judged judged w.are_judged are)
 
   all_logged : (assets : List Asset) (es : List RunEvent) → AreRunEvents assets limit es → EachIsLogged es
   all_logged assets [] h = tt

@@ -7,6 +7,7 @@
 -- last event did not cut a session, each open end has sent as many letters as its stream has below the greatest edge that its peer
 -- showed. Amid an event an end has sent fewer of the same segments, in their order, and what is put together of fewer segments is put
 -- together of all (`cf_session`, `FewerPartsAreEnough`). The lines of these items, and their counts, are in `Logged`.
+use Rattle.cf_lane.specs.Caller.{newcomer, none_before}
 use Rattle.std.specs.Prelude.{◌≡◌, ℕ, ◌^◌, ◌≤◌, false, List, [], ◌∷◌}
 use Rattle.std.specs.List.{AllByRecursion}
 use Rattle.cf_decode.specs.Laws.{MakesFirstOf}
@@ -35,7 +36,7 @@ bytes_among (End ∷ letters) = bytes_among letters
 -- two sides are theirs
 pub record IsJudged (session : Session) (judged : List Judged) : Type 0 where
   pub taken : AreTaken session.flow session.events
-  pub are_judged : AreJudged session.flow.asset (client_of session.flow).address (history session.events) judged
+  pub are_judged : AreJudged session.flow.asset (newcomer (client_of session.flow).address) (history session.events) judged
   pub to_controller : (work_of session.events).to_controller ≡ stream_to session.flow.asset side.Controller judged
   pub to_client : (work_of session.events).to_client ≡ stream_to session.flow.asset side.Client judged
 
@@ -54,7 +55,7 @@ pub record SendsUpToTheEdge (session : Session) : Type 0 where
 pub record IsFaithful (session : Session) : Type 0 where
   pub judged : List Judged
   pub is_judged : IsJudged session judged
-  pub rates : KeepsRates session.flow.asset judged
+  pub rates : KeepsRates session.flow.asset none_before judged
   pub far : ends_cut session.events ≡ false → SendsUpToTheEdge session
   pub decodes :
       (taken : List Letter) → IsReassembly (parts_of (controller_ends session.flow).role (controllers session.events)) taken →

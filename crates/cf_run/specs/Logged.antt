@@ -1,4 +1,5 @@
 -- What a run logs and counts, of all sessions of a run at every moment: EachIsLogged.
+use Rattle.cf_lane.specs.Caller.{newcomer}
 use Rattle.std.specs.Prelude.{◌≡◌, ℕ, List, [], ◌∷◌}
 use Rattle.std.specs.List.{AllByRecursion}
 use Rattle.cf_lane.specs.Follows.{AreJudged}
@@ -13,7 +14,7 @@ use Rattle.cf_run.specs.Trace.{AreRunEvents, RunEvent}
 -- the judged items of all that was taken of both sides of a session: its streams, its lines, its counts and why it is cut are theirs
 abbrev pub IsLogged : Session → Type 0
 IsLogged session =
-    (judged : List Judged) → AreJudged session.flow.asset (client_of session.flow).address (history session.events) judged
+    (judged : List Judged) → AreJudged session.flow.asset (newcomer (client_of session.flow).address) (history session.events) judged
     → work_of session.events ≡ work_by session.flow.asset (client_of session.flow) judged
 
 -- the lines and counts after each event of a run, of the sessions in the table and those that left it

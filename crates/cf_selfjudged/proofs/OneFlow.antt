@@ -1,4 +1,5 @@
 -- What a watcher sees of one session has no objection.
+use Rattle.cf_lane.specs.Caller.{newcomer}
 use Rattle.std.proofs.Common.{◌≡◌, ◌≤◌, ◌^◌, ◌++◌, ℕ, List, [], ◌∷◌, Option, Some, None, refl, sym, ap, ◌∙◌, subst, append_assoc}
 use Rattle.std.specs.List.{AllByRecursion}
 use Rattle.std.proofs.lemmas.Option.{none-some}
@@ -73,7 +74,7 @@ module _ (carry : SegmentsCarryOneStream) (works : WorkIsOfTheTaken) (sees : Car
             (let front = seen.bytes bytes has in
             let all : outputs f.asset side.Controller [] w.judged ≡ bytes ++ (front.0 ++ said.goes_on.more) =
             sym (ap (λ (x : Work). x.to_controller.bytes) w.is_work) ∙ said.goes_on.bytes ∙ ap (λ (xs : List ℕ). xs ++ said.goes_on.more) front.1 ∙ append_assoc bytes front.0 said.goes_on.more in
-            judges f.asset (client_of f).address (history es) w.judged bytes (front.0 ++ said.goes_on.more) born w.are_judged all);
+            judges f.asset (newcomer (client_of f).address) (history es) w.judged bytes (front.0 ++ said.goes_on.more) born w.are_judged all);
       }
 
 pub one_flow : SegmentsCarryOneStream → WorkIsOfTheTaken → CarryOneStream → BeginningsAreUnobjected → OneFlowIsUnobjected

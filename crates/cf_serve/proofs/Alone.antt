@@ -1,4 +1,5 @@
 -- What a session puts in the log follows from its own answers and its end.
+use Rattle.cf_lane.specs.Caller.{newcomer, none_before}
 use Rattle.std.proofs.Common.{List, ap, inl, inr, subst, sym, ℕ, ◌∙◌, ◌≡◌, ◌++◌, ◌∷◌, true, []}
 use Rattle.cf_lane.specs.Judged.{Judged}
 use Rattle.cf_lane.specs.Laws.{HasOneJudgement}
@@ -17,7 +18,7 @@ use Rattle.cf_serve.specs.declared.end.SessionEnd.{SessionEnd}
 use Rattle.cf_serve.specs.declared.end.SessionEnd.TheVariants as end
 
 -- a relay that has made its turns has met a client
-not_unmet : (at : Listening) (most turns : ℕ) (es : List Entry) → es ≡ [] → DoesStages at.asset most (stages both.Separate at.port turns) [] es → ⊥
+not_unmet : (at : Listening) (most turns : ℕ) (es : List Entry) → es ≡ [] → DoesStages at.asset none_before most (stages both.Separate at.port turns) [] es → ⊥
 not_unmet at most turns es none (now, next, split, (goes, (client, is)), later) = cc
 
 -- numbers of the same items are the same, and so is a line that has them
@@ -32,8 +33,8 @@ same_line : (line : ℕ → ℕ → List ℕ) (js ks : List Judged) (a b c d : �
 same_line line js ks a b c d is one two = same_by line ks a b c d (counted_as js ks a b is one) two
 
 module _ (law : HasOneJudgement) (at : Listening) (most : ℕ) (es : List Entry) where
-  one_judgement : (js ks : List Judged) → AreItemsOf at.asset es js → AreItemsOf at.asset es ks → js ≡ ks
-  one_judgement = law at.asset (client_of es).address (history_of es)
+  one_judgement : (js ks : List Judged) → AreItemsOf at.asset none_before es js → AreItemsOf at.asset none_before es ks → js ≡ ks
+  one_judgement = law at.asset (newcomer (client_of es).address) (history_of es)
 
   -- the lines of the items, and a last one
   with_one : (js ks : List Judged) (line other : List ℕ) → js ≡ ks → line ≡ other → log_of at.asset es js ++ line ∷ [] ≡ log_of at.asset es ks ++ other ∷ []

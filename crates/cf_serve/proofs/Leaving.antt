@@ -1,4 +1,5 @@
 -- A turn, from what the relay did in it and the last line, to what it leaves of the session.
+use Rattle.cf_lane.specs.Caller.{none_before}
 use Rattle.std.proofs.Common.{Bool, Err, List, None, Ok, Result, Some, ap, refl, subst, sym, true, false, ℕ, []}
 use Rattle.std.proofs.Common.{◌++◌, ◌<◌, ◌∙◌, ◌∷◌, ◌≡◌}
 use Rattle.std.specs.Prelude.{IfErr, IsTrue, OnOk, ◌↔◌}
@@ -50,21 +51,21 @@ said asset met k k' w e a a' r r' p q s t = rw (p, q, s, t)
 module _ (at : Listening) (most : ℕ) (client met : Endpoint) (old new : RelayingValue) (link link' : LinkValue) (d d' : DeskValue) (few : old.idle < most) (debt : Debt) where
   -- what holds of a relay that made a turn more holds of its session
   turned_so : (does : DoesBetween at.asset most (turn both.Separate) (scene old link d) (scene new link' d')) → new.idle < most → (P : List Entry → List (List ℕ) → Type 0) →
-      ((m : ℕ) (answers : List Entry) (own : List (List ℕ)) → HasTurned both.Separate at.asset at.port most met m (Some []) answers new (Some own) → P (begun_list at.asset at.port met m answers) own) →
+      ((m : ℕ) (answers : List Entry) (own : List (List ℕ)) → HasTurned both.Separate at.asset none_before at.port most met m (Some []) answers new (Some own) → P (begun_list at.asset at.port met m answers) own) →
       (es : List Entry) (own : List (List ℕ)) → StandsLinked at most es own (linked met old debt) →
       (lines : List (List ℕ)) × ((d'.lines ≡ with_lines d.lines lines) × P (es ++ does.answers) (own ++ lines))
   turned_so does fewer P f es own hs =
-      let t = turned_more both.Separate at.asset at.port most met hs.moment (Some []) hs.answers (scene old link d) (scene new link' d') (Some own)
+      let t = turned_more both.Separate at.asset none_before at.port most met hs.moment (Some []) hs.answers (scene old link d) (scene new link' d') (Some own)
       (record { count = hs.count; does = hs.does; stands = hs.stands; few = few }) does fewer in
       (t.more, (t.added, subst (λ (xs : List Entry). P (xs ++ does.answers) (own ++ t.more)) (sym hs.split) (f hs.moment (hs.answers ++ does.answers) (own ++ t.more) t.stands)))
 
   -- and so of one that stopped within it
   stopped_so : (why : Stop) (stops : StopsBetween at.asset most (turn both.Separate) why (scene old link d) (scene new link' d')) → (P : List Entry → List (List ℕ) → Type 0) →
-      ((m : ℕ) (answers : List Entry) (own : List (List ℕ)) → HasStopped both.Separate at.asset at.port most met m (Some []) answers why new (Some own) d'.line_part →
+      ((m : ℕ) (answers : List Entry) (own : List (List ℕ)) → HasStopped both.Separate at.asset none_before at.port most met m (Some []) answers why new (Some own) d'.line_part →
       P (begun_list at.asset at.port met m answers) own) → (es : List Entry) (own : List (List ℕ)) → StandsLinked at most es own (linked met old debt) →
       (lines : List (List ℕ)) × ((d'.lines ≡ with_lines d.lines lines) × P (es ++ stops.answers) (own ++ lines))
   stopped_so why stops P f es own hs =
-      let t = turned_stops both.Separate at.asset at.port most met hs.moment (Some []) hs.answers (scene old link d) (scene new link' d') why (Some own)
+      let t = turned_stops both.Separate at.asset none_before at.port most met hs.moment (Some []) hs.answers (scene old link d) (scene new link' d') why (Some own)
       (record { count = hs.count; does = hs.does; stands = hs.stands; few = few }) stops in
       (t.more, (t.added, subst (λ (xs : List Entry). P (xs ++ stops.answers) (own ++ t.more)) (sym hs.split) (f hs.moment (hs.answers ++ stops.answers) (own ++ t.more) t.stands)))
 
@@ -79,7 +80,7 @@ module _ (at : Listening) (most : ℕ) (client met : Endpoint) (old new : Relayi
   abbrev Counted : List Entry → Type 0
   Counted es = IsCountedAs at es (Some (linked met new debt))
 
-  counted_by : (es : List Entry) (js : List Judged) → AreItemsOf at.asset es js → IsCounted js new.lane.admitted new.lane.refused → Counted es
+  counted_by : (es : List Entry) (js : List Judged) → AreItemsOf at.asset none_before es js → IsCounted js new.lane.admitted new.lane.refused → Counted es
   counted_by es js items counts = ((js, (items, counts.admitted)), (js, (items, counts.refused)))
 
   -- the last one, after which both sides are closed
@@ -88,13 +89,13 @@ module _ (at : Listening) (most : ℕ) (client met : Endpoint) (old new : Relayi
     answers = does.answers;
     tells = does.adds.tells;
     ends = turned_so does fewer (λ es own. EndsSo at most client es (own ++ last_line end.Closed ∷ []) end.Closed × Counted es) (λ m answers own t.
-        let x = turned_done both.Separate at.asset at.port most met m (Some []) answers new (Some own) t _ closed (λ ls e. same_Some _ _ e) in
+        let x = turned_done both.Separate at.asset none_before at.port most met m (Some []) answers new (Some own) t _ closed (λ ls e. same_Some _ _ e) in
         ((done_by new ends.Done, x), counted_by (begun_list at.asset at.port met m answers) x.goes.judged x.goes.are_items x.counts));
   }
 
   -- one that stopped
   stopping : (why : Stop) → StopsBetween at.asset most (turn both.Separate) why (scene old link d) (scene new link' d') → (e : SessionEnd) →
-      ((m : ℕ) (answers : List Entry) (own : List (List ℕ)) → HasStopped both.Separate at.asset at.port most met m (Some []) answers why new (Some own) d'.line_part →
+      ((m : ℕ) (answers : List Entry) (own : List (List ℕ)) → HasStopped both.Separate at.asset none_before at.port most met m (Some []) answers why new (Some own) d'.line_part →
       EndsSo at most client (begun_list at.asset at.port met m answers) (own ++ last_line e ∷ []) e × Counted (begun_list at.asset at.port met m answers)) → Ends e
   stopping why stops e f = record { answers = stops.answers; tells = stops.adds.tells; ends = stopped_so why stops (λ es own. EndsSo at most client es (own ++ last_line e ∷ []) e × Counted es) f }
 
@@ -105,16 +106,16 @@ module _ (at : Listening) (most : ℕ) (client met : Endpoint) (old new : Relayi
   stops_so : (why : Stop) (closed : Bool) (e : SessionEnd) → StopsBetween at.asset most (turn both.Separate) why (scene old link d) (scene new link' d') → end_of (Err why) closed ≡ Some e → Ends e
   stops_so stop.Write closed e stops is = cc
   stops_so stop.Idle closed e stops is = subst Ends (same_Some _ _ is) (stopping stop.Idle stops end.Silent (λ m answers own h.
-      let x = stopped_idle both.Separate at.asset at.port most met m (Some []) answers new (Some own) d'.line_part _ h
+      let x = stopped_idle both.Separate at.asset none_before at.port most met m (Some []) answers new (Some own) d'.line_part _ h
       (λ ls same. behind (Silent new.lane.admitted new.lane.refused) own ls _ same h.stands.0.moment) in
       ((done_by new ends.IdleEnd, x), counted_by (begun_list at.asset at.port met m answers) x.judged x.are_items x.counts)))
   stops_so stop.Link closed e stops is = subst Ends (same_Some _ _ is) (stopping stop.Link stops end.Lost (λ m answers own h.
-      let t = stopped_link both.Separate at.asset at.port most met m (Some []) answers new (Some own) d'.line_part
+      let t = stopped_link both.Separate at.asset none_before at.port most met m (Some []) answers new (Some own) d'.line_part
       (with_last (own ++ last_line end.Lost ∷ []) (lost_line at.asset (begun_list at.asset at.port met m answers) new.lane.admitted new.lane.refused)) h
       (λ ls same. behind (Lost new.lane.admitted new.lane.refused) own ls _ same h.stands.0.moment) in
       (record { admitted = new.lane.admitted; refused = new.lane.refused; ended = t.0; counts = t.1 }, counted_by (begun_list at.asset at.port met m answers) t.0.goes.judged t.0.goes.are_items t.1)))
   stops_so (stop.Cut reason) closed e stops is = subst Ends (same_Some _ _ is) (stopping (stop.Cut reason) stops (end.Cut reason) (λ m answers own h.
-      let x = stopped_cut both.Separate at.asset at.port most met m (Some []) answers new (Some own) d'.line_part _ reason h (λ ls same. same_Some _ _ same) in
+      let x = stopped_cut both.Separate at.asset none_before at.port most met m (Some []) answers new (Some own) d'.line_part _ reason h (λ ls same. same_Some _ _ same) in
       ((done_by new (ends.Cut reason), x), counted_by (begun_list at.asset at.port met m answers) x.judged x.are_items x.counts)))
 
   -- the turn that is the last, by what the relay answered

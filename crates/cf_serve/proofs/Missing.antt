@@ -1,4 +1,5 @@
 -- A line that failed, and what it leaves of its session.
+use Rattle.cf_lane.specs.Caller.{none_before}
 use Rattle.std.proofs.Common.{Err, List, None, Ok, Option, Result, Some, ap, inl, inr, refl, subst, sym, ℕ, ◌++◌, ◌<◌, ◌∙◌, ◌∷◌, ◌≡◌, []}
 use Rattle.std.specs.Prelude.{OnErr, take}
 use Rattle.std.proofs.lemmas.List.{append-nil, append_assoc}
@@ -78,10 +79,10 @@ module _ (at : Listening) (most : ℕ) (client : Endpoint) where
   -- ---- a line amid a turn
 
   pub write_fails : (met : Endpoint) (m : ℕ) (answers : List Entry) (now : RelayingValue) (own : List (List ℕ)) (part : List ℕ) →
-      HasStopped both.Separate at.asset at.port most met m (Some []) answers stop.Write now (Some own) part →
+      HasStopped both.Separate at.asset none_before at.port most met m (Some []) answers stop.Write now (Some own) part →
       FailsSo at most client (met_at at.port at.asset.endpoint met ∷ Moment m ∷ answers) own part
   write_fails met m answers now own part h =
-      inr (stopped_write both.Separate at.asset at.port most met m (Some []) answers now (Some own) part (own_begun own part) h (own_begins own part))
+      inr (stopped_write both.Separate at.asset none_before at.port most met m (Some []) answers now (Some own) part (own_begun own part) h (own_begins own part))
 
   -- ---- as a controller is asked for
 
@@ -89,7 +90,7 @@ module _ (at : Listening) (most : ℕ) (client : Endpoint) where
   pub open_fails : (few : 0 < most) (met : Endpoint) (m : ℕ) (whole : List (List ℕ)) (part : List ℕ) → BeginsLine (line_about at.asset met m Begun) whole part →
       FailsSo at most client (met_at at.port at.asset.endpoint met ∷ Moment m ∷ []) whole part
   open_fails few met m whole part begins =
-      inr (write_told both.Separate at.asset at.port most few (own_begun whole part) met m (Some []) (Some whole) part (own_more (line_about at.asset met m Begun) whole part begins) (own_begins whole part))
+      inr (write_told both.Separate at.asset none_before at.port most few (own_begun whole part) met m (Some []) (Some whole) part (own_more (line_about at.asset met m Begun) whole part begins) (own_begins whole part))
 
   module _ (before : List Entry) (told after : SessionTold) (log log' : Option (List (List ℕ))) (part : List ℕ) (answers : List Entry)
       (tells : after ≡ with_answers told answers) (line : List ℕ) (may : MayHaveMore (line ∷ []) log log' part) where

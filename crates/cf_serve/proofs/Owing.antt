@@ -1,4 +1,5 @@
 -- What a session has to pay for behind one turn more, and how many of its commands were refused.
+use Rattle.cf_lane.specs.Caller.{newcomer}
 use Rattle.std.proofs.Common.{Bool, List, None, Option, Some, ap, arith, refl, subst, sym, true, false, ℕ, ◌++◌, ◌-◌, ◌∙◌, ◌∷◌, ◌≡◌, []}
 use Rattle.std.proofs.Common.{if◌then◌else◌}
 use Rattle.std.specs.Prelude.{◌==◌}
@@ -56,12 +57,12 @@ module _ (places : List Listening) where
 -- nothing came of a client whose controller was not reached
 pub no_commands : (at : Listening) → IsCountedAs at [] None
 no_commands at =
-    let none = empty_judged at.asset (client_of []).address in
+    let none = empty_judged at.asset (newcomer (client_of []).address) in
     (([], (none, refl)), ([], (none, refl)))
 
 pub met_commands : (at : Listening) (met : Endpoint) → IsCountedAs at (met_at at.port at.asset.endpoint met ∷ []) None
 met_commands at met =
-    let none = empty_judged at.asset met.address in
+    let none = empty_judged at.asset (newcomer met.address) in
     (([], (none, refl)), ([], (none, refl)))
 
 pub stands_counted : (at : Listening) (most : ℕ) (es : List Entry) (own : List (List ℕ)) (o : Option LinkedValue) → StandsAs at most es own o → IsCountedAs at es o
@@ -69,7 +70,7 @@ stands_counted at most es own None h = subst (λ (xs : List Entry). IsCountedAs 
 stands_counted at most es own (Some v) h =
     let all = met_at at.port at.asset.endpoint v.met ∷ Moment h.moment ∷ h.answers in
     let f = h.stands.follows in
-    let items = subst (λ (c : Endpoint). AreJudged at.asset c.address (history_of all) f.judged) h.stands.client f.are_judged in
+    let items = subst (λ (c : Endpoint). AreJudged at.asset (newcomer c.address) (history_of all) f.judged) h.stands.client f.are_judged in
     subst (λ (xs : List Entry). IsCountedAs at xs (Some v)) (sym h.split) ((f.judged, (items, f.knows.admitted)), (f.judged, (items, f.knows.refused)))
 
 -- what a turn leaves has its numbers, whether it stands or ended

@@ -1,4 +1,5 @@
 -- What comes of asking for the controller of a session.
+use Rattle.cf_lane.specs.Caller.{newcomer, none_before}
 use Rattle.std.proofs.Common.{Err, List, None, Ok, Option, Result, Some, ap, refl, subst, sym, ℕ, ◌<◌, ◌∙◌, ◌∷◌, ◌≡◌, []}
 use Rattle.std.specs.Prelude.{IfOk}
 use Rattle.std.proofs.lemmas.List.{append_assoc}
@@ -37,8 +38,8 @@ module _ (at : Listening) (most : ℕ) (client : Endpoint) where
     admitted = 0;
     refused = 0;
     ended = record {
-      relayed = relayed_met at.asset at.port most few both.Separate met;
-      goes = record { judged = []; are_items = empty_judged at.asset met.address; uncut = refl; idle = few };
+      relayed = relayed_met at.asset none_before at.port most few both.Separate met;
+      goes = record { judged = []; are_items = empty_judged at.asset (newcomer met.address); uncut = refl; idle = few };
       prefixes = λ s. ([], refl);
       holds_log = refl;
     };

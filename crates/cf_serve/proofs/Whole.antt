@@ -1,4 +1,5 @@
 -- What a service did, from its rounds.
+use Rattle.cf_lane.specs.Caller.{none_before}
 use Rattle.std.proofs.Common.{Bool, List, None, Option, Some, ap, arith, length, map, inl, inr, refl, subst, sym, true, false, ℕ, []}
 use Rattle.std.proofs.Common.{◌++◌, ◌+◌, ◌∙◌, ◌∷◌, ◌≡◌, if◌then◌else◌}
 use Rattle.std.specs.Prelude.{Err, Ok, Result, option_map, ◌==◌}
@@ -123,7 +124,7 @@ module _ (k : ℕ) where
 stands_session : (at : Listening) (most : ℕ) (es : List Entry) (own : List (List ℕ)) (o : Option LinkedValue) → StandsAs at most es own o → MayTurn at most o → StandsSo at most es own
 stands_session at most es own None h may = inl h
 stands_session at most es own (Some v) h may =
-    let t = turned_stands both.Separate at.asset at.port most v.met h.moment (Some []) h.answers v.now (Some own) (record { count = h.count; does = h.does; stands = h.stands; few = may.0.few }) in
+    let t = turned_stands both.Separate at.asset none_before at.port most v.met h.moment (Some []) h.answers v.now (Some own) (record { count = h.count; does = h.does; stands = h.stands; few = may.0.few }) in
     subst (λ (xs : List Entry). StandsSo at most xs own) (sym h.split) (inr (h.count, (t.0, (t.1.0, same_Some _ _ t.1.1))))
 
 pub all_seats : (P : Seat → Type 0) (ps : List Phase) → AllByRecursion (λ (p : Phase). P p.seat) ps → AllByRecursion P (seats_of ps)

@@ -2,6 +2,7 @@
 --
 -- All rounds but the last are whole. Of the last there is what came before the line that failed, and nothing behind it: no client was
 -- taken, no session was asked, and nothing was given. The sessions that stood were left. Of the line the log has a beginning, or all.
+use Rattle.cf_lane.specs.Caller.{none_before}
 use Rattle.cf_audit.specs.Line.{Listen}
 use Rattle.cf_lane.specs.Log.{line_about, with_lines}
 use Rattle.cf_links.specs.Links.{LinksEntry, answers_of}
@@ -55,7 +56,7 @@ pub record LastLineFails (at : Listening) (most : ℕ) (client : Endpoint) (es :
 -- or it was the open line, or one amid a turn: the session is a relay whose write failed
 abbrev pub FailsSo : Listening → (most : ℕ) → (client : Endpoint) → List Entry → (own : List (List ℕ)) → (part : List ℕ) → Type 0
 FailsSo at most client es own part =
-    LastLineFails at most client es own part ⊎ IsWriteEnd both.Separate at.asset at.port most (own_begun own part) es
+    LastLineFails at most client es own part ⊎ IsWriteEnd both.Separate at.asset none_before at.port most (own_begun own part) es
 
 -- a client that failed by its own answers and its own lines alone
 abbrev pub IsFailedClient : List Listening → (most : ℕ) → List TurnOf → Seat → (part : List ℕ) → Type 0

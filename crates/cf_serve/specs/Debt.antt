@@ -2,6 +2,7 @@
 --
 -- Each refused command is one more to pay for, and each second pays for 100. A session that has 100 to pay for rests until a later
 -- second: it has no turn, and loses nothing, and the other sessions have theirs. A clock that goes back pays for nothing.
+use Rattle.cf_lane.specs.Caller.{none_before}
 use Rattle.cf_lane.specs.Judged.{Judged, is_admitted, is_refused}
 use Rattle.cf_lane.specs.declared.fate.Fate.{Fate}
 use Rattle.cf_outside.specs.Pair.{Entry}
@@ -49,7 +50,7 @@ debt_of session past = debt_from session no_debt past
 
 -- the commands of a session that have such a fate, by its own answers
 abbrev pub HasCounted : (is : Fate → Bool) → Listening → List Entry → (count : ℕ) → Type 0
-HasCounted is at es count = (js : List Judged) × (AreItemsOf at.asset es js × (count ≡ count_by (λ j. is j.fate) js))
+HasCounted is at es count = (js : List Judged) × (AreItemsOf at.asset none_before es js × (count ≡ count_by (λ j. is j.fate) js))
 
 -- those that it has more once these answers come behind the earlier ones
 abbrev pub Counts : (is : Fate → Bool) → Listening → (before answers : List Entry) → (count : ℕ) → Type 0

@@ -1,5 +1,6 @@
 -- A session of a service between two rounds, and what a turn does to it. The main definitions are `StandsAs` and `TurnDoes`. This
 -- project's own.
+use Rattle.cf_lane.specs.Caller.{none_before}
 use Rattle.cf_audit.specs.Line.{Begun, Close, Cut, Gone, Lost, NoMemory, Silent, Unreached, WhatValue}
 use Rattle.cf_lane.specs.Log.{line_about, with_lines}
 use Rattle.cf_links.specs.Links.{LinksEntry, LinksPlace, SessionTold, with_answers}
@@ -83,8 +84,9 @@ pub record StandsLinked (at : Listening) (most : ℕ) (es : List Entry) (own : L
   pub count : ℕ
   pub answers : List Entry
   pub split : es ≡ met_at at.port at.asset.endpoint v.met ∷ Moment moment ∷ answers
-  pub does : DoesStages at.asset most (turns both.Separate count) (met_at at.port at.asset.endpoint v.met ∷ Moment moment ∷ []) answers
-  pub stands : StandsFor at.asset (Some (line_about at.asset v.met moment Begun ∷ []))
+  pub does : DoesStages at.asset none_before most (turns both.Separate count)
+      (met_at at.port at.asset.endpoint v.met ∷ Moment moment ∷ []) answers
+  pub stands : StandsFor at.asset none_before (Some (line_about at.asset v.met moment Begun ∷ []))
       (met_at at.port at.asset.endpoint v.met ∷ Moment moment ∷ answers) v.now (Some own)
 
 -- what is kept of a session stands for its own answers and its own lines

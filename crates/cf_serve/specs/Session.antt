@@ -1,4 +1,5 @@
 -- One session of a service, by its own answers and its own lines. The main definition is `IsSession`. This project's own.
+use Rattle.cf_lane.specs.Caller.{none_before}
 use Rattle.cf_audit.specs.Line.{Gone, Lost, NoMemory, Silent, Unreached}
 use Rattle.cf_lane.specs.Log.{line_about}
 use Rattle.cf_outside.specs.Pair.{Entry, met_at}
@@ -39,23 +40,25 @@ with_last own last = record { Holds = λ all. own ≡ all ++ last ∷ []; Begins
 abbrev pub StandsSo : Listening → (most : ℕ) → List Entry → (own : List (List ℕ)) → Type 0
 StandsSo at most es own =
     ((es ≡ []) × (own ≡ []))
-    ⊎ ((turns : ℕ) × (DoesStages at.asset most (stages both.Separate at.port turns) [] es
-    × ((goes : IsUnstopped at.asset most es) × (own ≡ log_of at.asset es goes.judged))))
+    ⊎ ((turns : ℕ) × (DoesStages at.asset none_before most (stages both.Separate at.port turns) [] es
+    × ((goes : IsUnstopped at.asset none_before most es) × (own ≡ log_of at.asset es goes.judged))))
 
 -- a connection failed, which adds nothing to the answers; the line of it is the last
 pub record IsLostEnd (at : Listening) (most : ℕ) (es : List Entry) (own : List (List ℕ)) : Type 0 where
   pub admitted : ℕ
   pub refused : ℕ
-  pub ended : IsLinkEnd both.Separate at.asset at.port most (with_last own (lost_line at.asset es admitted refused)) es
+  pub ended : IsLinkEnd both.Separate at.asset none_before at.port most (with_last own (lost_line at.asset es admitted refused)) es
   pub counts : IsCounted ended.goes.judged admitted refused
 
 -- a session that ended: it is a relay of its own that ended so; or its controller was not reached, or its client had gone before it
 -- was, and in both nothing was taken or given; or memory was wanting as it was reached
 abbrev pub EndsSo : Listening → (most : ℕ) → (client : Endpoint) → List Entry → (own : List (List ℕ)) → SessionEnd → Type 0
-EndsSo at most client es own end.Closed = (done : RelayDone) × IsDone both.Separate at.asset at.port most (own_log own) es done
-EndsSo at most client es own (end.Cut reason) = (done : RelayDone) × IsCutEnd both.Separate at.asset at.port most (own_log own) es done reason
+EndsSo at most client es own end.Closed = (done : RelayDone) × IsDone both.Separate at.asset none_before at.port most (own_log own) es done
+EndsSo at most client es own (end.Cut reason) =
+    (done : RelayDone) × IsCutEnd both.Separate at.asset none_before at.port most (own_log own) es done reason
 EndsSo at most client es own end.Silent =
-    (done : RelayDone) × IsIdleEnd both.Separate at.asset at.port most (with_last own (silent_line at.asset es done.admitted done.refused)) es done
+    (done : RelayDone) × IsIdleEnd both.Separate at.asset none_before at.port most
+    (with_last own (silent_line at.asset es done.admitted done.refused)) es done
 EndsSo at most client es own end.Lost = IsLostEnd at most es own
 EndsSo at most client es own end.Unreached = (es ≡ []) × ((moment : ℕ) × (own ≡ line_about at.asset client moment Unreached ∷ []))
 EndsSo at most client es own end.Gone = (es ≡ []) × ((moment : ℕ) × (own ≡ line_about at.asset client moment Gone ∷ []))

@@ -3,6 +3,7 @@
 //! client was taken.
 ghost use Rattle.std.specs.Prelude.{◌≡◌, ◌<◌, ◌∷◌, [], IfOk, IsErr, Err, false, None, Ok, OnErr, OnOk, Some, length, true};
 ghost use Rattle.cf_audit.specs.Line.{what_value};
+ghost use Rattle.cf_lane.specs.Caller.{none_before};
 ghost use Rattle.cf_lane.specs.Handled.{WritesLog};
 ghost use Rattle.cf_links.specs.LinkValue.{told_of};
 ghost use Rattle.cf_links.specs.Links.{LinksPlace};
@@ -114,11 +115,11 @@ enum Reached {
 /// The lane of a session and its two queues, with all their memory.
 fn make_parts(alloc: Global, asset: &Asset, met: Endpoint) -> Result<Parts, NoMemory>
     requires within { IsAssetWithin asset.now }
-    ensures lane { IfOk result (λ parts. IsNewLane asset.now met (Parts.lane parts)) }
+    ensures lane { IfOk result (λ parts. IsNewLane asset.now none_before met (Parts.lane parts)) }
     ensures to_client { IfOk result (λ parts. Parts.to_client parts ≡ empty) }
     ensures to_controller { IfOk result (λ parts. Parts.to_controller parts ≡ empty) }
 {
-    let lane = Lane::new(alloc, asset, met)?;
+    let lane = Lane::new(alloc, asset, met, None)?;
     let to_client = Outq::new(alloc)?;
     let to_controller = Outq::new(alloc)?;
     Ok(Parts {

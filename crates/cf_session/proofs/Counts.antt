@@ -1,4 +1,5 @@
 -- The numbers of a lane.
+use Rattle.cf_lane.specs.Caller.{none_before}
 use Rattle.std.proofs.Common.{◌≡◌, List, None, sym, ap, ◌∙◌}
 use Rattle.cf_lane.specs.Follows.{Rests}
 use Rattle.cf_lane.specs.Handled.{Knows, LaneValue, state}
@@ -10,7 +11,7 @@ use Rattle.cf_session.specs.Parts.{IsLaneAfter}
 use Rattle.cf_session.specs.Work.{Work}
 
 module _ (asset : Asset) (client : Endpoint) (lane : LaneValue) (r : Rests) (h : List Element) (w : Work) (c k : Queue) (l : IsLaneAfter asset client lane r h w) (qc : IsQueueOf c w.to_client) (qk : IsQueueOf k w.to_controller) where
-  knows : Knows asset (state lane c k None) l.works.judged
+  knows : Knows asset none_before (state lane c k None) l.works.judged
   knows = l.knows c k None (qc.ended ∙ ap (λ (x : Work). x.to_client.ended) l.works.is_work) (qk.ended ∙ ap (λ (x : Work). x.to_controller.ended) l.works.is_work)
 
   pub admitted_is : lane.admitted ≡ w.admitted

@@ -1,4 +1,5 @@
 -- The events of a session are fixed by what they are given.
+use Rattle.cf_lane.specs.Caller.{newcomer}
 use Rattle.std.proofs.Common.{◌≡◌, ℕ, ◌+◌, ◌&&◌, inl, inr, Bool, true, false, not, List, [], ◌∷◌, ◌++◌, map, Option, Some, None, refl, sym, ap, ◌∙◌, subst}
 use Rattle.std.proofs.lemmas.Bool.{false≢true}
 use Rattle.std.proofs.lemmas.Option.{same_Some}
@@ -75,7 +76,7 @@ abbrev pub WorkIsOne : Type 0
 WorkIsOne = (asset : Asset) (client : Endpoint) (h : List Element) (w v : Work) → Works asset client h w → Works asset client h v → w ≡ v
 
 pub work_is_one : HasOneJudgement → WorkIsOne
-work_is_one one asset client h w v a b = a.is_work ∙ ap (work_by asset client) (one asset client.address h a.judged b.judged a.are_judged b.are_judged) ∙ sym b.is_work
+work_is_one one asset client h w v a b = a.is_work ∙ ap (work_by asset client) (one asset (newcomer client.address) h a.judged b.judged a.are_judged b.are_judged) ∙ sym b.is_work
 
 same_event : (a b : SessionEvent) → a.controller ≡ b.controller → a.client ≡ b.client → a.fed ≡ b.fed → a.work ≡ b.work → a.cut ≡ b.cut → a ≡ b
 same_event a b p q r s t = rw (p, q, r, s, t) refl

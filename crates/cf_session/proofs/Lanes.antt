@@ -1,4 +1,5 @@
 -- The lane stands for a history, in the session's words.
+use Rattle.cf_lane.specs.Caller.{newcomer, none_before}
 use Rattle.std.proofs.Common.{◌≡◌, ℕ, Bool, true, false, cond, List, [], ◌∷◌, ◌++◌, Option, Some, None, refl, sym, ap, ◌∙◌, subst}
 use Rattle.std.proofs.lemmas.List.{append-nil}
 use Rattle.std.proofs.lemmas.Option.{same_Some}
@@ -42,10 +43,10 @@ rests_without p h m s r (Some c) a = a
 
 module _ (nothing : NothingTaken) (ends : EndJoins) (asset : Asset) (m : ℕ) (s : Side) (h : List Element) (r : Rests) (cut : Option CutReason) (first : Option (List (List ℕ))) (now : State) where
   -- no letters are no element
-  without : Follows asset (h ++ bytes_at m s [] ∷ []) r cut first now → Follows asset (h ++ []) r cut first now
-  without f = subst (λ x. Follows asset x r cut first now) (sym (append-nil h)) (record {
+  without : Follows asset none_before (h ++ bytes_at m s [] ∷ []) r cut first now → Follows asset none_before (h ++ []) r cut first now
+  without f = subst (λ x. Follows asset none_before x r cut first now) (sym (append-nil h)) (record {
     judged = f.judged;
-    are_judged = subst (λ x. AreJudged asset now.lane.client.address x f.judged) (append-nil h) (nothing asset now.lane.client.address h [] m s f.judged f.are_judged);
+    are_judged = subst (λ x. AreJudged asset (newcomer now.lane.client.address) x f.judged) (append-nil h) (nothing asset (newcomer now.lane.client.address) h [] m s f.judged f.are_judged);
     is_cut = f.is_cut;
     are_rests = rests_without asset.protocol h m s r cut f.are_rests;
     knows = f.knows;
@@ -54,18 +55,18 @@ module _ (nothing : NothingTaken) (ends : EndJoins) (asset : Asset) (m : ℕ) (s
     of_lines = f.of_lines;
   })
 
-  pub as_fed : (piece : List ℕ) (ended : Bool) → Follows asset (h ++ letters_at m s piece ended ∷ []) r cut first now → Follows asset (h ++ fed_at m s (record { bytes = piece; ended = ended })) r cut first now
+  pub as_fed : (piece : List ℕ) (ended : Bool) → Follows asset none_before (h ++ letters_at m s piece ended ∷ []) r cut first now → Follows asset none_before (h ++ fed_at m s (record { bytes = piece; ended = ended })) r cut first now
   as_fed [] false f = without f
   as_fed [] true f = f
   as_fed (b ∷ bytes) ended f = rw (some_letters b bytes ended) f
 
   -- bytes and then End at one moment
-  pub as_ended : (piece : List ℕ) → Follows asset ((h ++ fed_at m s (record { bytes = piece; ended = false })) ++ end_at m s ∷ []) r cut first now → Follows asset (h ++ fed_at m s (record { bytes = piece; ended = true })) r cut first now
-  as_ended [] f = subst (λ x. Follows asset (x ++ end_at m s ∷ []) r cut first now) (append-nil h) f
+  pub as_ended : (piece : List ℕ) → Follows asset none_before ((h ++ fed_at m s (record { bytes = piece; ended = false })) ++ end_at m s ∷ []) r cut first now → Follows asset none_before (h ++ fed_at m s (record { bytes = piece; ended = true })) r cut first now
+  as_ended [] f = subst (λ x. Follows asset none_before (x ++ end_at m s ∷ []) r cut first now) (append-nil h) f
   as_ended (b ∷ bytes) f =
-      let two : Follows asset ((h ++ bytes_at m s (b ∷ bytes) ∷ []) ++ end_at m s ∷ []) r cut first now =
-      subst (λ x. Follows asset ((h ++ cond x [] (bytes_at m s (b ∷ bytes) ∷ [])) ++ end_at m s ∷ []) r cut first now) (some_letters b bytes false) f in
-      rw (some_letters b bytes true) (ends asset h r cut first now m s (b ∷ bytes) two)
+      let two : Follows asset none_before ((h ++ bytes_at m s (b ∷ bytes) ∷ []) ++ end_at m s ∷ []) r cut first now =
+      subst (λ x. Follows asset none_before ((h ++ cond x [] (bytes_at m s (b ∷ bytes) ∷ [])) ++ end_at m s ∷ []) r cut first now) (some_letters b bytes false) f in
+      rw (some_letters b bytes true) (ends asset none_before h r cut first now m s (b ∷ bytes) two)
 
 -- ---- there
 
@@ -73,7 +74,7 @@ of_client : (asset : Asset) (client : Endpoint) (lane : LaneValue) (r : Rests) (
 of_client asset client lane r h w l = subst (λ e. IsLaneAfter asset e lane r h w) (sym l.is_client) l
 
 -- over the lines of the lane's own work
-pub follows_of : {asset : Asset} {client : Endpoint} {lane : LaneValue} {r : Rests} {h : List Element} {w : Work} {c k : Queue} → AreUncut asset client r h w lane c k → Follows asset h r None (Some []) (state lane c k (Some w.log))
+pub follows_of : {asset : Asset} {client : Endpoint} {lane : LaneValue} {r : Rests} {h : List Element} {w : Work} {c k : Queue} → AreUncut asset client r h w lane c k → Follows asset none_before h r None (Some []) (state lane c k (Some w.log))
 follows_of {asset} {client} {lane} {r} {h} {w} {c} {k} st =
     let o = of_client asset client lane r h w st.lane_stands in
     record {
@@ -90,7 +91,7 @@ follows_of {asset} {client} {lane} {r} {h} {w} {c} {k} st =
 -- ---- and back
 
 pub more_of : (asset : Asset) (client : Endpoint) (now : ℕ) (s : Side) (r : Rests) (h : List Element) (w : Work) (letters : Stream) (lane : LaneValue) (c k : Queue) (cut : Option CutReason) (d0 d1 : DeskValue) (more : List (List ℕ)) →
-    lane.client ≡ client → Follows asset (h ++ fed_at now s letters) r cut (Some []) (state lane c k (Some (w.log ++ more))) → d1.packets ≡ d0.packets → d1.lines ≡ Rattle.cf_lane.specs.Log.with_lines d0.lines more →
+    lane.client ≡ client → Follows asset none_before (h ++ fed_at now s letters) r cut (Some []) (state lane c k (Some (w.log ++ more))) → d1.packets ≡ d0.packets → d1.lines ≡ Rattle.cf_lane.specs.Log.with_lines d0.lines more →
     FollowsMore asset client now s r h w letters lane c k cut (told d0) (told d1)
 more_of asset client now s r h w letters lane c k cut d0 d1 more is f same added = record {
   work = work_by asset lane.client f.judged;

@@ -1,4 +1,5 @@
 -- Letters that were handed to the lane, where the desk failed amid their lines.
+use Rattle.cf_lane.specs.Caller.{Caller, newcomer, none_before}
 use Rattle.std.proofs.Common.{◌≡◌, ℕ, Bool, true, false, cond, List, [], ◌∷◌, ◌++◌, length, take, drop, Some, refl, sym, ap, ◌∙◌, subst, append_assoc, inr, take-append-drop}
 use Rattle.std.specs.List.{concat}
 use Rattle.std.proofs.lemmas.List.{append-nil}
@@ -34,7 +35,7 @@ module _ (asset : Asset) (client : Endpoint) (now : ℕ) (s : Side) (h : List El
     (packets : d1.packets ≡ d0.packets) (packet_part : d1.packet_part ≡ d0.packet_part) (added : d1.lines ≡ with_lines d0.lines more)
     (js : List Judged) (count some : ℕ) (of_lines : Some (w.log ++ more) ≡ with_lines (Some []) (take count (lines asset client [] js)))
     (of_part : d1.line_part ≡ take some (concat (drop count (lines asset client [] js)))) where
-  amid_work : (ks : List Judged) (behind : List (List ℕ)) → AreJudged asset client.address (h ++ fed_at now s letters) ks → lines asset client [] ks ≡ lines asset client [] js ++ behind →
+  amid_work : (ks : List Judged) (behind : List (List ℕ)) → AreJudged asset (newcomer client.address) (h ++ fed_at now s letters) ks → lines asset client [] ks ≡ lines asset client [] js ++ behind →
       FollowsAmid asset client now s h w letters d0 d1
   amid_work ks behind are goes =
       let all = lines asset client [] js in
@@ -49,7 +50,7 @@ module _ (asset : Asset) (client : Endpoint) (now : ℕ) (s : Side) (h : List El
             (subst (λ xs. IsPartOf xs d0.line_part d1.line_part) (sym (concat-append missing behind)) (part_longer (concat missing) (concat behind) d0.line_part d1.line_part (inr (some, of_part))));
       }
 
-module _ (nothing : NothingTaken) (join : JudgedJoin) (asset : Asset) (client : ℕ) (now : ℕ) (s : Side) (h : List Element) where
+module _ (nothing : NothingTaken) (join : JudgedJoin) (asset : Asset) (client : Caller) (now : ℕ) (s : Side) (h : List Element) where
   -- no letters are no element
   judged_fed : (piece : List ℕ) (ended : Bool) (js : List Judged) → AreJudged asset client (h ++ letters_at now s piece ended ∷ []) js → AreJudged asset client (h ++ fed_at now s (record { bytes = piece; ended = ended })) js
   judged_fed [] false js a = nothing asset client h [] now s js a
@@ -70,28 +71,28 @@ module _ (nothing : NothingTaken) (join : JudgedJoin) (asset : Asset) (client : 
 pub fed_amid : (nothing : NothingTaken) (join : JudgedJoin) (go : JudgementsGoOn) (streams : StreamsGoOn) (asset : Asset) (client : Endpoint) (now : ℕ) (s : Side) (h : List Element) (w : Work)
     (before piece : List ℕ) (ended : Bool) (d0 d1 : DeskValue) (more : List (List ℕ)) → IsOctets (before ++ piece) →
     d1.packets ≡ d0.packets → d1.packet_part ≡ d0.packet_part → d1.lines ≡ with_lines d0.lines more →
-    BeganWithin asset client h now s piece (Some []) (Some (w.log ++ more)) d1.line_part → FollowsAmid asset client now s h w (record { bytes = piece; ended = ended }) d0 d1
+    BeganWithin asset none_before client h now s piece (Some []) (Some (w.log ++ more)) d1.line_part → FollowsAmid asset client now s h w (record { bytes = piece; ended = ended }) d0 d1
 fed_amid nothing join go streams asset client now s h w before piece ended d0 d1 more octets packets part added b =
     let first = bytes_at now s b.handled in
     let last = letters_at now s b.rest ended in
     let began = b.began in
     let here : IsOctets b.rest = octets_behind b.handled b.rest (subst IsOctets b.piece_is (octets_behind before piece octets)) in
-    let on = go asset client.address (h ++ first ∷ []) last began.judged began.are_judged here in
-    let apart = subst (λ x. AreJudged asset client.address x on.0) (append_assoc h (first ∷ []) (last ∷ [])) on.1 in
-    let whole = subst (λ xs. AreJudged asset client.address (h ++ letters_at now s xs ended ∷ []) on.0) (sym b.piece_is) (join asset client.address h [] now s b.handled b.rest ended on.0 apart) in
-    let goes = streams asset client (h ++ first ∷ []) (last ∷ []) began.judged on.0 began.are_judged on.1 in
+    let on = go asset (newcomer client.address) (h ++ first ∷ []) last began.judged began.are_judged here in
+    let apart = subst (λ x. AreJudged asset (newcomer client.address) x on.0) (append_assoc h (first ∷ []) (last ∷ [])) on.1 in
+    let whole = subst (λ xs. AreJudged asset (newcomer client.address) (h ++ letters_at now s xs ended ∷ []) on.0) (sym b.piece_is) (join asset (newcomer client.address) h [] now s b.handled b.rest ended on.0 apart) in
+    let goes = streams asset none_before client (h ++ first ∷ []) (last ∷ []) began.judged on.0 began.are_judged on.1 in
     amid_work asset client now s h w (record { bytes = piece; ended = ended }) d0 d1 more packets part added began.judged began.count began.some began.of_lines began.of_part
-    on.0 (lines asset client began.judged goes.ms) (judged_fed nothing join asset client.address now s h piece ended on.0 whole) goes.in_log
+    on.0 (lines asset client began.judged goes.ms) (judged_fed nothing join asset (newcomer client.address) now s h piece ended on.0 whole) goes.in_log
 
 -- the line of an End failed
 pub ended_amid : (nothing : NothingTaken) (join : JudgedJoin) (asset : Asset) (client : Endpoint) (now : ℕ) (s : Side) (h : List Element) (w : Work)
     (piece : List ℕ) (d0 d1 : DeskValue) (more : List (List ℕ)) →
     d1.packets ≡ d0.packets → d1.packet_part ≡ d0.packet_part → d1.lines ≡ with_lines d0.lines more →
-    Began asset client ((h ++ fed_at now s (record { bytes = piece; ended = false })) ++ end_at now s ∷ []) (Some []) (Some (w.log ++ more)) d1.line_part →
+    Began asset none_before client ((h ++ fed_at now s (record { bytes = piece; ended = false })) ++ end_at now s ∷ []) (Some []) (Some (w.log ++ more)) d1.line_part →
     FollowsAmid asset client now s h w (record { bytes = piece; ended = true }) d0 d1
 ended_amid nothing join asset client now s h w piece d0 d1 more packets part added began =
     amid_work asset client now s h w (record { bytes = piece; ended = true }) d0 d1 more packets part added began.judged began.count began.some began.of_lines began.of_part
-    began.judged [] (judged_ended nothing join asset client.address now s h piece began.judged began.are_judged) (sym (append-nil (lines asset client [] began.judged)))
+    began.judged [] (judged_ended nothing join asset (newcomer client.address) now s h piece began.judged began.are_judged) (sym (append-nil (lines asset client [] began.judged)))
 
 -- after lines that were put
 pub amid_behind : (asset : Asset) (client : Endpoint) (now : ℕ) (s : Side) (h : List Element) (w v : Work) (first : List (List ℕ)) (letters : Stream) (d0 d1 d2 : DeskValue) → v.log ≡ w.log ++ first →

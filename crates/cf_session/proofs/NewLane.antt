@@ -1,4 +1,5 @@
 -- A lane to which nothing was handed.
+use Rattle.cf_lane.specs.Caller.{Caller, newcomer, none_before}
 use Rattle.std.proofs.Common.{◌≡◌, ℕ, List, [], ◌∷◌, ◌++◌, map, Option, None, refl, sym, ◌∙◌, subst}
 use Rattle.cf_lane.specs.Follows.{AreJudged, Follows, no_rests}
 use Rattle.cf_lane.specs.Handled.{Knows, LaneValue, state}
@@ -15,20 +16,20 @@ none_of : (js : List Judged) (dropped : List Placed) → [] ≡ map place_of js 
 none_of [] dropped e = refl
 none_of (j ∷ js) dropped e = cc
 
-none_judged : (asset : Asset) (client : ℕ) (js : List Judged) → AreJudged asset client [] js → js ≡ []
+none_judged : (asset : Asset) (client : Caller) (js : List Judged) → AreJudged asset client [] js → js ≡ []
 none_judged asset client js a = none_of js a.dropped (sym a.are_items ∙ a.are_first)
 
 -- what a lane knows hangs on its queues by their Ends alone
-pub knows_on : (asset : Asset) (lane : LaneValue) (c k c' k' : Queue) (log log' : Option (List (List ℕ))) (js : List Judged) → Knows asset (state lane c k log) js →
-    c'.ended ≡ has_ended side.Controller js → k'.ended ≡ has_ended side.Client js → Knows asset (state lane c' k' log') js
+pub knows_on : (asset : Asset) (lane : LaneValue) (c k c' k' : Queue) (log log' : Option (List (List ℕ))) (js : List Judged) → Knows asset none_before (state lane c k log) js →
+    c'.ended ≡ has_ended side.Controller js → k'.ended ≡ has_ended side.Client js → Knows asset none_before (state lane c' k' log') js
 knows_on asset lane c k c' k' log log' js h a b = record { admitted = h.admitted; refused = h.refused; client_ended = a; controller_ended = b; rules = h.rules; wire = h.wire }
 
 pub lane_begins : (asset : Asset) (client : Endpoint) (lane : LaneValue) (c k : Queue) → lane.client ≡ client →
-    Follows asset [] no_rests None None (state lane c k None) → IsLaneAfter asset client lane no_rests [] no_work
+    Follows asset none_before [] no_rests None None (state lane c k None) → IsLaneAfter asset client lane no_rests [] no_work
 lane_begins asset client lane c k is f =
-    let none = none_judged asset lane.client.address f.judged f.are_judged in
-    let are : AreJudged asset client.address [] [] = subst (λ (e : Endpoint). AreJudged asset e.address [] []) is (subst (AreJudged asset lane.client.address []) none f.are_judged) in
-    let knows : Knows asset (state lane c k None) [] = subst (Knows asset (state lane c k None)) none f.knows in
+    let none = none_judged asset (newcomer lane.client.address) f.judged f.are_judged in
+    let are : AreJudged asset (newcomer client.address) [] [] = subst (λ (e : Endpoint). AreJudged asset (newcomer e.address) [] []) is (subst (AreJudged asset (newcomer lane.client.address) []) none f.are_judged) in
+    let knows : Knows asset none_before (state lane c k None) [] = subst (Knows asset none_before (state lane c k None)) none f.knows in
     record {
       works = record { judged = []; are_judged = are; is_work = refl };
       is_client = is;

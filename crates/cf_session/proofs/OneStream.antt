@@ -1,4 +1,5 @@
 -- One stream towards each side of a session.
+use Rattle.cf_lane.specs.Caller.{Caller, newcomer, none_before}
 use Rattle.std.proofs.Common.{◌≡◌, ℕ, zero, suc, Bool, true, false, ◌&&◌, ◌||◌, ◌⊎◌, inl, inr, List, [], ◌∷◌, ◌++◌, map, Option, Some, None, refl, sym, ap, ◌∙◌, subst, arith}
 use Rattle.std.specs.Prelude.{slice_get}
 use Rattle.std.specs.List.{list_any}
@@ -75,7 +76,7 @@ placed_end : (s : Side) (js : List Judged) → list_any (is_end s) (map place_of
 placed_end s [] = refl
 placed_end s (j ∷ js) = ap (λ b. ends s j.item || b) (placed_end s js)
 
-judged_end : (asset : Asset) (client : ℕ) (s : Side) (h : List Element) (js : List Judged) → AreJudged asset client h js → has_ended s js ≡ true → ended_of s h ≡ true
+judged_end : (asset : Asset) (client : Caller) (s : Side) (h : List Element) (js : List Judged) → AreJudged asset client h js → has_ended s js ≡ true → ended_of s h ≡ true
 judged_end asset client s h js a e =
     items_end asset.protocol s [] h a.items a.are_items
     (ap (list_any (is_end s)) a.are_first ∙ list_any-append (is_end s) (map place_of js) a.dropped
@@ -124,13 +125,13 @@ module _ (go : StreamsGoOn) (quiet : QuietBehindEnd) (f : Flow) (limit : ℕ) wh
   judged_extend : (es : List SessionEvent) (e : SessionEvent) (to : Side) → AreEvents f limit (e ∷ es) → (a : Works f.asset (client_of f) (history es) (work_of es)) → (b : Works f.asset (client_of f) (history (e ∷ es)) e.work) →
       Extends (stream_to f.asset to a.judged) (stream_to f.asset to b.judged)
   judged_extend es e to are a b =
-      let g = go f.asset (client_of f) (history es) e.fed a.judged b.judged a.are_judged b.are_judged in
+      let g = go f.asset none_before (client_of f) (history es) e.fed a.judged b.judged a.are_judged b.are_judged in
       record {
         more = outputs f.asset to a.judged g.ms;
         bytes = outputs_on f.asset (client_of f) to a.judged b.judged g;
         ended = λ d.
-            (let still = fed_quiet f limit es e (other to) are.0 (judged_end f.asset (client_of f).address (other to) (history es) a.judged a.are_judged d) in
-            let none = quiet f.asset (client_of f).address (history es) e.fed a.judged g.ms to a.are_judged (subst (AreJudged f.asset (client_of f).address (history (e ∷ es))) g.all b.are_judged) d still in
+            (let still = fed_quiet f limit es e (other to) are.0 (judged_end f.asset (newcomer (client_of f).address) (other to) (history es) a.judged a.are_judged d) in
+            let none = quiet f.asset (newcomer (client_of f).address) (history es) e.fed a.judged g.ms to a.are_judged (subst (AreJudged f.asset (newcomer (client_of f).address) (history (e ∷ es))) g.all b.are_judged) d still in
             same_stream (stream_to f.asset to b.judged) (stream_to f.asset to a.judged)
             (outputs_on f.asset (client_of f) to a.judged b.judged g ∙ ap (λ xs. outputs f.asset to [] a.judged ++ xs) none ∙ append-nil (outputs f.asset to [] a.judged))
             (ap (has_ended (other to)) g.all ∙ list_any-append (λ j. ends (other to) j.item) a.judged g.ms ∙ or_left (has_ended (other to) a.judged) (has_ended (other to) g.ms) d ∙ sym d));

@@ -1,4 +1,5 @@
 -- Steps of the proof: when the parts of a session in memory stand for its events: `AreParts`.
+use Rattle.cf_lane.specs.Caller.{none_before}
 use Rattle.std.specs.Prelude.{◌≡◌, ℕ, List, ◌∷◌, ◌-◌, max, Option}
 use Rattle.cf_lane.specs.Follows.{AreRests, Rests}
 use Rattle.cf_lane.specs.Handled.{Knows, LaneValue, state}
@@ -49,7 +50,7 @@ pub record IsLaneAfter (asset : Asset) (client : Endpoint) (lane : LaneValue) (r
   pub are_rests : AreRests asset.protocol history rests work.cut
   pub knows : (to_client to_controller : Queue) (log : Option (List (List ℕ))) →
       to_client.ended ≡ has_ended side.Controller works.judged → to_controller.ended ≡ has_ended side.Client works.judged →
-      Knows asset (state lane to_client to_controller log) works.judged
+      Knows asset none_before (state lane to_client to_controller log) works.judged
 
 -- the bytes of each side that are no whole unit stay pending in its window
 abbrev pub rests : SessionValue → Rests

@@ -1,4 +1,5 @@
 -- What a lane makes of all that was taken of two sides. The main definition is `Works`, read from the end.
+use Rattle.cf_lane.specs.Caller.{newcomer}
 use Rattle.std.specs.Prelude.{◌≡◌, ℕ, ◌==◌, count_by, if◌then◌else◌, List, [], ◌∷◌, Option, None}
 use Rattle.cf_audit.specs.declared.CutReason.{CutReason}
 use Rattle.cf_lane.specs.Follows.{AreJudged}
@@ -47,5 +48,5 @@ work_by asset client judged = record {
 -- the work of the items of a history, the oldest element first
 pub record Works (asset : Asset) (client : Endpoint) (history : List Element) (work : Work) : Type 0 where
   pub judged : List Judged
-  pub are_judged : AreJudged asset client.address history judged
+  pub are_judged : AreJudged asset (newcomer client.address) history judged
   pub is_work : work ≡ work_by asset client judged

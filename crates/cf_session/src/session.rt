@@ -121,7 +121,7 @@ impl Session {
     {
         let client = Leg::passive(alloc, asset.endpoint, syn.source, syn.seq, syn.mss)?;
         let controller = Leg::active(alloc, syn.source, asset.endpoint, syn.seq)?;
-        let lane = Lane::new(alloc, asset, syn.source)?;
+        let lane = Lane::new(alloc, asset, syn.source, None)?;
         let to_client = Outq::new(alloc)?;
         let to_controller = Outq::new(alloc)?;
         Ok(Session {

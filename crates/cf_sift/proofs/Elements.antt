@@ -1,4 +1,5 @@
 -- A sifting that took an element.
+use Rattle.cf_lane.specs.Caller.{newcomer, none_before}
 use Rattle.std.proofs.Common.{◌≡◌, ◌≤◌, ◌+◌, ◌<◌, ℕ, true, false, None, Some, Option, List, [], ◌∷◌, ◌++◌, length, take, drop, refl, sym, ap, ◌∙◌, subst, inl, inr, arith, cond}
 use Rattle.std.specs.Option.{option_or}
 use Rattle.std.specs.Prelude.{◌||◌}
@@ -101,15 +102,15 @@ module _ (asset : Asset) (client : Endpoint) (names : SiftNamesValue) (first : L
     abbrev were : List Judged
     were = before.follows.judged
 
-    were_judged : AreJudged asset client.address h were
-    were_judged = subst (λ (e : Endpoint). AreJudged asset e.address h were) before.of_client before.follows.are_judged
+    were_judged : AreJudged asset (newcomer client.address) h were
+    were_judged = subst (λ (e : Endpoint). AreJudged asset (newcomer e.address) h were) before.of_client before.follows.are_judged
 
     -- a line failed
     pub line_fails : (part element : Element) (rest : List ℕ) (now : List ℕ → Content) → element ≡ record { moment = part.moment; side = part.side; letters = record { bytes = part.letters.bytes ++ rest; ended = part.letters.ended } } →
-        Began asset sifting.lane.client (h ++ part ∷ []) (file_lines (first names.log)) (file_lines (now names.log)) (file_part (now names.log)) →
+        Began asset none_before sifting.lane.client (h ++ part ∷ []) (file_lines (first names.log)) (file_lines (now names.log)) (file_part (now names.log)) →
         now names.out ≡ old names.out → now names.replies ≡ old names.replies → LineFails asset client names first now h were element
     line_fails part element rest now is began out replies =
-        let b = subst (λ (e : Endpoint). Began asset e (h ++ part ∷ []) (file_lines (first names.log)) (file_lines (now names.log)) (file_part (now names.log))) before.of_client began in
+        let b = subst (λ (e : Endpoint). Began asset none_before e (h ++ part ∷ []) (file_lines (first names.log)) (file_lines (now names.log)) (file_part (now names.log))) before.of_client began in
         record {
           part = part;
           front = (rest, is);
@@ -124,18 +125,18 @@ module _ (asset : Asset) (client : Endpoint) (names : SiftNamesValue) (first : L
     module _ (e : Element) (cut : Option CutReason) (mid : Sifting) (now : List ℕ → Content)
         (takes : Takes asset side.Client (e ∷ []) cut sifting.heard.rest.items mid.heard.rest.items (state_of sifting (old names.log)) (state_of mid (now names.log)))
         (out : now names.out ≡ old names.out) (replies : now names.replies ≡ old names.replies) (whole : ends_with_line (now names.log) ≡ true) where
-      fed : Follows asset (h ++ e ∷ []) (client_rests mid.heard.rest.items) cut (file_lines (first names.log)) (state_of mid (now names.log))
-      fed = adds_whole asset (h ++ e ∷ []) (client_rests mid.heard.rest.items) cut (file_lines (first names.log)) (file_lines (old names.log)) (state_of mid (now names.log))
-          (takes.follows h (client_rests sifting.heard.rest.items) (file_lines (first names.log)) (file_lines (old names.log)) refl before.follows)
+      fed : Follows asset none_before (h ++ e ∷ []) (client_rests mid.heard.rest.items) cut (file_lines (first names.log)) (state_of mid (now names.log))
+      fed = adds_whole asset none_before (h ++ e ∷ []) (client_rests mid.heard.rest.items) cut (file_lines (first names.log)) (file_lines (old names.log)) (state_of mid (now names.log))
+          (takes.follows none_before h (client_rests sifting.heard.rest.items) (file_lines (first names.log)) (file_lines (old names.log)) refl before.follows)
 
       abbrev are : List Judged
       are = fed.judged
 
-      are_judged : AreJudged asset client.address (h ++ e ∷ []) are
-      are_judged = subst (λ (p : Endpoint). AreJudged asset p.address (h ++ e ∷ []) are) (takes.client ∙ before.of_client) fed.are_judged
+      are_judged : AreJudged asset (newcomer client.address) (h ++ e ∷ []) are
+      are_judged = subst (λ (p : Endpoint). AreJudged asset (newcomer p.address) (h ++ e ∷ []) are) (takes.client ∙ before.of_client) fed.are_judged
 
       goes : GoOn asset client were are
-      goes = go asset client h (e ∷ []) were are were_judged are_judged
+      goes = go asset none_before client h (e ∷ []) were are were_judged are_judged
 
       ends_after : mid.to_controller.ended ≡ ended_of side.Client (h ++ e ∷ [])
       ends_after = takes.client_ended ∙ ap (λ b. b || ended_of side.Client (e ∷ [])) before.ends ∙ sym (ended_of-append side.Client h (e ∷ []))
@@ -189,7 +190,7 @@ module _ (asset : Asset) (client : Endpoint) (names : SiftNamesValue) (first : L
           abbrev moved : Sifting
           moved = record mid { to_client = to_client; to_controller = to_controller }
 
-          follows : Follows asset (h ++ e ∷ []) (client_rests mid.heard.rest.items) cut (file_lines (first names.log)) (state_of moved (new names.log))
+          follows : Follows asset none_before (h ++ e ∷ []) (client_rests mid.heard.rest.items) cut (file_lines (first names.log)) (state_of moved (new names.log))
           follows = record {
             judged = are;
             are_judged = fed.are_judged;

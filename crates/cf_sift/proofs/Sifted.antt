@@ -1,4 +1,5 @@
 -- A stored stream from the creation of its outputs to the line of its cut.
+use Rattle.cf_lane.specs.Caller.{none_before}
 use Rattle.std.proofs.Common.{◌≡◌, ℕ, true, false, None, Some, Option, Result, Ok, Err, List, [], ◌∷◌, ◌++◌, map, refl, sym, ap, ◌∙◌, append_assoc, subst, inl, inr}
 use Rattle.std.specs.Prelude.{IsErrAnd, IsErrOf, IsSome}
 use Rattle.cf_audit.specs.declared.line.CutReason.{CutReason}
@@ -58,10 +59,10 @@ module _ (asset : Asset) (client : ℕ) (names : SiftNamesValue) (before mid : L
   who = stored_client client
 
   -- the sifting before the first piece
-  pub starts_sifting : (sifting : Sifting) → ((first : Option (List (List ℕ))) → Follows asset [] (client_rests sifting.heard.rest.items) None first (state sifting.lane sifting.to_client sifting.to_controller first)) →
+  pub starts_sifting : (sifting : Sifting) → ((first : Option (List (List ℕ))) → Follows asset none_before [] (client_rests sifting.heard.rest.items) None first (state sifting.lane sifting.to_client sifting.to_controller first)) →
       sifting.lane.client ≡ who → sifting.heard.letters ≡ 0 → sifting.to_controller.ended ≡ false → IsSiftingOf asset who names (created before) mid [] None sifting
   starts_sifting sifting follows same letters goes =
-      let f = subst (λ (l : Content). Follows asset [] (client_rests sifting.heard.rest.items) None (file_lines (created before names.log)) (state_of sifting l))
+      let f = subst (λ (l : Content). Follows asset none_before [] (client_rests sifting.heard.rest.items) None (file_lines (created before names.log)) (state_of sifting l))
       (sym are.1.1.0) (follows (file_lines (created before names.log))) in
       let none : f.judged ≡ [] = none_judged f.judged f.are_judged.dropped (sym f.are_judged.are_items ∙ f.are_judged.are_first) in
       record {

@@ -1,4 +1,5 @@
 -- Histories that are cut in two, and the history of a stored stream.
+use Rattle.cf_lane.specs.Caller.{newcomer}
 use Rattle.std.proofs.Common.{◌≡◌, ◌+◌, ◌≤◌, ◌<◌, ◌⊎◌, ℕ, zero, suc, None, Option, List, [], ◌∷◌, ◌++◌, length, take, drop, refl, sym, ap, ◌∙◌, append_assoc, subst, inl, inr, arith}
 use Rattle.std.proofs.lemmas.List.{append-nil, drop_at, length-append, length-drop, nil_from_length, same_from_push, take_all, take_at}
 use Rattle.cf_audit.specs.declared.line.CutReason.{CutReason}
@@ -48,20 +49,20 @@ module _ {X : Type 0} where
 
 module _ (one : HasOneJudgement) (asset : Asset) (client : ℕ) where
   -- a history that is not cut, and no more after one more element
-  pub uncut_more : (h : List Element) (e : Element) (judged : List Judged) → IsUncut asset client h → AreJudged asset client (h ++ e ∷ []) judged →
+  pub uncut_more : (h : List Element) (e : Element) (judged : List Judged) → IsUncut asset client h → AreJudged asset (newcomer client) (h ++ e ∷ []) judged →
       cut_behind asset (h ++ e ∷ []) judged ≡ None → IsUncut asset client (h ++ e ∷ [])
   uncut_more h e judged uncut are none front back ks is are_ks =
       elim (split_last front back h e is) [
         | inl nothing ↦
             let whole : front ≡ h ++ e ∷ [] = sym (append-nil front) ∙ ap (λ b. front ++ b) (sym nothing) ∙ sym is in
-            let same : ks ≡ judged = one asset client (h ++ e ∷ []) ks judged (subst (λ l. AreJudged asset client l ks) whole are_ks) are in
+            let same : ks ≡ judged = one asset (newcomer client) (h ++ e ∷ []) ks judged (subst (λ l. AreJudged asset (newcomer client) l ks) whole are_ks) are in
             ap (λ l. cut_behind asset l ks) whole ∙ ap (cut_behind asset (h ++ e ∷ [])) same ∙ none
         | inr more ↦ uncut front more.0 ks more.1 are_ks
       ]
 
   -- the place of a cut, with one more element
   pub goes_up : (whole h later : List Element) (e : Element) (cut : Option CutReason) (judged : List Judged) → IsUncut asset client h →
-      whole ≡ (h ++ e ∷ []) ++ later → AreJudged asset client (h ++ e ∷ []) judged → cut_behind asset (h ++ e ∷ []) judged ≡ cut →
+      whole ≡ (h ++ e ∷ []) ++ later → AreJudged asset (newcomer client) (h ++ e ∷ []) judged → cut_behind asset (h ++ e ∷ []) judged ≡ cut →
       (cut ≡ None → later ≡ []) → GoesUpTo asset client whole cut (h ++ e ∷ []) judged
   goes_up whole h later e cut judged uncut begins are is all = record {
     later = later;
@@ -96,7 +97,7 @@ module _ (one : HasOneJudgement) (asset : Asset) (client : ℕ) where
 pub has_one_cut : HasOneJudgement → HasOneCut
 has_one_cut one asset client whole h k cut other js ks x y =
     let place = one_place one asset client whole h k cut other js ks x y in
-    let same = one asset client k js ks (subst (λ l. AreJudged asset client l js) place x.are_judged) y.are_judged in
+    let same = one asset (newcomer client) k js ks (subst (λ l. AreJudged asset (newcomer client) l js) place x.are_judged) y.are_judged in
     (place, same, sym x.is_cut ∙ ap (λ l. cut_behind asset l js) place ∙ ap (cut_behind asset k) same ∙ y.is_cut)
 
 no_pieces : (n : ℕ) → pieces_within n [] ≡ []

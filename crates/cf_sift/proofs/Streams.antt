@@ -1,4 +1,5 @@
 -- A stored stream that is taken piece by piece.
+use Rattle.cf_lane.specs.Caller.{newcomer}
 use Rattle.std.proofs.Common.{◌≡◌, ◌+◌, ◌≤◌, ◌<◌, ℕ, None, Option, List, [], ◌∷◌, ◌++◌, length, min, take, drop, refl, sym, ap, ◌∙◌, append_assoc, subst, inl, inr, arith}
 use Rattle.std.proofs.lemmas.Bool.{cases_lt}
 use Rattle.std.proofs.lemmas.List.{append-nil, length-append, length-take, nil_from_length, take-append-drop, take_all, take_min}
@@ -88,8 +89,8 @@ piece_at file bytes p begins filled some short =
 
 module _ (asset : Asset) (client : Endpoint) (names : SiftNamesValue) (first : List ℕ → Content) where
   pub of_client : (now : List ℕ → Content) (h : List Element) (cut : Option CutReason) (sifting : Sifting) (f : IsSiftingOf asset client names first now h cut sifting) →
-      AreJudged asset client.address h f.follows.judged
-  of_client now h cut sifting f = subst (λ (e : Endpoint). AreJudged asset e.address h f.follows.judged) f.of_client f.follows.are_judged
+      AreJudged asset (newcomer client.address) h f.follows.judged
+  of_client now h cut sifting f = subst (λ (e : Endpoint). AreJudged asset (newcomer e.address) h f.follows.judged) f.of_client f.follows.are_judged
 
   -- the outputs have what was taken
   pub have_output : (now : List ℕ → Content) (h : List Element) (cut : Option CutReason) (sifting : Sifting) (f : IsSiftingOf asset client names first now h cut sifting) →
@@ -171,7 +172,7 @@ module _ (asset : Asset) (client : Endpoint) (names : SiftNamesValue) (first : L
       sifting_of = f;
       uncut = λ front back ks is are.
           let none = (no_parts front back (sym is)).0 in
-          let same : ks ≡ f.follows.judged = one asset client.address [] ks f.follows.judged (subst (λ l. AreJudged asset client.address l ks) none are) (of_client asset client names first old [] None sifting f) in
+          let same : ks ≡ f.follows.judged = one asset (newcomer client.address) [] ks f.follows.judged (subst (λ l. AreJudged asset (newcomer client.address) l ks) none are) (of_client asset client names first old [] None sifting f) in
           ap (λ l. cut_behind asset l ks) none ∙ ap (cut_behind asset []) same ∙ cut_known asset client names first old [] None sifting f
           ∙ limit_none LETTER_LIMIT sifting.heard.letters 0 (queue_length sifting.to_client) (queue_length sifting.to_controller) ready.few (omega arith) ready.client.few ready.controller.few;
     }

@@ -1,4 +1,5 @@
 -- What an answer about a stored stream means, and what then stands in the files: SiftEnds. It is read from the end.
+use Rattle.cf_lane.specs.Caller.{newcomer}
 use Rattle.std.specs.Prelude.{◌≡◌, ◌≤◌, ◌⊎◌, ℕ, count_by, length, List, [], ◌∷◌, ◌++◌, take, Result, Ok, Err, Option, None, Some}
 use Rattle.std.specs.List.{concat}
 use Rattle.cf_audit.specs.Line.{Cut}
@@ -96,7 +97,7 @@ module _ (asset : Asset) (client : Endpoint) (names : SiftNamesValue) (first now
     pub part : Element
     pub front : IsFrontOf part element
     pub judged : List Judged
-    pub are_judged : AreJudged asset client.address (earlier ++ part ∷ []) judged
+    pub are_judged : AreJudged asset (newcomer client.address) (earlier ++ part ∷ []) judged
     pub of_out : HasOut before
     pub of_replies : HasReplies before
     pub of_log : BeginsLog judged
@@ -104,7 +105,7 @@ module _ (asset : Asset) (client : Endpoint) (names : SiftNamesValue) (first now
   -- an append to OUT failed: the lines of the element are written, and nothing of it is in REPLIES
   pub record OutFails (earlier : List Element) (before : List Judged) (element : Element) : Type 0 where
     pub judged : List Judged
-    pub are_judged : AreJudged asset client.address (earlier ++ element ∷ []) judged
+    pub are_judged : AreJudged asset (newcomer client.address) (earlier ++ element ∷ []) judged
     pub of_out : GoesOnOut before judged
     pub of_replies : HasReplies before
     pub of_log : HasLog judged []
@@ -112,7 +113,7 @@ module _ (asset : Asset) (client : Endpoint) (names : SiftNamesValue) (first now
   -- an append to REPLIES failed: what the element puts into OUT is written
   pub record RepliesFail (earlier : List Element) (before : List Judged) (element : Element) : Type 0 where
     pub judged : List Judged
-    pub are_judged : AreJudged asset client.address (earlier ++ element ∷ []) judged
+    pub are_judged : AreJudged asset (newcomer client.address) (earlier ++ element ∷ []) judged
     pub of_out : HasOut judged
     pub of_replies : GoesOnReplies before judged
     pub of_log : HasLog judged []
@@ -120,7 +121,7 @@ module _ (asset : Asset) (client : Endpoint) (names : SiftNamesValue) (first now
   -- the line of the cut failed: all else is written
   pub record CutLineFails (earlier : List Element) (element : Element) : Type 0 where
     pub judged : List Judged
-    pub are_judged : AreJudged asset client.address (earlier ++ element ∷ []) judged
+    pub are_judged : AreJudged asset (newcomer client.address) (earlier ++ element ∷ []) judged
     pub reason : CutReason
     pub is_cut : cut_behind asset (earlier ++ element ∷ []) judged ≡ Some reason
     pub of_out : HasOut judged
@@ -158,7 +159,7 @@ module _ (asset : Asset) (client : ℕ) (names : SiftNamesValue) (before after :
     pub begins : stored_history bytes ≡ history ++ later
     pub uncut : IsUncut asset client history
     pub judged : List Judged
-    pub are_judged : AreJudged asset client history judged
+    pub are_judged : AreJudged asset (newcomer client) history judged
     pub have : HaveOutput asset (stored_client client) names (created before) after judged []
     pub others : KeepsOtherFiles (sift_output_names names) before after
 
@@ -172,7 +173,7 @@ module _ (asset : Asset) (client : ℕ) (names : SiftNamesValue) (before after :
     pub begins : stored_history bytes ≡ earlier ++ element ∷ later
     pub uncut : IsUncut asset client earlier
     pub judged : List Judged
-    pub are_judged : AreJudged asset client earlier judged
+    pub are_judged : AreJudged asset (newcomer client) earlier judged
     pub fails : ElementFails asset (stored_client client) names (created before) after earlier judged element
     pub others : KeepsOtherFiles (sift_output_names names) before after
 

@@ -1,4 +1,5 @@
 -- Steps of the proof: what is kept between two elements of a stored stream, and what it stands for: `IsSiftingOf`.
+use Rattle.cf_lane.specs.Caller.{none_before}
 use Rattle.std.specs.Prelude.{◌≡◌, ◌⊎◌, ◌++◌, ◌∷◌, ℕ, ◌+◌, ◌^◌, ◌<◌, ◌≤◌, true, false, List, [], length, Option, None}
 use Rattle.cf_audit.specs.declared.line.CutReason.{CutReason}
 use Rattle.cf_lane.specs.Follows.{Follows, Rests}
@@ -44,7 +45,7 @@ pub record IsReady (asset : Asset) (sifting : Sifting) : Type 0 where
 module _ (asset : Asset) (client : Endpoint) (names : SiftNamesValue) (first now : List ℕ → Content) where
   -- a sifting and the outputs stand for a history, of which nothing is left in the queues; an item cuts it so
   pub record IsSiftingOf (history : List Element) (cut : Option CutReason) (sifting : Sifting) : Type 0 where
-    pub follows : Follows asset history (client_rests sifting.heard.rest.items) cut (file_lines (first names.log))
+    pub follows : Follows asset none_before history (client_rests sifting.heard.rest.items) cut (file_lines (first names.log))
         (state_of sifting (now names.log))
     pub of_client : sifting.lane.client ≡ client
     pub of_out : HasOut asset client names first now follows.judged

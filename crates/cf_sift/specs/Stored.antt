@@ -1,4 +1,5 @@
 -- The history of a stored stream, stored_history, and how far a history goes: GoesUpTo.
+use Rattle.cf_lane.specs.Caller.{newcomer}
 use Rattle.std.specs.Prelude.{◌≡◌, ℕ, zero, suc, List, [], ◌∷◌, ◌++◌, length, take, drop, Option, None}
 use Rattle.std.specs.Option.{option_or}
 use Rattle.cf_audit.specs.declared.line.CutReason.{CutReason}
@@ -29,7 +30,7 @@ cut_behind asset history judged =
 -- no beginning of a history is cut, nor is the whole of it
 abbrev pub IsUncut : Asset → (client : ℕ) → List Element → Type 0
 IsUncut asset client history =
-    (front back : List Element) (judged : List Judged) → history ≡ front ++ back → AreJudged asset client front judged →
+    (front back : List Element) (judged : List Judged) → history ≡ front ++ back → AreJudged asset (newcomer client) front judged →
     cut_behind asset front judged ≡ None
 
 -- a history goes up to these elements, which have these judged items: up to the first element after which it is cut, or to
@@ -38,7 +39,7 @@ pub record GoesUpTo (asset : Asset) (client : ℕ) (whole : List Element) (cut :
     (judged : List Judged) : Type 0 where
   pub later : List Element
   pub begins : whole ≡ history ++ later
-  pub are_judged : AreJudged asset client history judged
+  pub are_judged : AreJudged asset (newcomer client) history judged
   pub is_cut : cut_behind asset history judged ≡ cut
   pub first : (front : List Element) (last : Element) → history ≡ front ++ last ∷ [] → IsUncut asset client front
   pub all : cut ≡ None → later ≡ []

@@ -1,5 +1,6 @@
 -- Steps of the proof: how far a stored stream was taken: `IsTakenWhole`, `ReadStops` and `WriteStops`. The files are as they were
 -- before its first piece (`old`) and as they are now, and `first` is what the outputs had before they got anything.
+use Rattle.cf_lane.specs.Caller.{newcomer}
 use Rattle.std.specs.Prelude.{◌≡◌, ℕ, List, [], ◌∷◌, ◌++◌, length, Option, None}
 use Rattle.cf_audit.specs.declared.line.CutReason.{CutReason}
 use Rattle.cf_lane.specs.Follows.{AreJudged}
@@ -24,7 +25,7 @@ module _ (asset : Asset) (client : Endpoint) (names : SiftNamesValue) (first old
     pub element : Element
     pub uncut : IsUncut asset client.address earlier
     pub judged : List Judged
-    pub are_judged : AreJudged asset client.address earlier judged
+    pub are_judged : AreJudged asset (newcomer client.address) earlier judged
     pub after : IsSiftingAfter asset client names first now (earlier ++ element ∷ []) cut sifting
     pub goes : GoesUpTo asset client.address (stored_history bytes) cut (earlier ++ element ∷ []) after.sifting_of.follows.judged
 
@@ -37,7 +38,7 @@ module _ (asset : Asset) (client : Endpoint) (names : SiftNamesValue) (first old
     pub begins : stored_history bytes ≡ history ++ later
     pub uncut : IsUncut asset client.address history
     pub judged : List Judged
-    pub are_judged : AreJudged asset client.address history judged
+    pub are_judged : AreJudged asset (newcomer client.address) history judged
     pub have : HaveOutput asset client names first now judged []
 
   -- up to a write that failed
@@ -50,7 +51,7 @@ module _ (asset : Asset) (client : Endpoint) (names : SiftNamesValue) (first old
     pub begins : stored_history bytes ≡ earlier ++ element ∷ later
     pub uncut : IsUncut asset client.address earlier
     pub judged : List Judged
-    pub are_judged : AreJudged asset client.address earlier judged
+    pub are_judged : AreJudged asset (newcomer client.address) earlier judged
     pub fails : ElementFails asset client names first now earlier judged element
 
 module _ (asset : Asset) (client : Endpoint) (names : SiftNamesValue) (first old now : List ℕ → Content) where

@@ -1,6 +1,7 @@
 //! A lane with its queues, fed with the bytes of a client alone.
 ghost use Rattle.std.specs.Prelude.{◌≡◌, ◌+◌, ◌≤◌, ◌∷◌, ℕ, List, [], Option, None, true, IfOk, OnOk, OnErr, IsErr, length};
 ghost use Rattle.cf_driver.specs.Takes.{MissesEnd, MissesPiece, Takes};
+ghost use Rattle.cf_lane.specs.Caller.{none_before};
 ghost use Rattle.cf_lane.specs.Follows.{Follows};
 ghost use Rattle.cf_lane.specs.Handled.{state};
 ghost use Rattle.cf_lane.specs.History.{bytes_at, end_at};
@@ -44,10 +45,10 @@ impl Sifting {
         ensures client { IfOk result (λ sifting. sifting.lane.client ≡ client) }
         ensures letters { IfOk result (λ sifting. sifting.heard.letters ≡ 0) }
         ensures follows { IfOk result (λ sifting. (first : Option (List (List ℕ)))
-            → Follows asset.now [] (client_rests sifting.heard.rest.items) None first
+            → Follows asset.now none_before [] (client_rests sifting.heard.rest.items) None first
             (state sifting.lane sifting.to_client sifting.to_controller first)) }
     {
-        let lane = Lane::new(alloc, asset, client)?;
+        let lane = Lane::new(alloc, asset, client, None)?;
         let to_client = Outq::new(alloc)?;
         let to_controller = Outq::new(alloc)?;
         Ok(Sifting {

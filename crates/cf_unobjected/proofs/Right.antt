@@ -1,4 +1,5 @@
 -- What items let through, item by item.
+use Rattle.cf_lane.specs.Caller.{Caller}
 use Rattle.std.proofs.Common.{◌≡◌, ◌≤◌, ◌∙◌, ◌++◌, ℕ, List, [], ◌∷◌, Bool, true, false, Option, None, Some, Result, Ok, Err, if◌then◌else◌, length, map, nat_eq, nat_le, nat_lt, slice_index, unwrap_or, refl, sym, ap, subst, arith}
 use Rattle.std.specs.List.{AllByRecursion}
 use Rattle.std.proofs.lemmas.Bool.{false≢true}
@@ -15,7 +16,7 @@ use Rattle.cf_dnplink.specs.LinkFrame.{FrameValue}
 use Rattle.cf_dnptrans.specs.Passing.{completed}
 use Rattle.cf_dnptrans.specs.declared.assembly.SegmentAnswer.{SegmentAnswer}
 use Rattle.cf_lane.specs.Acts.{admission, by_refusal, fate_of_acts, first_refusal, refusal_or}
-use Rattle.cf_lane.specs.Rates.{Says, is_spent, said, says_at, unless_spent}
+use Rattle.cf_lane.specs.Rates.{Says, is_spent, said, says_at, unless_spent, used_at}
 use Rattle.cf_dnplink.specs.UserOctets.{user_of}
 use Rattle.cf_dnptrans.specs.Transport.{fitting, is_linked, last_fragment, octets_of, since_first}
 use Rattle.cf_lane.specs.Dnp3.{answer_now, segments_of, fate_of_fragment, fate_of_frame, fate_of_read, fate_of_segment, fate_of_whole, is_data, stray_of}
@@ -82,10 +83,10 @@ by_verdict spent act (verdict.Allow number) later other to h = by_spent (spent n
   by_spent false h = to h
 by_verdict spent act (verdict.Refuse d because) later other to h = absurd (none-some _ (sym h))
 
-says_allows : (asset : Asset) (client : ℕ) (earlier : List Judged) (moment : ℕ) → Allows (says_at asset client earlier moment) (verdict_of asset client)
+says_allows : (asset : Asset) (client : Caller) (earlier : List Judged) (moment : ℕ) → Allows (says_at asset client earlier moment) (verdict_of asset client.address)
 says_allows asset client earlier moment [] h = refl
 says_allows asset client earlier moment (act ∷ acts) h =
-    by_verdict (is_spent asset earlier moment) act (verdict_of asset client act) (first_refusal (says_at asset client earlier moment) acts) (first_refusal (verdict_of asset client) acts)
+    by_verdict (is_spent asset (used_at client.before earlier) moment) act (verdict_of asset client.address act) (first_refusal (says_at asset client earlier moment) acts) (first_refusal (verdict_of asset client.address) acts)
     (says_allows asset client earlier moment acts) h
 
 goes_by : (used : Admission) (o : Option Refusal) → goes_on (by_refusal used o) ≡ true → o ≡ None
@@ -208,8 +209,8 @@ module _ (asset : Asset) (client : ℕ) (says : Says) (allows : Allows says (ver
       subst (λ f. AreRight (passed_by_apdu earlier f (Info send receive asdu))) (sym h) (info_right earlier send receive asdu (info_cut side.Client earlier send receive))
   by_item earlier j _ h = tt
 
-pub all_right : (asset : Asset) (client : ℕ) (earlier js : List Judged) → HaveFates asset client earlier js → AllByRecursion (IsRightlyPassed asset client) (in_turn (λ before j. passed_by asset before j j.item) earlier js)
+pub all_right : (asset : Asset) (client : Caller) (earlier js : List Judged) → HaveFates asset client earlier js → AllByRecursion (IsRightlyPassed asset client.address) (in_turn (λ before j. passed_by asset before j j.item) earlier js)
 all_right asset client earlier [] h = tt
 all_right asset client earlier (j ∷ js) h =
-    all_both (IsRightlyPassed asset client) _ _ (by_item asset client (says_at asset client earlier j.moment) (says_allows asset client earlier j.moment) earlier j j.item h.0)
+    all_both (IsRightlyPassed asset client.address) _ _ (by_item asset client.address (says_at asset client earlier j.moment) (says_allows asset client earlier j.moment) earlier j j.item h.0)
     (all_right asset client (earlier ++ j ∷ []) js h.1)

@@ -1,4 +1,5 @@
 -- Steps of the proof: what is let through to a controller is nothing that a judge would object to: `PassedAreRight`.
+use Rattle.cf_lane.specs.Caller.{Caller}
 use Rattle.std.specs.Prelude.{◌≡◌, ◌≤◌, ℕ, List, true, false, None, length}
 use Rattle.std.specs.List.{AllByRecursion}
 use Rattle.cf_decode.specs.Passed.{passed}
@@ -28,5 +29,5 @@ IsRightlyPassed asset client (Fragment octets) =
 
 abbrev pub PassedAreRight : Type 0
 PassedAreRight =
-    (asset : Asset) (client : ℕ) (h : List Element) (js : List Judged) → AreJudged asset client h js →
-    AllByRecursion (IsRightlyPassed asset client) (passed asset js)
+    (asset : Asset) (client : Caller) (h : List Element) (js : List Judged) → AreJudged asset client h js →
+    AllByRecursion (IsRightlyPassed asset client.address) (passed asset js)

@@ -183,7 +183,7 @@ fn asset_of(alloc: Global, name: &str) -> Result<Asset, AllocError>
 fn begins(rt: &impl Abort, alloc: Global, name: &str) -> Scene {
     let asset = asset_of(alloc, name).expect(rt, "asset");
     Scene {
-        lane: Lane::new(alloc, &asset, CLIENT).expect(rt, "lane"),
+        lane: Lane::new(alloc, &asset, CLIENT, None).expect(rt, "lane"),
         asset,
         to_client: Outq::new(alloc).expect(rt, "memory"),
         to_controller: Outq::new(alloc).expect(rt, "memory"),

@@ -1,3 +1,4 @@
+use Rattle.cf_lane.specs.Caller.{none_before}
 use Rattle.std.proofs.Common.{Some, refl, ◌∙◌, ◌∷◌, []}
 use Rattle.cf_audit.specs.Line.{Begun, Lost, NoMemory}
 use Rattle.cf_lane.specs.Log.{line_about}
@@ -32,7 +33,7 @@ returns-in_ok-log_line-in-Told-clause-does g c = λ client. record {
     answers = [];
     split = refl;
     does = refl;
-    stands = c.begun-relaying.ensures.stands c.args.terms.now.asset.now c.args.terms.now.port c.args.met
+    stands = c.begun-relaying.ensures.stands c.args.terms.now.asset.now none_before c.args.terms.now.port c.args.met
         (Some (line_about c.args.terms.now.asset.now c.args.met c.in-Told.moment Begun ∷ [])) c.in-Ok.ensures.lane;
   };
 }

@@ -1,3 +1,4 @@
+use Rattle.cf_lane.specs.Caller.{none_before}
 use Rattle.std.proofs.Common.{[], None, ap, refl, sym, ◌+◌, ◌∙◌, ◌∷◌, inl}
 use Rattle.cf_driver.proofs.Histories.{letters_still}
 use Rattle.cf_driver.proofs.Whole.{began_whole}
@@ -16,7 +17,7 @@ returns-in_err-end-clause-fails g c = on_err _ c.from_residual.result (λ client
     let names = sift_names_value c.args.names.now in
     inl (line_fails c.args.asset.now client names first c.streams_go_on.ensures.go_on (content c.args.files.now) h c.args.sifting.now before
     (end_at 0 side.Client) (end_at 0 side.Client) [] (content c.end.new.files) refl
-    (began_whole _ _ _ _ _ _ _ (c.in_err-end.ensures.misses h (client_rests c.args.sifting.now.heard.rest.items) _ _ refl before.follows))
+    (began_whole _ _ _ _ _ _ _ _ (c.in_err-end.ensures.misses none_before h (client_rests c.args.sifting.now.heard.rest.items) _ _ refl before.follows))
     (c.end.ensures.writes.others names.out (c.requires.apart.out_log, tt)) (c.end.ensures.writes.others names.replies (c.requires.apart.replies_log, tt))))
 
 pub returns-clause-taken : goal.returns-clause-taken

@@ -1,3 +1,4 @@
+use Rattle.cf_lane.specs.Caller.{none_before}
 use Rattle.std.proofs.Common.{[], ◌∷◌, ◌+◌, ◌||◌, subst, ap, arith, false, length, refl, sym, ◌∙◌, inl}
 use Rattle.std.proofs.lemmas.List.{append-nil}
 use Rattle.std.specs.Option.{option_or}
@@ -19,7 +20,7 @@ pub returns-in_err-cut-clause-fails : goal.returns-in_err-cut-clause-fails
 returns-in_err-cut-clause-fails g c = on_err _ c.from_residual.result (λ client first h before.
     let content = g.F.Files.content in
     let names = sift_names_value c.args.names.now in
-    let fails = within_whole _ _ _ _ _ _ _ _ _ _ (c.in_err-cut.ensures.misses h (client_rests c.args.sifting.now.heard.rest.items) _ _ refl before.follows) in
+    let fails = within_whole _ _ _ _ _ _ _ _ _ _ _ (c.in_err-cut.ensures.misses none_before h (client_rests c.args.sifting.now.heard.rest.items) _ _ refl before.follows) in
     inl (line_fails c.args.asset.now client names first c.streams_go_on.ensures.go_on (content c.args.files.now) h c.args.sifting.now before
     (bytes_at 0 side.Client fails.handled) (bytes_at 0 side.Client c.args.piece.now) fails.rest (content c.feed.new.files) (ap (bytes_at 0 side.Client) fails.piece_is) fails.began
     (c.feed.ensures.writes.others names.out (c.requires.apart.out_log, tt)) (c.feed.ensures.writes.others names.replies (c.requires.apart.replies_log, tt))))

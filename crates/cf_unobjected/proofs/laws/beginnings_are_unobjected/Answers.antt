@@ -6,5 +6,5 @@ use Rattle.cf_unobjected.proofs.laws.beginnings_are_unobjected.Goals as goal
 
 pub returns : goal.returns
 returns c asset client h js bytes more born are out =
-    unobjected c.first_segments_make_the_first_fragments.ensures c.user_octets_come_back.ensures asset client (passed asset js) bytes born (all_right asset client [] js are.fates)
+    unobjected c.first_segments_make_the_first_fragments.ensures c.user_octets_come_back.ensures asset client.address (passed asset js) bytes born (all_right asset client [] js are.fates)
     (c.stream_decodes.ensures.decodes asset client h js bytes more are out)

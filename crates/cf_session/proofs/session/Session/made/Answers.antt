@@ -1,3 +1,4 @@
+use Rattle.cf_lane.specs.Caller.{none_before}
 use Rattle.std.proofs.Common.{arith, [], None, refl, sym, subst}
 use Rattle.cf_leg.specs.LegValue.{IsLegOf, marks}
 use Rattle.cf_outq.specs.SendQueue.{Queue}
@@ -22,7 +23,7 @@ returns-clause-made c =
       controller_edge = c.in_ok-controller.ensures.window.1;
       controller_made = c.in_ok-controller.ensures.made;
       lane = lane_begins c.args.asset.now c.args.syn.now.source lane qc qk c.in_ok-lane.ensures.client
-          (c.in_ok-lane.ensures.follows qc qk None c.in_ok-to_client.ensures.stands c.in_ok-to_controller.ensures.stands);
+          (c.in_ok-lane.ensures.follows none_before qc qk None refl c.in_ok-to_client.ensures.stands c.in_ok-to_controller.ensures.stands);
       owed = c.in_ok-lane.ensures.counts.2;
       commands = (let a = c.in_ok-lane.ensures.counts.0 in let b = c.in_ok-lane.ensures.counts.1 in omega (arith, a, b));
       to_client = ec;
