@@ -41,7 +41,11 @@ pub(crate) struct Plan {
 }
 
 /// The rules that have what was seen of an asset of a protocol: all of it, and nothing else where nothing is widened.
-pub(crate) fn plan_rules(alloc: Global, protocol: Protocol, seen: &[Seen]) -> Result<Plan, AllocError> {
+pub(crate) fn plan_rules(
+    alloc: Global,
+    protocol: Protocol,
+    seen: &[Seen],
+) -> Result<Plan, AllocError> {
     let entries = entries_of(alloc, seen)?;
     let entries = entries.as_slice();
     let mut found = plan_at(alloc, protocol, entries, Width::Nothing)?;
@@ -248,7 +252,13 @@ fn gather(alloc: Global, kept: &mut Cover, cover: &Cover) -> Result<(), AllocErr
 fn merged(alloc: Global, protocol: Protocol, covers: Vec<Cover>) -> Result<Vec<Cover>, AllocError> {
     let mut covers = covers;
     for _ in 0..3 {
-        for axis in [Axis::Codes, Axis::Groups, Axis::Points, Axis::Values, Axis::Clients] {
+        for axis in [
+            Axis::Codes,
+            Axis::Groups,
+            Axis::Points,
+            Axis::Values,
+            Axis::Clients,
+        ] {
             covers = merged_on(alloc, protocol, covers, axis)?;
         }
     }
@@ -274,12 +284,7 @@ fn merged_on(
     Ok(kept)
 }
 
-fn place_to_merge(
-    protocol: Protocol,
-    kept: &[Cover],
-    cover: &Cover,
-    axis: Axis,
-) -> Option<usize>
+fn place_to_merge(protocol: Protocol, kept: &[Cover], cover: &Cover, axis: Axis) -> Option<usize>
     ensures { IfSome result (λ place. place < length kept.now) }
 {
     kept.iter()
@@ -314,7 +319,13 @@ fn reads(protocol: Protocol, code: i64) -> bool {
 /// Covers whose lists are short enough for a rule.
 fn split(alloc: Global, covers: Vec<Cover>) -> Result<Vec<Cover>, AllocError> {
     let mut covers = covers;
-    for axis in [Axis::Codes, Axis::Groups, Axis::Points, Axis::Values, Axis::Clients] {
+    for axis in [
+        Axis::Codes,
+        Axis::Groups,
+        Axis::Points,
+        Axis::Values,
+        Axis::Clients,
+    ] {
         covers = split_on(alloc, covers, axis)?;
     }
     Ok(covers)

@@ -55,13 +55,7 @@ pub fn add_recording(
     let assets = policy.assets.as_slice();
     let stamps = recording.stamps.as_slice();
     add_flows(alloc, assets, recording.flows.as_slice(), stamps, parts)?;
-    add_stretches(
-        alloc,
-        assets,
-        recording.stretches.as_slice(),
-        stamps,
-        parts,
-    )
+    add_stretches(alloc, assets, recording.stretches.as_slice(), stamps, parts)
 }
 
 fn add_flows(
@@ -183,8 +177,7 @@ fn moments_of(
 }
 
 /// The stamp of the record of a number, counted from 1, or 0.
-fn stamp_of(stamps: &[u64], number: u64) -> u64
-{
+fn stamp_of(stamps: &[u64], number: u64) -> u64 {
     let Some(place) = number.checked_sub(1) else {
         return 0;
     };

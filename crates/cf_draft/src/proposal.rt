@@ -61,7 +61,14 @@ fn propose_asset(
     for (number, (reads, _, own)) in order.iter().enumerate() {
         if let (Some(cover), Some(note)) = (covers.get(*own), notes.get(*own)) {
             let kind = if *reads { "read" } else { "write" };
-            put_rule(text, asset.protocol, kind, number.saturating_add(1), cover, note);
+            put_rule(
+                text,
+                asset.protocol,
+                kind,
+                number.saturating_add(1),
+                cover,
+                note,
+            );
         }
     }
     Ok(planned.width)

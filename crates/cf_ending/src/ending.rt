@@ -25,11 +25,20 @@ use cf_words::status::{
 #[derive(Clone, Copy)]
 pub enum Done {
     /// A stream was filtered, with its numbers of admitted and refused commands.
-    Sifted { admitted: u64, refused: u64 },
+    Sifted {
+        admitted: u64,
+        refused: u64,
+    },
     /// Two streams were relayed to their ends, with the same numbers.
-    Relayed { admitted: u64, refused: u64 },
+    Relayed {
+        admitted: u64,
+        refused: u64,
+    },
     /// A policy was read, with its numbers of assets and of all rules.
-    Checked { assets: u64, rules: u64 },
+    Checked {
+        assets: u64,
+        rules: u64,
+    },
     /// A policy was drafted, with its numbers of assets and of all rules, and how many assets allow more than was shown of them.
     Drafted {
         assets: u64,
@@ -39,7 +48,10 @@ pub enum Done {
     /// A policy allows only what another allows.
     Included,
     /// Nothing that clients sent in a capture is objected to, with the numbers of flows and of commands that the policy allows.
-    Unobjected { flows: u64, commands: u64 },
+    Unobjected {
+        flows: u64,
+        commands: u64,
+    },
     /// Each record of a capture has its line.
     Listed,
     /// A policy was run over a capture, with what was counted.

@@ -76,9 +76,9 @@ fn outputs_of<'a>(command: &Command<'a>) -> [&'a str; 4] {
         | Command::Compare { .. }
         | Command::Judge { .. }
         | Command::Packets { .. } => [""; 4],
-        Command::Draft { out, .. }
-        | Command::Learn { out, .. }
-        | Command::Migrate { out, .. } => [*out, "", "", ""],
+        Command::Draft { out, .. } | Command::Learn { out, .. } | Command::Migrate { out, .. } => [
+            *out, "", "", "",
+        ],
         Command::Relay { log, .. } | Command::Review { log, .. } => [*log, "", "", ""],
         Command::Run { names, .. } => [names.out, names.log, "", ""],
         Command::Sift { names, .. } => [names.out, names.replies, names.log, ""],
@@ -468,7 +468,9 @@ fn explain_captures<R: FileSystem + Eprint + AllocGlobal>(
         let name = capture.as_str();
         if is_bad_capture(rt, name, status, files)? {
             let number = place.saturating_add(1);
-            eprintln!(rt; "cmdwall: capture {number} of the words, {name}, is at fault; nothing was written")?;
+            eprintln!(rt;
+                "cmdwall: capture {number} of the words, {name}, is at fault; nothing was written"
+            )?;
             return explain_one(rt, name, status, files);
         }
     }

@@ -1,6 +1,6 @@
 -- Names of files that are not empty and differ.
 use Rattle.std.proofs.Common.{◌≡◌, ◌≢◌, ℕ, ◌≤◌, Bool, true, false, ◌&&◌, nat_le, if◌then◌else◌, Option, Some, None, subst, List, [], ◌∷◌, map, refl, sym, ap, ◌∙◌, arith, Bor, length, ◌==◌, not}
-use Rattle.std.specs.Prelude.{bytes_eq, option_and_then, string_bytes}
+use Rattle.std.specs.Prelude.{bytes_eq, option_and_then}
 use Rattle.std.specs.List.{list_any}
 use Rattle.std.proofs.lemmas.Bool.{and_parts, or_parts, not-true, both_ways, leb-true}
 use Rattle.std.proofs.lemmas.Slice.Eq.{bytes_eq-Decides}
@@ -23,13 +23,13 @@ names_step names rest name is some other =
     let tests : are_names (map (λ n. n.now) rest) ≡ are_names (map (λ n. n.now) (name ∷ rest)) = rw (← some, among) refl in
     tests ∙ ap (λ ns. are_names (map (λ n. n.now) ns)) (sym is)
 
--- the same of words
-pub words_step : (words rest : List String) (word : String) → words ≡ word ∷ rest → false ≡ (length (string_bytes word) == 0) →
-    false ≡ list_any (λ w. bytes_eq (string_bytes word) (string_bytes w)) rest → are_names (map string_bytes rest) ≡ are_names (map string_bytes words)
-words_step words rest word is some other =
-    let among : list_any (λ o. bytes_eq (string_bytes word) o) (map string_bytes rest) ≡ false = list_any_of_map (λ o. bytes_eq (string_bytes word) o) string_bytes rest ∙ sym other in
-    let tests : are_names (map string_bytes rest) ≡ are_names (map string_bytes (word ∷ rest)) = rw (← some, among) refl in
-    tests ∙ ap (λ ws. are_names (map string_bytes ws)) (sym is)
+-- the same of words, whose names these are
+pub words_step : {X : Type 0} (name_of : X → List ℕ) (words rest : List X) (word : X) → words ≡ word ∷ rest → false ≡ (length (name_of word) == 0) →
+    false ≡ list_any (λ w. bytes_eq (name_of word) (name_of w)) rest → are_names (map name_of rest) ≡ are_names (map name_of words)
+words_step name_of words rest word is some other =
+    let among : list_any (λ o. bytes_eq (name_of word) o) (map name_of rest) ≡ false = list_any_of_map (λ o. bytes_eq (name_of word) o) name_of rest ∙ sym other in
+    let tests : are_names (map name_of rest) ≡ are_names (map name_of (word ∷ rest)) = rw (← some, among) refl in
+    tests ∙ ap (λ ws. are_names (map name_of ws)) (sym is)
 
 -- the names after the first are names
 rest : (name : List ℕ) (others : List (List ℕ)) → are_names (name ∷ others) ≡ true → are_names others ≡ true

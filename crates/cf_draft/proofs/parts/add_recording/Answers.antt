@@ -17,6 +17,6 @@ returns c =
     subst (λ a. AddsRead a flows old mid) c.as_slice-assets.ensures (subst (λ l. AddsRead c.as_slice-assets.result.now (map flow_value l) old mid) c.as_slice.ensures.value c.in_ok-add_flows.ensures) in
     on_ok_weaker c.add_stretches.result
     (λ later.
-        adds_both assets flows others old mid new first
-        (subst (λ a. AddsRead a others mid new) c.as_slice-assets.ensures (subst (λ l. AddsRead c.as_slice-assets.result.now (map (λ s. s.flow) (map stretch_value l)) mid new) c.as_slice-2.ensures.value later)))
+    adds_both assets flows others old mid new first
+    (subst (λ a. AddsRead a others mid new) c.as_slice-assets.ensures (subst (λ l. AddsRead c.as_slice-assets.result.now (map (λ s. s.flow) (map stretch_value l)) mid new) c.as_slice-2.ensures.value later)))
     c.add_stretches.ensures
