@@ -1,5 +1,5 @@
 -- The answers of the reading of captures, of what is drafted by them and of its writing, as the answer of the command.
-use Rattle.std.proofs.Common.{◌≡◌, ◌≤◌, ◌+◌, ◌<◌, ℕ, suc, List, [], ◌∷◌, ◌++◌, Result, Ok, Err, refl, sym, ap, subst, ◌∙◌, inl, inr, arith, append_assoc}
+use Rattle.std.proofs.Common.{◌≡◌, ◌≤◌, ◌+◌, ◌<◌, ℕ, suc, List, [], ◌∷◌, ◌++◌, map, Result, Ok, Err, refl, sym, ap, subst, ◌∙◌, inl, inr, arith, append_assoc}
 use Rattle.std.proofs.lemmas.List.{append-nil}
 use Rattle.std.specs.Prelude.{Contains, string_bytes}
 use Rattle.cf_draft.specs.Parts.{AreReadFrom, IsReadFrom}
@@ -95,6 +95,31 @@ read_then assets content name names old mid new first later = record {
   read = (first.more, later.more, first.read, later.read, refl);
   behind = later.behind ∙ ap (λ xs. xs ++ later.more) first.behind ∙ append_assoc old first.more later.more;
 }
+
+-- the first of the words names the file that was read, and the others the rest
+module _ {W : Type 0} (bytes : W → List ℕ) (words rest : List W) (word : W) (is : words ≡ word ∷ rest) (name : List ℕ) (same : name ≡ bytes word) (before middle : FilesValue)
+    (first : ReadsOnly (name ∷ []) before middle) where
+  front : name ∷ map bytes rest ≡ map bytes words
+  front = ap (λ n. n ∷ map bytes rest) same ∙ sym (ap (map bytes) is)
+
+  pub word_front : ReadsOnly (map bytes words) before middle
+  word_front = subst (λ ns. ReadsOnly ns before middle) front (reads_front name (map bytes rest) before middle first)
+
+  pub word_stops : (s : Stop) → StopsReading (name ∷ []) before middle s → StopsReading (map bytes words) before middle s
+  word_stops s stops = subst (λ ns. StopsReading ns before middle s) front (stops_first name (map bytes rest) before middle first s stops)
+
+  module _ (after : FilesValue) (second : ReadsOnly (map bytes rest) middle after) where
+    pub word_more : ReadsOnly (map bytes words) before after
+    word_more = subst (λ ns. ReadsOnly ns before after) front (reads_more name (map bytes rest) before middle first after second)
+
+    pub word_stops_later : (s : Stop) → StopsReading (map bytes rest) middle after s → StopsReading (map bytes words) before after s
+    word_stops_later s stops = subst (λ ns. StopsReading ns before after s) front (stops_later name (map bytes rest) before middle first after second s stops)
+
+  pub word_read : (assets : List Asset) (old mid new : List FlowValue) → HasRead assets (before.content name) old mid →
+      HasReadAll assets middle.content (map bytes rest) mid new → HasReadAll assets before.content (map bytes words) old new
+  word_read assets old mid new read later =
+      subst (λ ns. HasReadAll assets before.content ns old new) front
+      (read_then assets before.content name (map bytes rest) old mid new read (subst (λ f. HasReadAll assets f (map bytes rest) mid new) first.content later))
 
 -- ---- a capture that is not watched to its end
 
