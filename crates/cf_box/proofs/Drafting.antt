@@ -1,8 +1,8 @@
 -- The answers of the reading of captures, of what is drafted by them and of its writing, as the answer of the command.
-use Rattle.std.proofs.Common.{◌≡◌, ◌≤◌, ◌+◌, ◌<◌, ℕ, suc, List, [], ◌∷◌, ◌++◌, map, Result, Ok, Err, refl, sym, ap, subst, ◌∙◌, inl, inr, arith, append_assoc}
+use Rattle.std.proofs.Common.{◌≡◌, ◌≤◌, ◌+◌, ◌<◌, ℕ, zero, suc, List, [], ◌∷◌, ◌++◌, map, Result, Ok, Err, refl, sym, ap, subst, ◌∙◌, inl, inr, arith, append_assoc}
 use Rattle.std.proofs.lemmas.List.{append-nil}
-use Rattle.std.specs.Prelude.{Contains, string_bytes}
-use Rattle.cf_draft.specs.Parts.{AreReadFrom, IsReadFrom}
+use Rattle.std.specs.Prelude.{Contains, IfErr, OnOk, length, string_bytes}
+use Rattle.cf_draft.specs.Parts.{AddsRead, AreReadFrom, IsReadFrom, parts_of}
 use Rattle.cf_draft.specs.declared.Draft.{Draft}
 use Rattle.cf_outside.specs.Faults.{Rose}
 use Rattle.cf_outside.specs.Files.{Content, IsPartly, content_after_write}
@@ -12,7 +12,8 @@ use Rattle.cf_policy.specs.declared.Policy.{Policy}
 use Rattle.cf_records.specs.Capture.{Refused, TooLong}
 use Rattle.cf_view.specs.declared.LinkSet.TheVariants as set
 use Rattle.cf_watch.specs.FlowValue.{FlowValue}
-use Rattle.cf_watch.specs.Watch.{FailsAs}
+use Rattle.cf_watch.specs.FlowValue.{FlowValue, StretchValue}
+use Rattle.cf_watch.specs.Watch.{FailsAs, IsRecordingOf}
 use Rattle.cf_watch.specs.declared.WatchFault.{WatchFault}
 use Rattle.cf_watch.specs.declared.WatchFault.TheVariants as fault
 use Rattle.cf_watch.specs.declared.WatchRefusal.TheVariants as watch
@@ -43,8 +44,8 @@ later_of : (name capture : List ℕ) (names : List (List ℕ)) → Contains name
 later_of name capture names c = (suc c.0, (let lt = c.1 in omega (arith, lt)), c.2)
 
 only_of : (name capture : List ℕ) → Contains (name ∷ []) capture → name ≡ capture
-only_of name capture (0, lt, is) = is
-only_of name capture (suc k, lt, is) = absurd (omega (arith, lt))
+only_of name capture (zero, lt, is) = is
+only_of name capture (suc k, lt, is) = absurd (let few : suc k < 1 = lt in omega (arith, few))
 
 rose_since : (names : List (List ℕ)) (old mid new : List ℕ → ℕ) → ((n : List ℕ) → old n ≤ mid n) → RoseIn names mid new → RoseIn names old new
 rose_since [] old mid new later rose = rose
@@ -81,11 +82,16 @@ module _ (name : List ℕ) (names : List (List ℕ)) (before middle : FilesValue
     stops_later s c = absurd c
 
 -- none were read
-pub reads_none : (before : FilesValue) → ReadsOnly [] before before
-reads_none before = record { content = refl; reads = record { later = λ n. omega arith; others = λ other n. refl }; writes = refl }
+pub reads_none : (names : List (List ℕ)) (before : FilesValue) → ReadsOnly names before before
+reads_none names before = record { content = refl; reads = record { later = λ n. omega arith; others = λ other n. refl }; writes = refl }
 
 pub read_none : (assets : List Asset) (content : List ℕ → Content) (old : List FlowValue) → HasReadAll assets content [] old old
 read_none assets content old = record { more = []; read = refl; behind = sym (append-nil old) }
+
+pub word_none : {W : Type 0} (bytes : W → List ℕ) (words : List W) → length words ≡ 0 → (assets : List Asset) (content : List ℕ → Content) (old : List FlowValue) →
+    HasReadAll assets content (map bytes words) old old
+word_none bytes [] is assets content old = read_none assets content old
+word_none bytes (word ∷ words) is assets content old = absurd (omega (arith, is))
 
 -- a capture was read, and then the others
 pub read_then : (assets : List Asset) (content : List ℕ → Content) (name : List ℕ) (names : List (List ℕ)) (old mid new : List FlowValue) → HasRead assets (content name) old mid →
@@ -112,14 +118,30 @@ module _ {W : Type 0} (bytes : W → List ℕ) (words rest : List W) (word : W) 
     pub word_more : ReadsOnly (map bytes words) before after
     word_more = subst (λ ns. ReadsOnly ns before after) front (reads_more name (map bytes rest) before middle first after second)
 
-    pub word_stops_later : (s : Stop) → StopsReading (map bytes rest) middle after s → StopsReading (map bytes words) before after s
-    word_stops_later s stops = subst (λ ns. StopsReading ns before after s) front (stops_later name (map bytes rest) before middle first after second s stops)
+    pub word_stops_later : {T : Type 0} (r : Result T Stop) → IfErr r (StopsReading (map bytes rest) middle after) → IfErr r (StopsReading (map bytes words) before after)
+    word_stops_later (Ok v) stops = stops
+    word_stops_later (Err s) stops = subst (λ ns. StopsReading ns before after s) front (stops_later name (map bytes rest) before middle first after second s stops)
 
-  pub word_read : (assets : List Asset) (old mid new : List FlowValue) → HasRead assets (before.content name) old mid →
-      HasReadAll assets middle.content (map bytes rest) mid new → HasReadAll assets before.content (map bytes words) old new
-  word_read assets old mid new read later =
+  pub word_read : {T : Type 0} (r : Result T Stop) (assets : List Asset) (old mid new : List FlowValue) → HasRead assets (before.content name) old mid →
+      OnOk r (HasReadAll assets middle.content (map bytes rest) mid new) → OnOk r (HasReadAll assets before.content (map bytes words) old new)
+  word_read (Ok v) assets old mid new read later =
       subst (λ ns. HasReadAll assets before.content ns old new) front
       (read_then assets before.content name (map bytes rest) old mid new read (subst (λ f. HasReadAll assets f (map bytes rest) mid new) first.content later))
+  word_read (Err s) assets old mid new read later = later
+
+-- behind nothing stands all that was read
+pub all_read : (assets : List Asset) (content : List ℕ → Content) (names : List (List ℕ)) (old new : List FlowValue) → old ≡ [] → HasReadAll assets content names old new →
+    AreReadFrom assets content names new
+all_read assets content names old new none all = subst (λ xs. AreReadFrom assets content names xs) (sym (all.behind ∙ ap (λ xs. xs ++ all.more) none)) all.read
+
+-- what is read of a recording is read of its capture
+pub has_read : (assets : List Asset) (capture : Content) (flows : List FlowValue) (stretches : List StretchValue) (stamps : List ℕ) (old new : List FlowValue) →
+    IsRecordingOf assets capture flows stretches stamps → AddsRead assets (parts_of flows stretches) old new → HasRead assets capture old new
+has_read assets capture flows stretches stamps old new recorded adds = record {
+  more = adds.more;
+  read = record { flows = flows; stretches = stretches; stamps = stamps; recorded = recorded; are_read = adds.read };
+  behind = adds.behind;
+}
 
 -- ---- a capture that is not watched to its end
 
