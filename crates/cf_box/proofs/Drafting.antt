@@ -2,7 +2,7 @@
 use Rattle.std.proofs.Common.{◌≡◌, ◌≤◌, ◌+◌, ◌<◌, ℕ, zero, suc, List, [], ◌∷◌, ◌++◌, map, Result, Ok, Err, refl, sym, ap, subst, ◌∙◌, inl, inr, arith, append_assoc}
 use Rattle.std.proofs.lemmas.List.{append-nil}
 use Rattle.std.specs.Prelude.{Contains, IfErr, OnOk, length, string_bytes}
-use Rattle.cf_draft.specs.Parts.{AddsRead, AreReadFrom, IsReadFrom, parts_of}
+use Rattle.cf_draft.specs.Parts.{AddsRead, AreReadFrom, parts_of}
 use Rattle.cf_draft.specs.declared.Draft.{Draft}
 use Rattle.cf_outside.specs.Faults.{Rose}
 use Rattle.cf_outside.specs.Files.{Content, IsPartly, content_after_write}
@@ -20,12 +20,12 @@ use Rattle.cf_watch.specs.declared.WatchRefusal.TheVariants as watch
 use Rattle.cf_words.specs.Command.{Draft as DraftCommand}
 use Rattle.cf_box.specs.Check.{ChangesNothing}
 use Rattle.cf_box.specs.Draft.{Drafts, DraftsAs, HasRead, HasReadAll, HasRecorded, IsDraftOf, SomeRefuses, StopsReading, WritesDraftText}
-use Rattle.cf_box.specs.Ends.{Meets, PassesPolicy, StopsFor}
+use Rattle.cf_box.specs.Ends.{Meets, PassesPolicy}
 use Rattle.cf_box.specs.Packets.{HasListedRecords}
 use Rattle.cf_box.specs.PolicyFile.{HasPolicy}
 use Rattle.cf_box.specs.Watching.{ReviewCuts, ReviewRefuses, fault_stop}
 use Rattle.cf_ending.specs.Captures.{block_refusal, form_refusal}
-use Rattle.cf_ending.specs.Outside.{FilesValue, Outside, ReadsOnly, RisesIn, RoseIn}
+use Rattle.cf_ending.specs.Outside.{FilesValue, Outside, ReadsOnly, RoseIn}
 use Rattle.cf_ending.specs.declared.CaptureRefusal.{CaptureRefusal}
 use Rattle.cf_ending.specs.declared.CaptureRefusal.TheVariants as refusal
 use Rattle.cf_ending.specs.declared.Done.{Done}
