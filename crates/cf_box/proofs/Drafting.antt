@@ -1,8 +1,8 @@
 -- The answers of the reading of captures, of what is drafted by them and of its writing, as the answer of the command.
-use Rattle.std.proofs.Common.{◌≡◌, ◌≤◌, ◌+◌, ◌<◌, ℕ, suc, List, [], ◌∷◌, ◌++◌, Result, Ok, Err, refl, sym, ap, subst, ◌∙◌, inl, inr, arith, append_assoc}
+use Rattle.std.proofs.Common.{◌≡◌, ◌≤◌, ◌+◌, ◌<◌, ℕ, zero, suc, List, [], ◌∷◌, ◌++◌, map, Result, Ok, Err, refl, sym, ap, subst, ◌∙◌, inl, inr, arith, append_assoc}
 use Rattle.std.proofs.lemmas.List.{append-nil}
-use Rattle.std.specs.Prelude.{Contains, string_bytes}
-use Rattle.cf_draft.specs.Parts.{AreReadFrom, IsReadFrom}
+use Rattle.std.specs.Prelude.{Contains, IfErr, OnOk, length, string_bytes}
+use Rattle.cf_draft.specs.Parts.{AddsRead, AreReadFrom, parts_of}
 use Rattle.cf_draft.specs.declared.Draft.{Draft}
 use Rattle.cf_outside.specs.Faults.{Rose}
 use Rattle.cf_outside.specs.Files.{Content, IsPartly, content_after_write}
@@ -12,19 +12,20 @@ use Rattle.cf_policy.specs.declared.Policy.{Policy}
 use Rattle.cf_records.specs.Capture.{Refused, TooLong}
 use Rattle.cf_view.specs.declared.LinkSet.TheVariants as set
 use Rattle.cf_watch.specs.FlowValue.{FlowValue}
-use Rattle.cf_watch.specs.Watch.{FailsAs}
+use Rattle.cf_watch.specs.FlowValue.{FlowValue, StretchValue}
+use Rattle.cf_watch.specs.Watch.{FailsAs, IsRecordingOf}
 use Rattle.cf_watch.specs.declared.WatchFault.{WatchFault}
 use Rattle.cf_watch.specs.declared.WatchFault.TheVariants as fault
 use Rattle.cf_watch.specs.declared.WatchRefusal.TheVariants as watch
 use Rattle.cf_words.specs.Command.{Draft as DraftCommand}
 use Rattle.cf_box.specs.Check.{ChangesNothing}
 use Rattle.cf_box.specs.Draft.{Drafts, DraftsAs, HasRead, HasReadAll, HasRecorded, IsDraftOf, SomeRefuses, StopsReading, WritesDraftText}
-use Rattle.cf_box.specs.Ends.{Meets, PassesPolicy, StopsFor}
+use Rattle.cf_box.specs.Ends.{Meets, PassesPolicy}
 use Rattle.cf_box.specs.Packets.{HasListedRecords}
 use Rattle.cf_box.specs.PolicyFile.{HasPolicy}
 use Rattle.cf_box.specs.Watching.{ReviewCuts, ReviewRefuses, fault_stop}
 use Rattle.cf_ending.specs.Captures.{block_refusal, form_refusal}
-use Rattle.cf_ending.specs.Outside.{FilesValue, Outside, ReadsOnly, RisesIn, RoseIn}
+use Rattle.cf_ending.specs.Outside.{FilesValue, Outside, ReadsOnly, RoseIn}
 use Rattle.cf_ending.specs.declared.CaptureRefusal.{CaptureRefusal}
 use Rattle.cf_ending.specs.declared.CaptureRefusal.TheVariants as refusal
 use Rattle.cf_ending.specs.declared.Done.{Done}
@@ -43,8 +44,8 @@ later_of : (name capture : List ℕ) (names : List (List ℕ)) → Contains name
 later_of name capture names c = (suc c.0, (let lt = c.1 in omega (arith, lt)), c.2)
 
 only_of : (name capture : List ℕ) → Contains (name ∷ []) capture → name ≡ capture
-only_of name capture (0, lt, is) = is
-only_of name capture (suc k, lt, is) = absurd (omega (arith, lt))
+only_of name capture (zero, lt, is) = is
+only_of name capture (suc k, lt, is) = absurd (let few : suc k < 1 = lt in omega (arith, few))
 
 rose_since : (names : List (List ℕ)) (old mid new : List ℕ → ℕ) → ((n : List ℕ) → old n ≤ mid n) → RoseIn names mid new → RoseIn names old new
 rose_since [] old mid new later rose = rose
@@ -81,11 +82,16 @@ module _ (name : List ℕ) (names : List (List ℕ)) (before middle : FilesValue
     stops_later s c = absurd c
 
 -- none were read
-pub reads_none : (before : FilesValue) → ReadsOnly [] before before
-reads_none before = record { content = refl; reads = record { later = λ n. omega arith; others = λ other n. refl }; writes = refl }
+pub reads_none : (names : List (List ℕ)) (before : FilesValue) → ReadsOnly names before before
+reads_none names before = record { content = refl; reads = record { later = λ n. omega arith; others = λ other n. refl }; writes = refl }
 
 pub read_none : (assets : List Asset) (content : List ℕ → Content) (old : List FlowValue) → HasReadAll assets content [] old old
 read_none assets content old = record { more = []; read = refl; behind = sym (append-nil old) }
+
+pub word_none : {W : Type 0} (bytes : W → List ℕ) (words : List W) → length words ≡ 0 → (assets : List Asset) (content : List ℕ → Content) (old : List FlowValue) →
+    HasReadAll assets content (map bytes words) old old
+word_none bytes [] is assets content old = read_none assets content old
+word_none bytes (word ∷ words) is assets content old = absurd (omega (arith, is))
 
 -- a capture was read, and then the others
 pub read_then : (assets : List Asset) (content : List ℕ → Content) (name : List ℕ) (names : List (List ℕ)) (old mid new : List FlowValue) → HasRead assets (content name) old mid →
@@ -94,6 +100,47 @@ read_then assets content name names old mid new first later = record {
   more = first.more ++ later.more;
   read = (first.more, later.more, first.read, later.read, refl);
   behind = later.behind ∙ ap (λ xs. xs ++ later.more) first.behind ∙ append_assoc old first.more later.more;
+}
+
+-- the first of the words names the file that was read, and the others the rest
+module _ {W : Type 0} (bytes : W → List ℕ) (words rest : List W) (word : W) (is : words ≡ word ∷ rest) (name : List ℕ) (same : name ≡ bytes word) (before middle : FilesValue)
+    (first : ReadsOnly (name ∷ []) before middle) where
+  front : name ∷ map bytes rest ≡ map bytes words
+  front = ap (λ n. n ∷ map bytes rest) same ∙ sym (ap (map bytes) is)
+
+  pub word_front : ReadsOnly (map bytes words) before middle
+  word_front = subst (λ ns. ReadsOnly ns before middle) front (reads_front name (map bytes rest) before middle first)
+
+  pub word_stops : (s : Stop) → StopsReading (name ∷ []) before middle s → StopsReading (map bytes words) before middle s
+  word_stops s stops = subst (λ ns. StopsReading ns before middle s) front (stops_first name (map bytes rest) before middle first s stops)
+
+  module _ (after : FilesValue) (second : ReadsOnly (map bytes rest) middle after) where
+    pub word_more : ReadsOnly (map bytes words) before after
+    word_more = subst (λ ns. ReadsOnly ns before after) front (reads_more name (map bytes rest) before middle first after second)
+
+    pub word_stops_later : {T : Type 0} (r : Result T Stop) → IfErr r (StopsReading (map bytes rest) middle after) → IfErr r (StopsReading (map bytes words) before after)
+    word_stops_later (Ok v) stops = stops
+    word_stops_later (Err s) stops = subst (λ ns. StopsReading ns before after s) front (stops_later name (map bytes rest) before middle first after second s stops)
+
+  pub word_read : {T : Type 0} (r : Result T Stop) (assets : List Asset) (old mid new : List FlowValue) → HasRead assets (before.content name) old mid →
+      OnOk r (HasReadAll assets middle.content (map bytes rest) mid new) → OnOk r (HasReadAll assets before.content (map bytes words) old new)
+  word_read (Ok v) assets old mid new read later =
+      subst (λ ns. HasReadAll assets before.content ns old new) front
+      (read_then assets before.content name (map bytes rest) old mid new read (subst (λ f. HasReadAll assets f (map bytes rest) mid new) first.content later))
+  word_read (Err s) assets old mid new read later = later
+
+-- behind nothing stands all that was read
+pub all_read : (assets : List Asset) (content : List ℕ → Content) (names : List (List ℕ)) (old new : List FlowValue) → old ≡ [] → HasReadAll assets content names old new →
+    AreReadFrom assets content names new
+all_read assets content names old new none all = subst (λ xs. AreReadFrom assets content names xs) (sym (all.behind ∙ ap (λ xs. xs ++ all.more) none)) all.read
+
+-- what is read of a recording is read of its capture
+pub has_read : (assets : List Asset) (capture : Content) (flows : List FlowValue) (stretches : List StretchValue) (stamps : List ℕ) (old new : List FlowValue) →
+    IsRecordingOf assets capture flows stretches stamps → AddsRead assets (parts_of flows stretches) old new → HasRead assets capture old new
+has_read assets capture flows stretches stamps old new recorded adds = record {
+  more = adds.more;
+  read = record { flows = flows; stretches = stretches; stamps = stamps; recorded = recorded; are_read = adds.read };
+  behind = adds.behind;
 }
 
 -- ---- a capture that is not watched to its end

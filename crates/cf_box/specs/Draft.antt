@@ -4,7 +4,6 @@ use Rattle.std.specs.Prelude.{◌≡◌, ℕ, List, [], ◌∷◌, ◌++◌, Con
 use Rattle.cf_draft.specs.Draft.{AreDrafted}
 use Rattle.cf_draft.specs.Parts.{AreReadFrom, IsReadFrom}
 use Rattle.cf_draft.specs.declared.Draft.{Draft}
-use Rattle.cf_learn.specs.Assets.{IsFirstTooMany}
 use Rattle.cf_outside.specs.Files.{Content, IsPartly, content_after_write}
 use Rattle.cf_outside.specs.Frames.{KeepsOtherFiles}
 use Rattle.cf_policy.specs.Within.{IsWithin}

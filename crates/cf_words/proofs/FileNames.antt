@@ -24,15 +24,13 @@ names_step names rest name is some other =
     tests ∙ ap (λ ns. are_names (map (λ n. n.now) ns)) (sym is)
 
 -- the same of words, whose names these are
-pub words_step : {X : Type 0} (name_of : X → List ℕ) (words rest : List X) (word : X) → words ≡ word ∷ rest → (first second : List ℕ) → first ≡ name_of word →
-    second ≡ name_of word → false ≡ (length first == 0) → false ≡ list_any (λ w. bytes_eq second (name_of w)) rest →
-    are_names (map name_of rest) ≡ are_names (map name_of words)
-words_step name_of words rest word is first second same also some other =
-    let empty : false ≡ (length (name_of word) == 0) = subst (λ (n : List ℕ). false ≡ (length n == 0)) same some in
-    let one : false ≡ list_any (λ w. bytes_eq (name_of word) (name_of w)) rest =
-    subst (λ (n : List ℕ). false ≡ list_any (λ w. bytes_eq n (name_of w)) rest) also other in
-    let among : list_any (λ o. bytes_eq (name_of word) o) (map name_of rest) ≡ false = list_any_of_map (λ o. bytes_eq (name_of word) o) name_of rest ∙ sym one in
-    let tests : are_names (map name_of rest) ≡ are_names (map name_of (word ∷ rest)) = rw (← empty, among) refl in
+pub words_step : {X : Type 0} (name_of : X → List ℕ) (words rest : List X) (word : X) → words ≡ word ∷ rest → (text : List ℕ) → text ≡ name_of word →
+    false ≡ (length text == 0) → false ≡ list_any (λ w. bytes_eq text (name_of w)) rest → are_names (map name_of rest) ≡ are_names (map name_of words)
+words_step name_of words rest word is text same some other =
+    let full : false ≡ (length (name_of word) == 0) = subst (λ t. false ≡ (length t == 0)) same some in
+    let apart : false ≡ list_any (λ w. bytes_eq (name_of word) (name_of w)) rest = subst (λ t. false ≡ list_any (λ w. bytes_eq t (name_of w)) rest) same other in
+    let among : list_any (λ o. bytes_eq (name_of word) o) (map name_of rest) ≡ false = list_any_of_map (λ o. bytes_eq (name_of word) o) name_of rest ∙ sym apart in
+    let tests : are_names (map name_of rest) ≡ are_names (map name_of (word ∷ rest)) = rw (← full, among) refl in
     tests ∙ ap (λ ws. are_names (map name_of ws)) (sym is)
 
 -- the names after the first are names

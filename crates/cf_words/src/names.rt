@@ -62,13 +62,14 @@ pub fn are_names(names: &[&str]) -> bool
 pub(crate) fn are_all_names(words: &[String]) -> bool
     ensures { result ≡ are_names (map string_bytes words.now) }
 {
-    let Some((name, rest)) = words.split_first() else {
+    let Some((word, rest)) = words.split_first() else {
         return true;
     };
-    if name.as_str().is_empty() {
+    let text = word.as_str();
+    if text.is_empty() {
         return false;
     }
-    if is_among_words(name.as_str(), rest) {
+    if is_among_words(text, rest) {
         return false;
     }
     are_all_names(rest)

@@ -1,4 +1,4 @@
-use Rattle.std.proofs.Common.{[], ◌∷◌, arith, map, refl, ◌∙◌}
+use Rattle.std.proofs.Common.{◌∷◌, arith, map, refl, ◌∙◌}
 use Rattle.std.specs.Prelude.{string_bytes}
 use Rattle.cf_watch.specs.FlowValue.{flow_value}
 use Rattle.cf_words.specs.Command.{Draft as DraftCommand}
