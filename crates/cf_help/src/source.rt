@@ -4,4 +4,4 @@
 pub(crate) const DATE: &str = "2026-11-30";
 
 /// The first twelve digits of the sum of the source.
-pub(crate) const SOURCE: &str = "a35b26fa5d1e";
+pub(crate) const SOURCE: &str = "e2d6d5aea5f2";
