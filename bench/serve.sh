@@ -173,10 +173,10 @@ check("the client that sends HTTP is left", http.recv(4096) == b"")
 greedy = connected(place)
 greedy_port = greedy.getsockname()[1]
 greedy.setblocking(False)
-begun = time.perf_counter()
+begun, many, sent = time.perf_counter(), write_of(1) * 100, 0
 while time.perf_counter() - begun < 1:
     try:
-        greedy.send(write_of(1) * 100)
+        sent += greedy.send(many[sent % len(many):])
     except BlockingIOError:
         time.sleep(0.01)
 
@@ -211,10 +211,10 @@ check("the controller that came back answers", answer(back, 12) == write_of(5))
 back_port = back.getsockname()[1]
 back.close()
 healthy.join(timeout=120)
-# A side that does not read is silent once nothing moves any more, and lost once its system has taken nothing for 30 seconds.
+# A side that does not read is asked once a second, and has six such answers; on a busy machine that takes longer.
 time.sleep(max(0.5, begun + 10 - time.perf_counter()))
-deadline = time.perf_counter() + 60
-while time.perf_counter() < deadline and not of_client(greedy_port)[-1].startswith(("silent", "lost")):
+deadline = time.perf_counter() + 20
+while time.perf_counter() < deadline and not of_client(greedy_port)[-1].startswith("silent"):
     time.sleep(0.2)
 
 check("every answer came and was right", healthy.right == trips)
@@ -224,7 +224,7 @@ check("the lines of the healthy client", of_client(healthy.port)[0] == "open" an
       and of_client(healthy.port)[-1] == f"close admitted {trips - trips // 10} refused {trips // 10}"
       and len(of_client(healthy.port)) == refusals + 2)
 check("HTTP is cut", of_client(http_port) == ["open", "cut client protocol"])
-check("one that never reads is silent or lost", bool(re.fullmatch(r"(silent|lost) admitted \d+ refused 0", of_client(greedy_port)[-1])))
+check("one that never reads is silent", bool(re.fullmatch(r"silent admitted \d+ refused 0", of_client(greedy_port)[-1])))
 check("one that resets is lost", of_client(broken_port) == ["open", "lost admitted 0 refused 0"])
 for port in quiet_ports:
     text = of_client(port)
