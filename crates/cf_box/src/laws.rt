@@ -2,12 +2,8 @@
 ghost use Rattle.cf_box.specs.Laws.{HasLaws};
 
 use cf_decode::admits_what_is_allowed;
-use cf_isolation::{
-    alike_sessions_own_the_same, captures_are_isolated, captures_hold_sessions, logs_are_isolated,
-    logs_hold_sessions, sessions_own_their_lines, sessions_own_their_records,
-};
+use cf_isolation::{captures_hold_sessions, logs_hold_sessions, runs_are_read_back};
 use cf_pcapng::{calls_give_blocks, files_have_one_list_of_blocks};
-use cf_readback::runs_are_read_back;
 use cf_records::octets_have_one_list_of_records;
 use cf_refusals::{refused_commands_are_told, shown_commands_are_told};
 use cf_review::{
@@ -28,12 +24,7 @@ pub(crate) fn laws_hold()
     runs_isolate_sessions();
     runs_are_read_back();
     captures_hold_sessions();
-    captures_are_isolated();
     logs_hold_sessions();
-    logs_are_isolated();
-    sessions_own_their_records();
-    sessions_own_their_lines();
-    alike_sessions_own_the_same();
     fewer_segments_are_enough();
     runs_are_unobjected();
     readings_are_one();

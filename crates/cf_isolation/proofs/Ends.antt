@@ -6,7 +6,7 @@ use Rattle.cf_leg.specs.declared.ends.Ends.{Ends}
 use Rattle.cf_leg.specs.declared.ends.Role.{Role}
 use Rattle.cf_leg.specs.declared.ends.Role.TheVariants as role
 use Rattle.cf_packet.specs.Packet.{PacketValue}
-use Rattle.cf_readback.proofs.Writing.{Sends, sends_all}
+use Rattle.cf_isolation.proofs.Writing.{Sends, sends_all}
 use Rattle.cf_view.specs.declared.Endpoint.{Endpoint}
 
 abbrev pub GoesFrom : (source dest : Endpoint) → PacketValue → Type 0

@@ -1,20 +1,24 @@
-mod EachLogged
-mod EachSent
 pub mod Ends
 mod Filing
 mod Halves
-mod Isolating
 mod Items
+pub mod Legs
 pub mod Lists
 mod Lives
 mod Logging
+mod Moments
 mod Naming
 mod Order
+mod Output
 pub mod Packets
+mod Ranges
+mod Reading
 mod Sending
-mod Stretch
 pub mod Tables
 mod Theirs
-pub mod Turns
+mod Turns
 mod Words
 mod Worked
+mod WorkedFile
+pub mod Writing
+mod Written

@@ -31,7 +31,8 @@ use Rattle.cf_view.specs.Endpoints.{same_endpoint}
 use Rattle.cf_isolation.specs.Lines.{moment_in, names_both}
 use Rattle.cf_isolation.proofs.Items.{AreAbout, IsAbout, new_about}
 use Rattle.cf_isolation.proofs.Lists.{all_both, all_map}
-use Rattle.cf_isolation.proofs.Tables.{IsAmong, same_is, same_self}
+use Rattle.cf_isolation.proofs.Tables.{IsAmong, same_self}
+use Rattle.cf_run.proofs.Matched.{same_is}
 use Rattle.cf_isolation.proofs.Words.{IsEndpoint, IsMoment, moment_is, names_is}
 
 -- ---- the lines of a session's event are about it

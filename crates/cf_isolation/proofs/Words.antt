@@ -19,7 +19,8 @@ use Rattle.cf_view.specs.Text.{dotted, endpoint_text, moment_text, six_digits}
 use Rattle.cf_view.specs.declared.Endpoint.{Endpoint}
 use Rattle.cf_isolation.specs.Lines.{behind_word, first_word, moment_in, names_both}
 use Rattle.cf_isolation.proofs.Lists.{all_both}
-use Rattle.cf_isolation.proofs.Tables.{same_is, same_self}
+use Rattle.cf_isolation.proofs.Tables.{same_self}
+use Rattle.cf_run.proofs.Matched.{same_is}
 
 -- ---- octets without one
 

@@ -2,7 +2,8 @@
 use Rattle.std.proofs.Common.{◌≡◌, ℕ, Bool, true, false, List, [], ◌∷◌, ◌++◌, cond, map, slice_get, Option, Some, None, refl, sym, ap, ◌∙◌, subst}
 use Rattle.std.specs.List.{AllByRecursion}
 use Rattle.std.proofs.lemmas.Bool.{and_parts, false≢true}
-use Rattle.cf_isolation.proofs.Tables.{BegunHave, Has, begun_in, same_is, sessions_have}
+use Rattle.cf_run.proofs.Matched.{same_is}
+use Rattle.cf_isolation.proofs.Tables.{BegunHave, Has, begun_in, sessions_have}
 use Rattle.cf_packet.specs.Packet.{PacketValue}
 use Rattle.cf_policy.specs.declared.Asset.{Asset}
 use Rattle.cf_policy.specs.AtEndpoint.{asset_at, asset_place}

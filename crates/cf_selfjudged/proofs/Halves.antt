@@ -5,12 +5,12 @@ use Rattle.std.specs.List.{AllByRecursion}
 use Rattle.std.proofs.lemmas.List.{append-nil, map-append}
 use Rattle.std.proofs.lemmas.List.Elements.{filter-append}
 use Rattle.cf_isolation.proofs.Ends.{GoesFrom, leg_goes}
+use Rattle.cf_isolation.proofs.Legs.{LegsRight}
 use Rattle.cf_isolation.proofs.Lists.{all_map, filter_all}
 use Rattle.cf_isolation.proofs.Packets.{early_all, late_all}
 use Rattle.cf_isolation.proofs.Tables.{IsOwn}
 use Rattle.cf_packet.specs.Packet.{PacketValue}
 use Rattle.cf_policy.specs.declared.Asset.{Asset}
-use Rattle.cf_readback.proofs.Legs.{LegsRight}
 use Rattle.cf_policy.specs.AtEndpoint.{asset_place}
 use Rattle.cf_session.specs.Event.{AreRight}
 use Rattle.cf_session.specs.Sent.{Sent, at, early, is_first_half, late, sent_first, sent_second}

@@ -8,7 +8,7 @@ use Rattle.cf_policy.specs.declared.Asset.{Asset}
 use Rattle.cf_session.specs.Sent.{Sent}
 use Rattle.cf_watch.specs.Watched.{watched, with_record}
 use Rattle.cf_selfjudged.specs.Heard.{WatchedAreHeard, numbered_from}
-use Rattle.cf_readback.specs.ReadBack.{IsReadAgain, record_by}
+use Rattle.cf_isolation.specs.ReadBack.{IsReadAgain, record_by}
 use Rattle.cf_selfjudged.specs.Separate.{heard_on}
 
 abbrev onto : List Record → List Record → List Record

@@ -1,4 +1,5 @@
 -- What a watcher sees of one session has no objection.
+use Rattle.cf_isolation.proofs.Legs.{legs_right}
 use Rattle.cf_lane.specs.Caller.{newcomer}
 use Rattle.std.proofs.Common.{◌≡◌, ◌≤◌, ◌^◌, ◌++◌, ℕ, List, [], ◌∷◌, Option, Some, None, refl, sym, ap, ◌∙◌, subst, append_assoc}
 use Rattle.std.specs.List.{AllByRecursion}
@@ -18,7 +19,6 @@ use Rattle.cf_watch.specs.OneStream.{CarryOneStream, SeesOneStream}
 use Rattle.cf_selfjudged.specs.OneFlow.{CarriedSession, HasNoObjection, OneFlowIsUnobjected, packets_of}
 use Rattle.cf_selfjudged.specs.PairFlows.{GoesTo}
 use Rattle.cf_selfjudged.proofs.Carrying.{CarryOne, IsPlain, carry_all, events_carry, silent_carry, silent_top}
-use Rattle.cf_readback.proofs.Legs.{legs_right}
 use Rattle.cf_selfjudged.proofs.Towards.{all_to}
 
 -- ---- where there is no conflict, there is no other answer

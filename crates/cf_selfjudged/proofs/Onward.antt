@@ -4,12 +4,12 @@ use Rattle.std.specs.Prelude.{filter, position, slice_get}
 use Rattle.std.specs.List.{AllByRecursion as Each, flat_map, remove}
 use Rattle.std.proofs.lemmas.Bool.{and_parts, and_right, false_from_ne_true, false≢true, true≢false}
 use Rattle.std.proofs.lemmas.List.{append-nil}
-use Rattle.cf_isolation.proofs.Tables.{HasOwn, IsOwn, all_own, begun_in, each_filter, found_has_all, kept_has, receives, same_is, same_self, table_has}
+use Rattle.cf_isolation.proofs.Lists.{all_back, all_filtered}
+use Rattle.cf_isolation.proofs.Tables.{HasOwn, IsOwn, all_own, begun_in, found_has_all, kept_has, receives, same_self, table_has}
 use Rattle.cf_leg.specs.Event.{LegEvent, is_idle, sent_in}
 use Rattle.cf_packet.specs.Packet.{PacketValue}
 use Rattle.cf_packet.specs.declared.packet.PacketRefusal.{PacketRefusal}
 use Rattle.cf_policy.specs.declared.Asset.{Asset}
-use Rattle.cf_readback.proofs.Legs.{each_back}
 use Rattle.cf_policy.specs.AtEndpoint.{asset_place}
 use Rattle.cf_run.specs.Sessions.{HasRightEvents as IsRightSession, SessionsAreRight, gone_after, leaves, left_by_packet, session_at, sessions_of}
 use Rattle.cf_run.specs.Table.{Session, is_between, place_of, without}
@@ -24,7 +24,7 @@ use Rattle.cf_selfjudged.specs.OneFlow.{packets_of}
 use Rattle.cf_selfjudged.specs.Separate.{is_to_place}
 use Rattle.cf_selfjudged.proofs.Halves.{is_theirs, picked, picked_append, second_picked}
 use Rattle.cf_selfjudged.proofs.Others.{number_is}
-use Rattle.cf_run.proofs.Matched.{place_by}
+use Rattle.cf_run.proofs.Matched.{place_by, same_is}
 use Rattle.cf_selfjudged.proofs.Places.{one_place}
 use Rattle.cf_selfjudged.proofs.Stepping.{IsReady, all_ready, ticks_told, went_told}
 use Rattle.cf_selfjudged.proofs.Theirs.{count, count_append, fewer, fewer_out, one_of, parts, same_count, same_count_at, taken_out, told, told_append}
@@ -190,7 +190,7 @@ module _ (assets : List Asset) (client : Endpoint) (place : ℕ) where
         let Y = filter leaves W in
         let Z = left_by_packet e.received F in
         let few = few_after es in
-        let right : Each (IsRightSession limit) K = each_filter (IsRightSession limit) _ T (each_back (IsRightSession limit) (gone_after es) T (law assets limit es h.1)) in
+        let right : Each (IsRightSession limit) K = all_filtered (IsRightSession limit) _ T (all_back (IsRightSession limit) (gone_after es) T (law assets limit es h.1)) in
         let own_table = table_has (IsOwn assets) es (all_own assets limit es h.1) in
         let first = ticks_told assets client place limit tick K e.ticks right (kept_has (IsOwn assets) tick T own_table) h.0.ticks (kept_few tick T few) in
         let second = second_told limit tick F e.input.packet e.received (all_ready limit tick K e.ticks right h.0.ticks) (found_has_all (IsOwn assets) tick e.ticks T own_table)

@@ -3,6 +3,9 @@ use Rattle.std.proofs.Common.{◌≡◌, ◌||◌, ◌&&◌, ◌==◌, ℕ, Bool
 use Rattle.std.specs.Prelude.{MatchBool, nat_lt}
 use Rattle.std.specs.List.{AllByRecursion}
 use Rattle.std.proofs.lemmas.Bool.{cases_Bool, false≢true, or_parts, true≢false}
+use Rattle.cf_isolation.proofs.Legs.{legs_right}
+use Rattle.cf_isolation.proofs.Lists.{all_both}
+use Rattle.cf_isolation.proofs.Writing.{again_are, came_are, ending_are, greeted, repeat_is}
 use Rattle.cf_leg.specs.Emits.{AllRight, EndsBy, IsGreeting, IsRight, SpeaksOpen, cut_packet, fired_at}
 use Rattle.cf_leg.specs.Event.{Cut, Ending, LegEvent, Spoke, Unspoken, greeted_by, said_by, sent_in}
 use Rattle.cf_leg.specs.Heard.{opened}
@@ -16,9 +19,7 @@ use Rattle.cf_session.specs.Event.{AreEvents, IsEvent, came_controller}
 use Rattle.cf_session.specs.Session.{Flow, SessionEvent, controller_ends, controllers}
 use Rattle.cf_selfjudged.specs.OneFlow.{packets_of}
 use Rattle.cf_selfjudged.specs.Order.{SynsFirst}
-use Rattle.cf_readback.proofs.Legs.{legs_right}
 use Rattle.cf_selfjudged.proofs.Towards.{no_syn}
-use Rattle.cf_readback.proofs.Writing.{again_are, all_both, came_are, ending_are, greeted, repeat_is}
 
 abbrev NoSyn : PacketValue → Type 0
 NoSyn p = has_syn p ≡ false

@@ -3,9 +3,8 @@ use Rattle.std.proofs.Common.{◌≡◌, ℕ, suc, Bool, true, false, List, [], 
 use Rattle.std.specs.Prelude.{slice_get}
 use Rattle.std.proofs.lemmas.Bool.{true≢false}
 use Rattle.std.proofs.lemmas.Option.{none-some, same_Some}
-use Rattle.cf_isolation.proofs.Tables.{same_is}
 use Rattle.cf_policy.proofs.FirstPlace.{first_at}
-use Rattle.cf_run.proofs.Matched.{place_by}
+use Rattle.cf_run.proofs.Matched.{place_by, same_is}
 use Rattle.cf_policy.specs.declared.Asset.{Asset}
 use Rattle.cf_policy.specs.AtEndpoint.{asset_at, asset_place, has_asset_at}
 use Rattle.cf_view.specs.Endpoints.{same_endpoint}

@@ -7,7 +7,7 @@ use Rattle.cf_judge.specs.Objections.{AreReadBy, IsReadBy, Reading, first_wrong,
 use Rattle.cf_judge.specs.Plain.{AreRead, Whole}
 use Rattle.cf_packet.specs.Packet.{PacketValue}
 use Rattle.cf_policy.specs.declared.Asset.{Asset}
-use Rattle.cf_readback.specs.ReadBack.{ReadsAs, RunsAreReadBack, output_form, record_by}
+use Rattle.cf_isolation.specs.ReadBack.{ReadsAs, RunsAreReadBack, output_form, record_by}
 use Rattle.cf_records.specs.Capture.{AreRecords, FileEnd, LastPlace}
 use Rattle.cf_records.specs.Form.{first_place}
 use Rattle.cf_records.specs.Records.{HaveOneList}

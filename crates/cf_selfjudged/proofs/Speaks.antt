@@ -1,6 +1,7 @@
 -- A session sends its SYN first.
 use Rattle.std.proofs.Common.{◌≡◌, ℕ, false, List, [], ◌∷◌, ◌++◌, map, refl, sym, ap, ◌∙◌, subst}
 use Rattle.std.specs.List.{AllByRecursion}
+use Rattle.cf_isolation.proofs.Legs.{legs_right}
 use Rattle.cf_leg.specs.Emits.{syn}
 use Rattle.cf_leg.specs.Event.{LegEvent, sent_in}
 use Rattle.cf_packet.specs.Packet.{PacketValue}
@@ -10,7 +11,6 @@ use Rattle.cf_selfjudged.specs.OneFlow.{Numbered, packets_of}
 use Rattle.cf_selfjudged.specs.Order.{SynsFirst}
 use Rattle.cf_selfjudged.specs.PairFlows.{GoesTo}
 use Rattle.cf_selfjudged.specs.Speaks.{SessionsSpeak, SpeaksAs}
-use Rattle.cf_readback.proofs.Legs.{legs_right}
 use Rattle.cf_selfjudged.proofs.Order.{syns_first}
 use Rattle.cf_selfjudged.proofs.Towards.{all_to}
 

@@ -4,16 +4,15 @@ use Rattle.std.specs.Prelude.{filter, slice_get}
 use Rattle.std.specs.List.{AllByRecursion as Each, flat_map}
 use Rattle.std.proofs.lemmas.Bool.{false≢true}
 use Rattle.std.proofs.lemmas.List.{append-nil}
-use Rattle.cf_audit.specs.declared.CutReason.{CutReason}
-use Rattle.cf_isolation.proofs.Packets.{right_events}
+use Rattle.cf_isolation.proofs.Legs.{legs_right}
+use Rattle.cf_isolation.proofs.Packets.{right_events, uncut}
 use Rattle.cf_isolation.proofs.Tables.{HasOwn, IsOwn}
-use Rattle.cf_isolation.proofs.Turns.{uncut}
+use Rattle.cf_audit.specs.declared.CutReason.{CutReason}
 use Rattle.cf_leg.specs.Emits.{fired_at}
 use Rattle.cf_leg.specs.Event.{Came, Ending, LegEvent, greeted_by, is_idle, said_by, sent_in}
 use Rattle.cf_leg.specs.declared.Ends.{Ends}
 use Rattle.cf_packet.specs.Packet.{PacketValue}
 use Rattle.cf_policy.specs.declared.Asset.{Asset}
-use Rattle.cf_readback.proofs.Legs.{legs_right}
 use Rattle.cf_run.specs.Sessions.{HasRightEvents as IsRightSession}
 use Rattle.cf_run.specs.Table.{Session}
 use Rattle.cf_run.specs.Trace.{AreTicks, GoesOnAt, GoesOnWith, ends_cut, replaced, stays, with_event_at, with_events}

@@ -3,6 +3,8 @@ use Rattle.std.proofs.Common.{◌≡◌, ℕ, ◌+◌, ◌/◌, ◌%◌, ◌==�
 use Rattle.std.specs.Prelude.{if◌then◌else◌}
 use Rattle.std.specs.List.{AllByRecursion}
 use Rattle.std.proofs.lemmas.Bool.{false≢true, true≢false}
+use Rattle.cf_isolation.proofs.Lists.{all_both}
+use Rattle.cf_isolation.proofs.Writing.{Sends, sends_all}
 use Rattle.cf_leg.specs.Emits.{AllRight, IsRight, rst, syn, way_of}
 use Rattle.cf_leg.specs.Event.{LegEvent, greeted_by, said_by}
 use Rattle.cf_leg.specs.Segment.{segment}
@@ -11,7 +13,6 @@ use Rattle.cf_session.specs.Session.{Flow, controller_ends}
 use Rattle.cf_stream.specs.Stream.{Stream}
 use Rattle.cf_selfjudged.specs.OneFlow.{packets_of}
 use Rattle.cf_selfjudged.specs.PairFlows.{GoesTo}
-use Rattle.cf_readback.proofs.Writing.{Sends, all_both, sends_all}
 
 pub no_syn : (a b : Bool) → ((16 + (if a then 0 else 8) + (if b then 1 else 0)) / 2 % 2 == 1) ≡ false
 no_syn true true = refl

@@ -6,7 +6,7 @@ use Rattle.cf_policy.specs.declared.Asset.{Asset}
 use Rattle.cf_session.specs.Sent.{Sent}
 use Rattle.cf_watch.specs.Watched.{watched}
 use Rattle.cf_selfjudged.specs.OneFlow.{Numbered}
-use Rattle.cf_readback.specs.ReadBack.{IsReadAgain, record_by}
+use Rattle.cf_isolation.specs.ReadBack.{IsReadAgain, record_by}
 use Rattle.cf_selfjudged.specs.Separate.{heard_on}
 
 -- the packets with the numbers of their records

@@ -5,7 +5,7 @@ use Rattle.cf_lane.specs.Rows.{modbus_asset}
 use Rattle.cf_leg.specs.Event.{Greeting, LegEvent, Nothing, Spoke}
 use Rattle.cf_packet.specs.Packet.{PacketValue}
 use Rattle.cf_policy.specs.declared.Asset.{Asset}
-use Rattle.cf_readback.specs.ReadBack.{record_by}
+use Rattle.cf_isolation.specs.ReadBack.{record_by}
 use Rattle.cf_records.specs.Capture.{Record}
 use Rattle.cf_selfjudged.specs.Heard.{numbered_from}
 use Rattle.cf_selfjudged.specs.OneFlow.{Numbered, carried_on, packets_of}

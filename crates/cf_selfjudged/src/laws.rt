@@ -6,7 +6,7 @@ ghost use Rattle.cf_selfjudged.specs.SelfJudged.{RunsAreUnobjected, WatchedRunsA
 ghost use Rattle.cf_selfjudged.specs.Separate.{FlowsAreOfTheirPackets};
 ghost use Rattle.cf_selfjudged.specs.Speaks.{SessionsSpeak};
 
-use cf_readback::runs_are_read_back;
+use cf_isolation::runs_are_read_back;
 use cf_records::octets_have_one_list_of_records;
 use cf_run::sessions_are_right;
 use cf_session::{segments_carry_to_both_sides, work_is_of_what_was_taken};

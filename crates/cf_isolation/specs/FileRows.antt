@@ -1,9 +1,9 @@
--- Beside the proof: a capture of two sessions worked by hand, evaluated, a check of the definitions alone: `RowsHold`. The file is that of
+-- Beside the proof: a capture of two sessions worked by hand, evaluated, a check of the definitions alone: `FileRowsHold`. The file is that of
 -- draft-ietf-opsawg-pcap, sections 4 and 5, the packets those of RFC 791 and RFC 9293, section 3.1, the request that of Modbus Application
 -- Protocol V1.1b3, section 6.3.
 use Rattle.cf_packet.specs.Packet.{read_record}
 use Rattle.cf_packet.specs.declared.PacketRefusal.TheVariants as refusal
-use Rattle.cf_readback.specs.ReadBack.{MayBeWritten, ReadsAs, record_by}
+use Rattle.cf_isolation.specs.ReadBack.{MayBeWritten, ReadsAs, record_by}
 use Rattle.cf_records.specs.Capture.{Record}
 use Rattle.cf_run.specs.Run.{capture_of}
 use Rattle.cf_session.specs.Sent.{Sent}
@@ -73,7 +73,7 @@ one_record = record { stamp = 1000000; link = link.RawIp; body = one_octets }
 abbrev pub other_record : Record
 other_record = record { stamp = 2500001; link = link.RawIp; body = other_octets }
 
-pub record RowsHold : Type 0 where
+pub record FileRowsHold : Type 0 where
   pub written : capture_of (one ∷ other ∷ []) ≡ file
   pub records : record_by one ∷ record_by other ∷ [] ≡ one_record ∷ other_record ∷ []
   pub reads : ReadsAs file (one ∷ other ∷ [])

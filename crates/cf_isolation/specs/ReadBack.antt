@@ -9,8 +9,8 @@ use Rattle.cf_view.specs.Moment.{moment_limit}
 use Rattle.cf_policy.specs.declared.Asset.{Asset}
 use Rattle.cf_records.specs.Capture.{AreRecords, FileEnd, LastPlace, Record}
 use Rattle.cf_records.specs.Form.{form_of}
-use Rattle.cf_run.specs.Run.{IsRun, capture_of}
-use Rattle.cf_run.specs.Trace.{AreRunEvents, RunEvent, Input, sent}
+use Rattle.cf_run.specs.Run.{IsRun}
+use Rattle.cf_run.specs.Trace.{Input, sent}
 use Rattle.cf_records.specs.declared.Form.{Form}
 use Rattle.cf_records.specs.declared.Form.TheVariants as form
 use Rattle.cf_run.specs.declared.summary.Summary.{Summary}
@@ -22,12 +22,6 @@ use Rattle.cf_view.specs.declared.LinkKind.TheVariants as link
 pub record MayBeWritten (s : Sent) : Type 0 where
   pub moment : s.moment < moment_limit
   pub packet : IsWritable s.packet
-
--- all that events over records in time send may be
-abbrev pub SentMayBeWritten : Type 0
-SentMayBeWritten =
-    (assets : List Asset) (limit : ℕ) (events : List RunEvent) → AreRunEvents assets limit events →
-    AllByRecursion (λ e. e.input.moment < moment_limit) events → AllByRecursion MayBeWritten (sent events)
 
 -- the form of the files that are written
 abbrev pub output_form : Form
@@ -48,12 +42,6 @@ pub record ReadsAs (octets : List ℕ) (all : List Sent) : Type 0 where
   pub ends : last.found ≡ FileEnd
   pub are : AreRecords output_form 24 (drop 24 octets) (map record_by all) last
   pub packets : AllByRecursion IsReadAgain all
-
--- the octets that were sent are read, so the fields are in their ranges
-abbrev pub CapturesAreRead : Type 0
-CapturesAreRead =
-    (all : List Sent) → AllByRecursion MayBeWritten all → IsOctets (capture_of all) → length (capture_of all) ≤ 2 ^ 40
-    → ReadsAs (capture_of all) all
 
 -- the output capture of a run over records in time is read as what its events sent
 abbrev pub RunsAreReadBack : Type 0

@@ -13,13 +13,16 @@ use Rattle.cf_pcapng.specs.Block.{is_section}
 use Rattle.cf_records.specs.Capture.{AreRecords, FileEnd, Fits, LastPlace, classic_at}
 use Rattle.cf_records.specs.Form.{form_of}
 use Rattle.cf_run.specs.OutputFile.{record_octets}
-use Rattle.cf_run.specs.Run.{inputs_of}
-use Rattle.cf_run.specs.Trace.{RunEvent, Input, sent}
+use Rattle.cf_run.specs.Run.{capture_of}
+use Rattle.cf_run.specs.Sessions.{SessionsAreRight}
+use Rattle.cf_run.specs.Trace.{sent}
 use Rattle.cf_session.specs.Sent.{Sent}
 use Rattle.cf_session.specs.Told.{emitted}
 use Rattle.cf_view.specs.Octets.{IsOctets}
-use Rattle.cf_readback.specs.ReadBack.{CapturesAreRead, IsReadAgain, MayBeWritten, ReadsAs, RunsAreReadBack, SentMayBeWritten, output_form, record_by}
-use Rattle.cf_readback.proofs.Ranges.{octets_back, octets_front, spelled_again, spelled_short}
+use Rattle.cf_isolation.specs.ReadBack.{IsReadAgain, MayBeWritten, ReadsAs, RunsAreReadBack, output_form, record_by}
+use Rattle.cf_isolation.proofs.Moments.{inputs_all}
+use Rattle.cf_isolation.proofs.Written.{written}
+use Rattle.cf_isolation.proofs.Ranges.{octets_back, octets_front, spelled_again, spelled_short}
 
 drop_front : (xs ys : List ℕ) → drop (length xs) (xs ++ ys) ≡ ys
 drop_front [] ys = refl
@@ -84,7 +87,8 @@ not_section xs = let long : nat_lt 3 (length (output_octets ++ xs)) ≡ true = g
 form_again : (xs : List ℕ) → form_of (output_octets ++ xs) ≡ Ok output_form
 form_again xs = let long : nat_lt (length (output_octets ++ xs)) 24 ≡ false = grind (arith, nat_tests) in rw (not_section xs, long) refl
 
-pub reads_back : CapturesAreRead
+-- the octets that were sent are read, so the fields are in their ranges
+reads_back : (all : List Sent) → AllByRecursion MayBeWritten all → IsOctets (capture_of all) → length (capture_of all) ≤ 2 ^ 40 → ReadsAs (capture_of all) all
 reads_back all w o small =
     let records = flat_map octets_of all in
     let (last, ends, are) = all_at 24 all w (omega (arith, small)) in
@@ -92,17 +96,9 @@ reads_back all w o small =
 
 -- ---- a run
 
-in_time : (events : List RunEvent) → AllByRecursion (λ i. i.moment < moment_limit) (inputs_of events) → AllByRecursion (λ e. e.input.moment < moment_limit) events
-in_time [] h = tt
-in_time (e ∷ earlier) h = let (before, now) = all_parts (inputs_of earlier) (e.input ∷ []) h in (now.0, in_time earlier before)
-  where
-    all_parts : (xs ys : List Input) → AllByRecursion (λ i. i.moment < moment_limit) (xs ++ ys) → AllByRecursion (λ i. i.moment < moment_limit) xs × AllByRecursion (λ i. i.moment < moment_limit) ys
-    all_parts [] ys g = (tt, g)
-    all_parts (x ∷ xs) ys g = let (a, b) = all_parts xs ys g.1 in ((g.0, a), b)
-
-pub runs_back : SentMayBeWritten → CapturesAreRead → RunsAreReadBack
-runs_back written read assets limit given out log summary run moments octets small =
+pub runs_back : SessionsAreRight → RunsAreReadBack
+runs_back law assets limit given out log summary run moments octets small =
     let all = sent run.events in
-    let may = written assets limit run.events run.are (in_time run.events (subst (AllByRecursion (λ i. i.moment < moment_limit)) (sym run.are_inputs) moments)) in
+    let may = written law assets limit run.events run.are (inputs_all (λ i. i.moment < moment_limit) run.events (subst (AllByRecursion (λ i. i.moment < moment_limit)) (sym run.are_inputs) moments)) in
     subst (λ xs. ReadsAs xs all) (sym run.capture)
-    (read all may (subst IsOctets run.capture octets) (subst (λ (xs : List ℕ). length xs ≤ 2 ^ 40) run.capture small))
+    (reads_back all may (subst IsOctets run.capture octets) (subst (λ (xs : List ℕ). length xs ≤ 2 ^ 40) run.capture small))

@@ -19,14 +19,6 @@ use Rattle.cf_packet.specs.Packet.{PacketValue}
 use Rattle.cf_packet.specs.Written.{IsWritable}
 use Rattle.cf_stream.specs.Stream.{Stream, letter_count, no_letters}
 
-pub all_both : {X : Type 0} (P : X → Type 0) (xs ys : List X) → AllByRecursion P xs → AllByRecursion P ys → AllByRecursion P (xs ++ ys)
-all_both P [] ys h g = g
-all_both P (x ∷ xs) ys h g = (h.0, all_both P xs ys h.1 g)
-
-pub all_front : {X : Type 0} (P : X → Type 0) (xs ys : List X) → AllByRecursion P (xs ++ ys) → AllByRecursion P xs
-all_front P [] ys h = tt
-all_front P (x ∷ xs) ys h = (h.0, all_front P xs ys h.1)
-
 -- what an event sends, by its three parts
 pub record Sends (P : PacketValue → Type 0) (e : LegEvent) : Type 0 where
   pub fired : AllByRecursion P e.fired
@@ -153,13 +145,7 @@ greeting_writable ends (role.Passive other mss) p h = subst IsWritable (sym h) (
 rst_writable : (ends : Ends) (number ack flags : ℕ) → flags < 64 → IsWritable (rst ends number ack flags)
 rst_writable ends number ack flags h = record { short = omega arith; bare = tt; flags = h }
 
-abbrev pub AreWritable : List PacketValue → Type 0
-AreWritable ps = AllByRecursion IsWritable ps
-
-abbrev pub SendsWritable : LegEvent → Type 0
-SendsWritable e = Sends IsWritable e
-
-pub sends_writable : (ends : Ends) (es : List LegEvent) (e : LegEvent) → AllRight ends es → IsRight ends es e → SendsWritable e
+pub sends_writable : (ends : Ends) (es : List LegEvent) (e : LegEvent) → AllRight ends es → IsRight ends es e → Sends IsWritable e
 sends_writable ends es e h r =
     sends_all ends IsWritable (λ xs t n s short. segment_writable (way_of ends xs) t n s short) (λ p g. greeting_writable ends ends.role p g)
     (λ number ack. rst_writable ends number ack 20 (omega arith)) (λ number. rst_writable ends number 0 4 (omega arith)) es e h r

@@ -7,8 +7,8 @@ use Rattle.cf_pcapng.specs.Block.{is_section}
 use Rattle.cf_records.specs.Capture.{FileEnd, LastPlace, Record}
 use Rattle.cf_records.specs.Records.{HaveOneList}
 use Rattle.cf_session.specs.Sent.{Sent}
-use Rattle.cf_readback.specs.ReadBack.{ReadsAs, output_form, record_by}
-use Rattle.cf_readback.specs.Rows.{RowsHold, file, one, one_record, other, other_record}
+use Rattle.cf_isolation.specs.ReadBack.{ReadsAs, output_form, record_by}
+use Rattle.cf_isolation.specs.FileRows.{FileRowsHold, file, one, one_record, other, other_record}
 
 -- the end of the file
 abbrev last : LastPlace
@@ -33,9 +33,9 @@ module _ (one_list : HaveOneList) where
   moments : (all : List Sent) → ReadsAs file all → stamps (map record_by all) ≡ 1000000 ∷ 2500001 ∷ []
   moments all r = ap stamps (one_list output_form 24 _ _ _ r.last reads.last r.are reads.are).0
 
-  pub rows_hold : RowsHold
+  pub file_rows_hold : FileRowsHold
   unfolding spelled ones_sum
-  rows_hold = record {
+  file_rows_hold = record {
     written = refl;
     records = refl;
     reads = reads;
