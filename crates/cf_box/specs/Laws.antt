@@ -12,11 +12,11 @@ use Rattle.cf_review.specs.SynFlows.{SynFlowsAreWatched}
 use Rattle.cf_run.specs.Fixed.{RecordsFixRuns}
 use Rattle.cf_run.specs.Isolation.{RunsIsolateSessions}
 use Rattle.cf_records.specs.Records.{HaveOneTimedList}
-use Rattle.cf_selfjudged.specs.SelfJudged.{RunsAreUnobjected, WatchedRunsAreUnobjected}
 use Rattle.cf_session.specs.Laws.{FewerPartsAreEnough}
 use Rattle.cf_unobjected.specs.Allowed.{FlowsGoOn, UnobjectedAreAllowed}
 use Rattle.cf_unobjected.specs.OneJudgement.{FlowsAreJudged, FlowsAreOne, JudgementsAreOne, RecordsHaveOneJudgement}
 use Rattle.cf_unobjected.specs.OneReading.{ReadingsAreOne}
+use Rattle.cf_unobjected.specs.SelfJudged.{RunsAreUnobjected, WatchedRunsAreUnobjected}
 use Rattle.cf_unobjected.specs.ShortestFront.{FrontsAreJudged, ObjectionsAreOfShortestFronts}
 
 -- all laws over runs, captures and policies of which the program says something

@@ -10,11 +10,10 @@ use cf_review::{
     bytes_come_in_order, judge_tells_the_first, records_come_first, syn_flows_are_watched,
 };
 use cf_run::{records_fix_runs, runs_isolate_sessions};
-use cf_selfjudged::runs_are_unobjected;
 use cf_session::fewer_segments_are_enough;
 use cf_unobjected::{
     flows_are_judged, flows_go_on, judgements_are_one, objections_are_of_shortest_fronts,
-    readings_are_one, unobjected_are_allowed,
+    readings_are_one, runs_are_unobjected, unobjected_are_allowed,
 };
 
 /// The laws of the layers below that speak of whole runs and whole captures.

@@ -12,7 +12,8 @@ use Rattle.cf_dnptrans.specs.declared.assembly.SegmentAnswer.TheVariants as answ
 use Rattle.cf_policy.specs.declared.Asset.{Asset}
 use Rattle.cf_unobjected.specs.Passed.{IsRightlyPassed}
 use Rattle.cf_unobjected.specs.Unobjected.{IsUnobjected}
-use Rattle.cf_unobjected.proofs.Dnp3.{IsRightFragment, IsServed, IsTaken, all_both, all_front, fine, fragments_in, more_taken, right_fragments, segments_append, sent_fragments, unit_segments, units_served, whole_taken}
+use Rattle.cf_isolation.proofs.Lists.{all_both, all_front}
+use Rattle.cf_unobjected.proofs.Dnp3.{IsRightFragment, IsServed, IsTaken, fine, fragments_in, more_taken, right_fragments, segments_append, sent_fragments, unit_segments, units_served, whole_taken}
 use Rattle.cf_unobjected.proofs.Unobjected.{reads}
 
 abbrev PutsTogether : Type 0

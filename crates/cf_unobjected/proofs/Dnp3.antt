@@ -29,6 +29,7 @@ use Rattle.cf_lane.specs.declared.fate.Admission.{Admission}
 use Rattle.cf_lane.specs.declared.fate.Fate.TheVariants as fate
 use Rattle.cf_audit.specs.declared.line.Why.TheVariants as why
 use Rattle.cf_view.specs.declared.Side.TheVariants as side
+use Rattle.cf_isolation.proofs.Lists.{all_both, all_front}
 use Rattle.cf_unobjected.specs.Passed.{IsRightlyPassed}
 use Rattle.cf_unobjected.proofs.Unobjected.{AreFine, no_complaint}
 
@@ -36,14 +37,6 @@ use Rattle.cf_unobjected.proofs.Unobjected.{AreFine, no_complaint}
 abbrev pub IsTaken : SegmentAnswer → Type 0
 IsTaken (answers.Dropped because) = ⊥
 IsTaken _ = Unit {0}
-
-pub all_both : {X : Type 0} (P : X → Type 0) (xs ys : List X) → AllByRecursion P xs → AllByRecursion P ys → AllByRecursion P (xs ++ ys)
-all_both P [] ys a b = b
-all_both P (x ∷ xs) ys a b = (a.0, all_both P xs ys a.1 b)
-
-pub all_front : {X : Type 0} (P : X → Type 0) (xs ys : List X) → AllByRecursion P (xs ++ ys) → AllByRecursion P xs
-all_front P [] ys h = tt
-all_front P (x ∷ xs) ys h = (h.0, all_front P xs ys h.1)
 
 pub more_taken : (n : ℕ) → AllByRecursion IsTaken (replicate n answers.More)
 more_taken zero = tt

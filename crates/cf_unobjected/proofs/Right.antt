@@ -52,7 +52,7 @@ use Rattle.cf_lane.specs.declared.fate.Fate.TheVariants as fate
 use Rattle.cf_audit.specs.declared.line.Why.TheVariants as why
 use Rattle.cf_view.specs.declared.Side.TheVariants as side
 use Rattle.cf_unobjected.specs.Passed.{IsRightlyPassed}
-use Rattle.cf_unobjected.proofs.Dnp3.{all_both}
+use Rattle.cf_isolation.proofs.Lists.{all_both}
 
 fits_by : (octets xs : List ℕ) (b : Bool) → nat_le (length octets) 2048 ≡ b → (if b then Some octets else None) ≡ Some xs → length xs ≤ 2048
 fits_by octets xs true e h =
