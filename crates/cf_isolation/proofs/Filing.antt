@@ -1,24 +1,16 @@
 -- The records of an output capture between a session's endpoints.
-use Rattle.std.proofs.Common.{◌≡◌, ℕ, ◌&&◌, Bool, true, false, List, [], ◌∷◌, cond, map, refl, sym, ap, ◌∙◌}
-use Rattle.std.specs.Prelude.{filter}
-use Rattle.std.specs.List.{AllByRecursion}
+use Rattle.std.proofs.Common.{◌≡◌, ℕ, ◌&&◌, Bool, true, false, List, [], ◌∷◌, cond, map, refl, sym, ap, ◌∙◌, filter}
+use Rattle.cf_isolation.proofs.Common.{AllByRecursion, Asset, Endpoint, EventsAreFixed, Input, IsRightSession, Sent, SessionsAreRight, born_at, client_of, goes_between, is_during, is_in_life, moments_of, output_form, record_by, sent, tick_of}
 use Rattle.cf_packet.specs.Packet.{read_record}
-use Rattle.cf_policy.specs.declared.Asset.{Asset}
 use Rattle.cf_records.specs.Capture.{Record}
 use Rattle.cf_records.specs.Records.{HaveOneList}
-use Rattle.cf_run.specs.Isolation.{RunsIsolateSessions, moments_of}
+use Rattle.cf_run.specs.Isolation.{RunsIsolateSessions}
 use Rattle.cf_run.specs.Run.{IsRun}
-use Rattle.cf_run.specs.Sessions.{HasRightEvents as IsRightSession, SessionsAreRight}
-use Rattle.cf_run.specs.Trace.{Input, sent, tick_of}
 use Rattle.cf_run.specs.declared.summary.Summary.{Summary}
-use Rattle.cf_session.specs.Laws.{EventsAreFixed}
-use Rattle.cf_session.specs.Sent.{Sent}
-use Rattle.cf_session.specs.Session.{client_of}
-use Rattle.cf_view.specs.declared.Endpoint.{Endpoint}
 use Rattle.cf_isolation.specs.Isolated.{CapturesAreIsolated, CapturesHoldSessions, CapturesHoldToTheNext, HasWrittenRecords, IsInTime, began_at, seen_until}
-use Rattle.cf_isolation.specs.Lives.{AlikeInRecords, EachHasRecords, born_at, is_in_life, own_sent}
-use Rattle.cf_isolation.specs.ReadBack.{IsReadAgain, RunsAreReadBack, output_form, record_by}
-use Rattle.cf_isolation.specs.Records.{goes_between, is_during, is_packet_between, records_between}
+use Rattle.cf_isolation.specs.Lives.{AlikeInRecords, EachHasRecords, own_sent}
+use Rattle.cf_isolation.specs.ReadBack.{IsReadAgain, RunsAreReadBack}
+use Rattle.cf_isolation.specs.Records.{is_packet_between, records_between}
 use Rattle.cf_isolation.proofs.Moments.{one_time}
 use Rattle.cf_isolation.proofs.Packets.{alike_events}
 use Rattle.cf_isolation.proofs.Sending.{sent_holds}

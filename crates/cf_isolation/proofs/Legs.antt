@@ -1,8 +1,8 @@
 -- Each leg of a session has right events.
 use Rattle.std.proofs.Common.{ℕ, inl, inr, List, [], ◌∷◌}
-use Rattle.cf_leg.specs.Emits.{AllRight}
-use Rattle.cf_session.specs.Event.{AreEvents, AreRight, IsEvent}
-use Rattle.cf_session.specs.Session.{Flow, SessionEvent, client_ends, clients, controller_ends, controllers}
+use Rattle.cf_isolation.proofs.Common.{AllRight, AreRight, Flow, SessionEvent, client_ends, controller_ends}
+use Rattle.cf_session.specs.Event.{AreEvents, IsEvent}
+use Rattle.cf_session.specs.Session.{clients, controllers}
 
 pub record LegsRight (f : Flow) (es : List SessionEvent) : Type 0 where
   pub controller : AllRight (controller_ends f) (controllers es)

@@ -1,3 +1,4 @@
+mod Common
 pub mod Ends
 mod Filing
 mod Halves

@@ -1,20 +1,10 @@
 -- What a run puts out of a session: in its life, in its time, and up to the packet of the event that comes next.
-use Rattle.std.proofs.Common.{◌≡◌, ℕ, ◌+◌, ◌<◌, ◌≤◌, ◌&&◌, Bool, true, false, List, [], ◌∷◌, ◌++◌, cond, refl, sym, ap, ◌∙◌, subst, append_assoc, append-nil, arith}
-use Rattle.std.specs.Prelude.{filter}
-use Rattle.std.specs.List.{AllByRecursion, flat_map}
-use Rattle.std.proofs.lemmas.List.Elements.{filter-append}
-use Rattle.cf_policy.specs.declared.Asset.{Asset}
-use Rattle.cf_session.specs.Session.{Flow, SessionEvent, client_of, is_expired}
-use Rattle.cf_view.specs.declared.Endpoint.{Endpoint}
-use Rattle.cf_run.specs.Isolation.{HasSession, NoneBegins, begins_theirs, goes_to_theirs, is_flow_of}
-use Rattle.cf_run.specs.Selected.{Rises, last_moment}
-use Rattle.cf_run.specs.Sessions.{HasEvents, HasRightEvents as IsRightSession, SessionsAreRight, gone_after, leaves, left_by_packet, left_in, sessions_of}
-use Rattle.cf_run.specs.Summary.{found}
-use Rattle.cf_run.specs.Table.{Session, is_between}
-use Rattle.cf_run.specs.Trace.{AreRunEvents, Begun, RunEvent, kept, table_after, tick_of, with_events}
+use Rattle.std.proofs.Common.{◌≡◌, ℕ, ◌+◌, ◌<◌, ◌≤◌, ◌&&◌, Bool, true, false, List, [], ◌∷◌, ◌++◌, cond, refl, sym, ap, ◌∙◌, subst, append_assoc, append-nil, arith, filter}
+use Rattle.cf_isolation.proofs.Common.{AllByRecursion, AreRunEvents, Asset, Begun, Endpoint, Flow, HasEvents, HasSession, IsRightSession, Rises, RunEvent, Session, SessionEvent, SessionsAreRight, begins_theirs, born_at, client_of, filter-append, flat_map, found, goes_to_theirs, gone_after, is_between, is_during, is_expired, is_flow_of, is_in_life, kept, leaves, left_by_packet, sessions_of, table_after, tick_of, with_events}
+use Rattle.cf_run.specs.Isolation.{NoneBegins}
+use Rattle.cf_run.specs.Selected.{last_moment}
+use Rattle.cf_run.specs.Sessions.{left_in}
 use Rattle.cf_isolation.specs.Isolated.{NextEvent, began_at, seen_until}
-use Rattle.cf_isolation.specs.Lives.{born_at, is_in_life}
-use Rattle.cf_isolation.specs.Records.{is_during}
 use Rattle.cf_isolation.proofs.Lists.{all_both, all_filtered, all_map, filter_all, filter_both}
 use Rattle.cf_isolation.proofs.Moments.{back, during_early, during_late, during_yes, last_grows}
 use Rattle.cf_isolation.proofs.Order.{InOrder, life}

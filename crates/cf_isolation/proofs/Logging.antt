@@ -1,27 +1,13 @@
 -- The lines of a run's log that name a session are what its events logged.
-use Rattle.std.proofs.Common.{◌≡◌, ℕ, ◌+◌, Bool, true, false, List, [], ◌∷◌, ◌++◌, cond, Some, Result, Ok, refl, sym, ap, ◌∙◌, subst, append-nil, arith}
-use Rattle.std.specs.Prelude.{IfOk, filter}
-use Rattle.std.specs.List.{AllByRecursion}
-use Rattle.std.proofs.lemmas.List.Elements.{filter-append}
-use Rattle.cf_leg.specs.Event.{moment}
-use Rattle.cf_packet.specs.Packet.{PacketValue}
+use Rattle.std.proofs.Common.{◌≡◌, ℕ, ◌+◌, Bool, true, false, List, [], ◌∷◌, ◌++◌, cond, Some, Result, Ok, refl, sym, ap, ◌∙◌, subst, append-nil, arith, IfOk, filter}
+use Rattle.cf_isolation.proofs.Common.{AllByRecursion, AreRunEvents, AreTicks, Asset, Begun, Endpoint, EventsAreFixed, Flow, HasSession, Input, IsRightSession, PacketRefusal, PacketValue, Received, ReceivesRecord, Rises, RunEvent, Session, SessionEvent, SessionsAreRight, begins_theirs, client_of, filter-append, found, goes_to_theirs, is_between, is_flow_of, is_theirs, kept, logged_first, logged_second, moment, moment_in, moments_of, names_both, table_after, tick_of, ticks_of}
 use Rattle.cf_packet.specs.Written.{HasRanges}
-use Rattle.cf_packet.specs.declared.packet.PacketRefusal.{PacketRefusal}
 use Rattle.cf_policy.specs.Within.{AreAssetsWithin}
-use Rattle.cf_policy.specs.declared.Asset.{Asset}
-use Rattle.cf_session.specs.Laws.{EventsAreFixed, WorkIsOfTheTaken}
-use Rattle.cf_session.specs.Sent.{logged_first, logged_second}
-use Rattle.cf_session.specs.Session.{Flow, SessionEvent, client_of}
-use Rattle.cf_view.specs.declared.Endpoint.{Endpoint}
-use Rattle.cf_run.specs.Isolation.{HasSession, RunsIsolateSessions, begins_theirs, goes_to_theirs, is_flow_of, is_theirs, moments_of, ticks_of}
+use Rattle.cf_session.specs.Laws.{WorkIsOfTheTaken}
+use Rattle.cf_run.specs.Isolation.{RunsIsolateSessions}
 use Rattle.cf_run.specs.Run.{IsRun}
-use Rattle.cf_run.specs.Selected.{Rises}
-use Rattle.cf_run.specs.Sessions.{HasRightEvents as IsRightSession, SessionsAreRight}
-use Rattle.cf_run.specs.Summary.{found}
-use Rattle.cf_run.specs.Table.{Session, is_between}
-use Rattle.cf_run.specs.Trace.{AreRunEvents, AreTicks, Begun, RunEvent, Input, Received, ReceivesRecord, kept, logged_at, logged_received, logged_ticks, table_after, tick_of}
+use Rattle.cf_run.specs.Trace.{logged_at, logged_received, logged_ticks}
 use Rattle.cf_run.specs.declared.summary.Summary.{Summary}
-use Rattle.cf_isolation.specs.Lines.{moment_in, names_both}
 use Rattle.cf_isolation.specs.Lives.{AlikeInLines, EachLogged, own_logged}
 use Rattle.cf_isolation.specs.Logged.{IsReadInput, LogsAreIsolated, LogsHoldSessions, LogsHoldToTheNext}
 use Rattle.cf_isolation.proofs.Lists.{all_both, all_map, filter_all}

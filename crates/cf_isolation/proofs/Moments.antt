@@ -1,17 +1,11 @@
 -- The moments of a run's events: they rise, and two runs of equal moments have them at the same places.
 use Rattle.std.proofs.Common.{◌≡◌, ℕ, zero, suc, ◌+◌, ◌<◌, ◌≤◌, true, false, List, [], ◌∷◌, ◌++◌, get_or, length, map, reverse, refl, sym, ap, ◌∙◌, length-append, arith}
-use Rattle.std.specs.List.{AllByRecursion}
-use Rattle.std.proofs.lemmas.Bool.Decides.{nat_tests}
+use Rattle.cf_isolation.proofs.Common.{AllByRecursion, Asset, Endpoint, Flow, HasSession, Input, Rises, RunEvent, client_of, is_during, moments_of, nat_tests}
 use Rattle.std.proofs.lemmas.List.{length-map, map-append, reverse-append}
-use Rattle.cf_policy.specs.declared.Asset.{Asset}
-use Rattle.cf_run.specs.Isolation.{AreMatched, AreMatchedAlike, HasSession, moments_of}
+use Rattle.cf_run.specs.Isolation.{AreMatched, AreMatchedAlike}
 use Rattle.cf_run.specs.Run.{inputs_of}
-use Rattle.cf_run.specs.Selected.{Rises, last_moment}
-use Rattle.cf_run.specs.Trace.{Input, RunEvent}
-use Rattle.cf_session.specs.Session.{Flow, client_of}
-use Rattle.cf_view.specs.declared.Endpoint.{Endpoint}
+use Rattle.cf_run.specs.Selected.{last_moment}
 use Rattle.cf_isolation.specs.Isolated.{HaveOneTime}
-use Rattle.cf_isolation.specs.Records.{is_during}
 use Rattle.cf_isolation.proofs.Lists.{all_back, all_front}
 
 -- what holds of events and of those before each holds of all that are behind some

@@ -1,18 +1,8 @@
 -- What a run puts out, by sessions, events and halves: what it sends, and what it logs.
-use Rattle.std.proofs.Common.{◌≡◌, ℕ, ◌+◌, Bool, List, [], ◌∷◌, ◌++◌, cond, None, Some, refl, ap, append-nil}
-use Rattle.std.specs.Prelude.{filter, slice_get}
-use Rattle.std.specs.List.{AllByRecursion, flat_map}
-use Rattle.cf_packet.specs.Packet.{PacketValue}
-use Rattle.cf_run.specs.Isolation.{begins_theirs, goes_to_theirs, logged_over, sent_over, ticks_of}
-use Rattle.cf_run.specs.Summary.{found}
-use Rattle.cf_run.specs.Table.{Session, is_between}
-use Rattle.cf_run.specs.Trace.{Begun, Received, RunEvent, Went, behind, kept, logged, logged_at, logged_received, logged_ticks, sent, sent_received, table_after, tick_of}
-use Rattle.cf_session.specs.Event.{IsBeginning, IsPacket, IsTick}
-use Rattle.cf_session.specs.Sent.{Sent, logged_first, logged_second, sent_first, sent_second}
-use Rattle.cf_session.specs.Session.{Flow, SessionEvent}
-use Rattle.cf_view.specs.declared.Endpoint.{Endpoint}
-use Rattle.cf_view.specs.declared.Side.{Side}
-use Rattle.cf_isolation.specs.Lines.{moment_in}
+use Rattle.std.proofs.Common.{◌≡◌, ℕ, ◌+◌, Bool, List, [], ◌∷◌, ◌++◌, cond, None, Some, refl, ap, append-nil, filter, slice_get}
+use Rattle.cf_isolation.proofs.Common.{AllByRecursion, Begun, Endpoint, Flow, IsBeginning, IsPacket, IsTick, PacketValue, Received, RunEvent, Sent, Session, SessionEvent, Side, Went, begins_theirs, flat_map, found, goes_to_theirs, is_between, kept, logged_first, logged_second, moment_in, sent, sent_first, sent_received, sent_second, table_after, tick_of, ticks_of}
+use Rattle.cf_run.specs.Isolation.{logged_over, sent_over}
+use Rattle.cf_run.specs.Trace.{behind, logged, logged_at, logged_received, logged_ticks}
 use Rattle.cf_isolation.specs.Lives.{own_logged, own_sent}
 use Rattle.cf_isolation.proofs.Halves.{begins_logged, begins_sent, none_logged, none_sent, same_logged, same_sent}
 

@@ -1,34 +1,17 @@
 -- Which packets of one event go between a client and an asset: those of their session.
-use Rattle.std.proofs.Common.{◌≡◌, ℕ, Bool, true, false, List, [], ◌∷◌, ◌++◌, cond, if◌then◌else◌, Option, Some, None, Result, refl, sym, ap, ◌∙◌, subst}
-use Rattle.std.specs.Prelude.{filter, not, slice_get}
+use Rattle.std.proofs.Common.{◌≡◌, ℕ, Bool, true, false, List, [], ◌∷◌, ◌++◌, cond, if◌then◌else◌, Option, Some, None, Result, refl, sym, ap, ◌∙◌, subst, filter, not, slice_get}
+use Rattle.cf_isolation.proofs.Common.{AllByRecursion, AreRight, AreRunEvents, AreTicks, Asset, Begun, CutReason, Dropped, Endpoint, EventsAreFixed, Flow, GoesOnAt, HasEvents, IsBeginning, IsPacket, IsRightSession, LegEvent, NoRoom, NoSession, PacketRefusal, PacketValue, Received, ReceivesRecord, RunEvent, Sent, Session, SessionEvent, SessionsAreRight, Side, Went, append-nil, at, begins_theirs, client_ends, client_of, controller_ends, filter-append, flat_map, found, goes_between, goes_to_theirs, gone_after, is_between, is_first_half, is_flow_of, is_theirs, kept, moment, said_by, same_endpoint, same_is, sent_first, sent_received, sent_second, stays, table_after, tick_of, ticked, ticks_of, true≢false, with_events}
 use Rattle.std.specs.Option.{is_some}
-use Rattle.cf_audit.specs.declared.CutReason.{CutReason}
-use Rattle.std.specs.List.{AllByRecursion, flat_map}
 use Rattle.std.proofs.Math.Bool.{and_comm, or-false}
-use Rattle.std.proofs.lemmas.Bool.{false_from_ne_true, true≢false}
-use Rattle.std.proofs.lemmas.List.{append-nil}
-use Rattle.std.proofs.lemmas.List.Elements.{filter-append}
+use Rattle.std.proofs.lemmas.Bool.{false_from_ne_true}
 use Rattle.cf_policy.specs.AtEndpoint.{has_asset_at}
-use Rattle.cf_leg.specs.Event.{LegEvent, greeted_by, moment, said_by}
-use Rattle.cf_packet.specs.Packet.{PacketValue}
-use Rattle.cf_packet.specs.declared.packet.PacketRefusal.{PacketRefusal}
-use Rattle.cf_policy.specs.declared.Asset.{Asset}
+use Rattle.cf_leg.specs.Event.{greeted_by}
 use Rattle.cf_isolation.proofs.Legs.{LegsRight, legs_right}
 use Rattle.cf_isolation.proofs.Writing.{Sends}
-use Rattle.cf_session.specs.Event.{AreEvents as AreSessionEvents, AreRight, IsBeginning, IsPacket}
-use Rattle.cf_session.specs.Sent.{Sent, at, early, is_first_half, late, sent_first, sent_second}
-use Rattle.cf_session.specs.Session.{Flow, SessionEvent, client_ends, client_of, controller_ends}
-use Rattle.cf_view.specs.declared.Endpoint.{Endpoint}
-use Rattle.cf_view.specs.declared.Side.{Side}
-use Rattle.cf_run.specs.Isolation.{begins_theirs, goes_to_theirs, is_flow_of, is_theirs, ticks_of}
-use Rattle.cf_run.specs.Sessions.{AreAlike, HasEvents, HasRightEvents as IsRightSession, SessionsAreRight, gone_after}
-use Rattle.cf_run.specs.Summary.{found}
-use Rattle.cf_session.specs.Laws.{EventsAreFixed}
-use Rattle.cf_run.proofs.Matched.{same_is}
-use Rattle.cf_run.specs.Table.{Session, is_between}
-use Rattle.cf_view.specs.Endpoints.{same_endpoint}
-use Rattle.cf_run.specs.Trace.{AreRunEvents, AreTicks, Begun, Dropped, GoesOnAt, GoesOnWith, NoRoom, NoSession, Received, ReceivesRecord, RunEvent, Went, kept, sent_received, stays, table_after, tick_of, ticked, with_events}
-use Rattle.cf_isolation.specs.Records.{goes_between}
+use Rattle.cf_session.specs.Event.{AreEvents as AreSessionEvents}
+use Rattle.cf_session.specs.Sent.{early, late}
+use Rattle.cf_run.specs.Sessions.{AreAlike}
+use Rattle.cf_run.specs.Trace.{GoesOnWith}
 use Rattle.cf_isolation.proofs.Ends.{GoesFrom, leg_goes}
 use Rattle.cf_isolation.proofs.Lists.{all_back, all_both, all_filtered, all_map, filter_all}
 use Rattle.cf_isolation.proofs.Tables.{HasOwn, IsOwn, each_get, receives}

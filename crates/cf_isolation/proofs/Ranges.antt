@@ -1,13 +1,14 @@
 -- Fields that are spelled by octets are in their ranges.
 use Rattle.std.proofs.Common.{◌≡◌, ℕ, zero, suc, ◌/◌, ◌<◌, ◌≤◌, List, [], ◌∷◌, ◌++◌, length, Option, Some, None, Ok, arith}
+use Rattle.cf_isolation.proofs.Common.{IsWritable, PacketValue}
 use Rattle.std.proofs.lemmas.Option.{none-some, same_Some}
 use Rattle.cf_leg.specs.Emitted.{spelled}
-use Rattle.cf_packet.specs.Packet.{PacketValue, read_record}
-use Rattle.cf_packet.specs.Written.{HasRanges, IsWritable, option_octets, packet_octets, segment_checksum}
+use Rattle.cf_packet.specs.Packet.{read_record}
+use Rattle.cf_packet.specs.Written.{HasRanges, option_octets, packet_octets, segment_checksum}
 use Rattle.cf_view.proofs.OctetLists.{IsOctets-drop}
 use Rattle.cf_view.specs.Octets.{IsOctets}
-use Rattle.cf_view.specs.declared.LinkKind.TheVariants as link
 use Rattle.cf_packet.proofs.Written.{few_words, length_segment, written_again}
+use Rattle.cf_view.specs.declared.LinkKind.TheVariants as link
 
 pub octets_front : (xs ys : List ℕ) → IsOctets (xs ++ ys) → IsOctets xs
 octets_front [] ys o i = omega arith

@@ -1,7 +1,6 @@
 -- A capture file of sent packets is read again.
 use Rattle.std.proofs.Common.{◌≡◌, ℕ, ◌+◌, ◌-◌, ◌^◌, ◌<◌, ◌≤◌, List, [], ◌∷◌, ◌++◌, length, map, drop, slice_range, nat_lt, true, false, Some, Ok, refl, sym, ap, subst, append_assoc, arith}
-use Rattle.std.specs.List.{AllByRecursion, flat_map}
-use Rattle.std.proofs.lemmas.Bool.Decides.{nat_tests}
+use Rattle.cf_isolation.proofs.Common.{AllByRecursion, Sent, SessionsAreRight, flat_map, nat_tests, output_form, record_by, sent}
 use Rattle.std.proofs.lemmas.List.{length-append}
 use Rattle.std.proofs.Math.Seq.{take-append_seam}
 use Rattle.cf_leg.specs.Emitted.{spelled}
@@ -14,12 +13,9 @@ use Rattle.cf_records.specs.Capture.{AreRecords, FileEnd, Fits, LastPlace, class
 use Rattle.cf_records.specs.Form.{form_of}
 use Rattle.cf_run.specs.OutputFile.{record_octets}
 use Rattle.cf_run.specs.Run.{capture_of}
-use Rattle.cf_run.specs.Sessions.{SessionsAreRight}
-use Rattle.cf_run.specs.Trace.{sent}
-use Rattle.cf_session.specs.Sent.{Sent}
 use Rattle.cf_session.specs.Told.{emitted}
 use Rattle.cf_view.specs.Octets.{IsOctets}
-use Rattle.cf_isolation.specs.ReadBack.{IsReadAgain, MayBeWritten, ReadsAs, RunsAreReadBack, output_form, record_by}
+use Rattle.cf_isolation.specs.ReadBack.{IsReadAgain, MayBeWritten, ReadsAs, RunsAreReadBack}
 use Rattle.cf_isolation.proofs.Moments.{inputs_all}
 use Rattle.cf_isolation.proofs.Written.{written}
 use Rattle.cf_isolation.proofs.Ranges.{octets_back, octets_front, spelled_again, spelled_short}

@@ -1,18 +1,6 @@
 -- What a run sends between the endpoints of a session is the session's own.
 use Rattle.std.proofs.Common.{◌≡◌, ℕ, ◌+◌, Bool, List, [], ◌∷◌, Result, sym, ap, ◌∙◌, subst}
-use Rattle.std.specs.List.{AllByRecursion, flat_map}
-use Rattle.cf_leg.specs.Event.{moment}
-use Rattle.cf_packet.specs.Packet.{PacketValue}
-use Rattle.cf_packet.specs.declared.packet.PacketRefusal.{PacketRefusal}
-use Rattle.cf_policy.specs.declared.Asset.{Asset}
-use Rattle.cf_session.specs.Sent.{Sent, at, sent_first, sent_second}
-use Rattle.cf_session.specs.Session.{Flow, SessionEvent, client_of}
-use Rattle.cf_run.specs.Selected.{Rises}
-use Rattle.cf_run.specs.Sessions.{HasRightEvents as IsRightSession, SessionsAreRight}
-use Rattle.cf_run.specs.Summary.{found}
-use Rattle.cf_run.specs.Table.{Session}
-use Rattle.cf_run.specs.Trace.{AreRunEvents, AreTicks, RunEvent, Received, ReceivesRecord, kept, sent_received, table_after, tick_of}
-use Rattle.cf_isolation.specs.Records.{goes_between}
+use Rattle.cf_isolation.proofs.Common.{AllByRecursion, AreRunEvents, AreTicks, Asset, Flow, IsRightSession, PacketRefusal, PacketValue, Received, ReceivesRecord, Rises, RunEvent, Sent, Session, SessionEvent, SessionsAreRight, at, client_of, flat_map, found, goes_between, kept, moment, sent_first, sent_received, sent_second, table_after, tick_of}
 use Rattle.cf_isolation.proofs.Lists.{all_both, all_filtered}
 use Rattle.cf_isolation.proofs.Lives.{Holds, holds}
 use Rattle.cf_isolation.proofs.Output.{AreTheirs, sending}

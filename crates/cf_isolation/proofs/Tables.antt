@@ -1,26 +1,14 @@
 -- The flows of a table's sessions: each goes from no asset's endpoint to an asset's.
-use Rattle.std.proofs.Common.{◌≡◌, ℕ, zero, suc, ◌&&◌, ◌||◌, Bool, true, false, not, List, [], ◌∷◌, ◌++◌, cond, if◌then◌else◌, Option, Some, None, Result, Ok, Err, refl, sym, ap, ◌∙◌, subst, arith}
-use Rattle.std.specs.Prelude.{filter, slice_get}
-use Rattle.std.specs.List.{AllByRecursion as Each, remove}
-use Rattle.std.proofs.lemmas.Bool.{true≢false}
-use Rattle.std.proofs.lemmas.Bool.Decides.{nat_tests}
+use Rattle.std.proofs.Common.{◌≡◌, ℕ, zero, suc, ◌&&◌, ◌||◌, Bool, true, false, not, List, [], ◌∷◌, ◌++◌, cond, if◌then◌else◌, Option, Some, None, Result, Ok, Err, refl, sym, ap, ◌∙◌, subst, arith, filter, slice_get}
+use Rattle.cf_isolation.proofs.Common.{AreRunEvents, Asset, Begun, Dropped, Endpoint, Flow, GoesOnAt, HasSession, IsBeginning, NoRoom, NoSession, PacketRefusal, PacketValue, Received, ReceivesRecord, RunEvent, Session, SessionEvent, Side, Went, client_of, gone_after, is_expired, kept, leaves, left_by_packet, nat_tests, remove, same_endpoint, same_is, session_at, sessions_of, stays, table_after, tick_of, ticked, true≢false, with_event_at, with_events}
+use Rattle.std.specs.List.{AllByRecursion as Each}
 use Rattle.cf_leg.specs.Segment.{is_opening}
 use Rattle.cf_policy.specs.AtEndpoint.{asset_at, has_asset_at}
-use Rattle.cf_packet.specs.Packet.{PacketValue}
-use Rattle.cf_packet.specs.declared.packet.PacketRefusal.{PacketRefusal}
-use Rattle.cf_policy.specs.declared.Asset.{Asset}
-use Rattle.cf_session.specs.Event.{IsBeginning}
-use Rattle.cf_session.specs.Session.{Flow, SessionEvent, client_of, is_expired}
-use Rattle.cf_view.specs.declared.Endpoint.{Endpoint}
-use Rattle.cf_view.specs.declared.Side.{Side}
-use Rattle.cf_run.specs.Sessions.{gone_after, leaves, left_by_packet, left_in, session_at, sessions_of}
-use Rattle.cf_run.specs.Table.{Begins, Full, Goes, Match, Session, begins, begins_or_full, goes, goes_from_client, match_of, may_begin, place_of, without}
-use Rattle.cf_view.specs.Endpoints.{same_endpoint}
-use Rattle.cf_run.proofs.Matched.{same_is}
-use Rattle.cf_run.specs.Isolation.{HasSession}
+use Rattle.cf_run.specs.Sessions.{left_in}
+use Rattle.cf_run.specs.Table.{Begins, Full, Goes, Match, begins, begins_or_full, goes, goes_from_client, match_of, may_begin, place_of, without}
 use Rattle.cf_isolation.proofs.Lists.{all_both, all_filtered}
 use Rattle.cf_isolation.proofs.Moments.{back}
-use Rattle.cf_run.specs.Trace.{AreRunEvents, Begun, Dropped, RunEvent, GoesOnAt, NoRoom, NoSession, Received, Receives, ReceivesRecord, Went, after_received, kept, stays, table_after, tick_of, ticked, with_event_at, with_events}
+use Rattle.cf_run.specs.Trace.{Receives, after_received}
 
 pub same_self : (e : Endpoint) → same_endpoint e e ≡ true
 same_self e = grind (arith, nat_tests)

@@ -1,13 +1,8 @@
 -- The sessions of a client and an asset in a table, through the two halves of an event.
-use Rattle.std.proofs.Common.{◌≡◌, ℕ, zero, suc, Bool, true, false, List, [], ◌∷◌, ◌++◌, cond, Option, Some, None, refl, sym, ap, ◌∙◌, subst}
-use Rattle.std.specs.Prelude.{filter, position, slice_get}
-use Rattle.std.specs.List.{AllByRecursion, remove}
+use Rattle.std.proofs.Common.{◌≡◌, ℕ, zero, suc, Bool, true, false, List, [], ◌∷◌, ◌++◌, cond, Option, Some, None, refl, sym, ap, ◌∙◌, subst, filter, position, slice_get}
+use Rattle.cf_isolation.proofs.Common.{AllByRecursion, Endpoint, RunEvent, Session, SessionEvent, client_of, is_between, remove, session_at, sessions_of, with_event_at}
 use Rattle.cf_policy.proofs.FirstPlace.{first_at}
-use Rattle.cf_session.specs.Session.{SessionEvent, client_of}
-use Rattle.cf_view.specs.declared.Endpoint.{Endpoint}
-use Rattle.cf_run.specs.Sessions.{session_at, sessions_of}
-use Rattle.cf_run.specs.Table.{Session, is_between}
-use Rattle.cf_run.specs.Trace.{RunEvent, replaced, with_event_at}
+use Rattle.cf_run.specs.Trace.{replaced}
 use Rattle.cf_run.proofs.Pairs.{none_there}
 use Rattle.cf_isolation.specs.Lives.{EachHasALife, HasLife}
 use Rattle.cf_isolation.proofs.Lists.{all_back, all_filtered}

@@ -1,31 +1,14 @@
 -- What the two halves of an event do to the sessions of a client and an asset, and what these put out.
-use Rattle.std.proofs.Common.{◌≡◌, ℕ, ◌+◌, ◌<◌, ◌≤◌, ◌&&◌, Bool, true, false, not, List, [], ◌∷◌, ◌++◌, cond, Option, Some, None, Result, refl, sym, ap, ◌∙◌, subst, append_assoc, arith}
-use Rattle.std.specs.Prelude.{filter, slice_get}
-use Rattle.std.specs.List.{AllByRecursion, remove}
-use Rattle.std.proofs.lemmas.Bool.{and_parts, true≢false}
-use Rattle.std.proofs.lemmas.List.{append-nil}
-use Rattle.std.proofs.lemmas.List.Elements.{filter-append}
+use Rattle.std.proofs.Common.{◌≡◌, ℕ, ◌+◌, ◌<◌, ◌≤◌, ◌&&◌, Bool, true, false, not, List, [], ◌∷◌, ◌++◌, cond, Option, Some, None, Result, refl, sym, ap, ◌∙◌, subst, append_assoc, arith, filter, slice_get}
+use Rattle.cf_isolation.proofs.Common.{AllByRecursion, AreTicks, Asset, Begun, Dropped, Endpoint, Flow, GoesOnAt, HasEvents, IsBeginning, IsPacket, IsTick, NoRoom, NoSession, PacketRefusal, PacketValue, Received, ReceivesRecord, Session, SessionEvent, Side, Went, and_parts, append-nil, begins_theirs, born_at, client_of, filter-append, goes_to_theirs, is_between, is_expired, is_flow_of, is_theirs, kept, leaves, left_by_packet, remove, same_endpoint, same_is, session_at, stays, ticked, ticks_of, with_event_at, with_events}
 use Rattle.std.specs.Option.{is_some}
-use Rattle.cf_audit.specs.declared.CutReason.{CutReason}
-use Rattle.cf_packet.specs.Packet.{PacketValue}
-use Rattle.cf_packet.specs.declared.packet.PacketRefusal.{PacketRefusal}
-use Rattle.cf_policy.specs.declared.Asset.{Asset}
-use Rattle.cf_session.specs.Event.{IsBeginning, IsPacket, IsTick}
-use Rattle.cf_session.specs.Session.{Flow, SessionEvent, client_of, is_expired}
-use Rattle.cf_view.specs.declared.Endpoint.{Endpoint}
-use Rattle.cf_view.specs.declared.Side.{Side}
-use Rattle.cf_run.specs.Isolation.{begins_theirs, goes_to_theirs, is_flow_of, is_theirs, ticks_of}
-use Rattle.cf_run.specs.Sessions.{HasEvents, leaves, left_by_packet, session_at}
-use Rattle.cf_run.specs.Table.{Session, is_between, place_of, without}
-use Rattle.cf_view.specs.Endpoints.{same_endpoint}
-use Rattle.cf_run.specs.Trace.{AreTicks, Begun, Dropped, GoesOnAt, GoesOnWith, NoRoom, NoSession, Received, ReceivesRecord, Went, after_received, behind, kept, stays, ticked, with_event_at, with_events}
-use Rattle.cf_isolation.specs.Lives.{born_at}
+use Rattle.cf_run.specs.Table.{place_of, without}
+use Rattle.cf_run.specs.Trace.{GoesOnWith, after_received, behind}
 use Rattle.cf_isolation.proofs.Lists.{all_map}
 use Rattle.cf_isolation.proofs.Output.{Output}
 use Rattle.cf_isolation.proofs.Order.{IsWithin, Moves, born, comes, grows, stays_so}
 use Rattle.cf_isolation.proofs.Packets.{uncut}
 use Rattle.cf_isolation.proofs.Tables.{receives}
-use Rattle.cf_run.proofs.Matched.{same_is}
 use Rattle.cf_run.proofs.Pairs.{filter_swap, next_are, ticks_are}
 use Rattle.cf_isolation.proofs.Theirs.{filter_one, gives_none, gives_other, gives_theirs, none_changes, other_changes, own_changes}
 

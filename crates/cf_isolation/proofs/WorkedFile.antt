@@ -1,13 +1,12 @@
 -- The capture of two sessions that is worked by hand.
-use Rattle.std.proofs.Common.{◌≡◌, ◌∷◌, List, [], ap, arith, get_or, map, refl, Some, ℕ}
-use Rattle.std.specs.Prelude.{length}
+use Rattle.std.proofs.Common.{◌≡◌, ◌∷◌, List, [], ap, arith, get_or, map, refl, Some, ℕ, length}
+use Rattle.cf_isolation.proofs.Common.{Sent, output_form, record_by}
 use Rattle.cf_leg.specs.Emitted.{spelled}
 use Rattle.cf_packet.specs.Checksum.{ones_sum}
 use Rattle.cf_pcapng.specs.Block.{is_section}
 use Rattle.cf_records.specs.Capture.{FileEnd, LastPlace, Record}
 use Rattle.cf_records.specs.Records.{HaveOneList}
-use Rattle.cf_session.specs.Sent.{Sent}
-use Rattle.cf_isolation.specs.ReadBack.{ReadsAs, output_form, record_by}
+use Rattle.cf_isolation.specs.ReadBack.{ReadsAs}
 use Rattle.cf_isolation.specs.FileRows.{FileRowsHold, file, one, one_record, other, other_record}
 
 -- the end of the file

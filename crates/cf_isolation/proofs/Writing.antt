@@ -1,23 +1,19 @@
 -- What holds of every segment that an end sends. First, that it may be written.
-use Rattle.std.proofs.Common.{◌≡◌, ℕ, ◌+◌, ◌-◌, ◌<◌, ◌≤◌, ◌==◌, ◌&&◌, Bool, true, false, min, inl, inr, List, [], ◌∷◌, ◌++◌, length, drop, Option, Some, None, refl, sym, subst, length-take, arith}
-use Rattle.std.specs.Prelude.{⊤, MatchBool, if◌then◌else◌, nat_lt}
-use Rattle.std.specs.List.{AllByRecursion}
+use Rattle.std.proofs.Common.{◌≡◌, ℕ, ◌+◌, ◌-◌, ◌<◌, ◌≤◌, ◌==◌, ◌&&◌, Bool, true, false, min, inl, inr, List, [], ◌∷◌, length, drop, Option, Some, None, refl, sym, subst, length-take, arith, MatchBool, if◌then◌else◌, nat_lt}
+use Rattle.cf_isolation.proofs.Common.{AllByRecursion, AllRight, Ends, IsRight, IsWritable, LegEvent, PacketValue, Role, said_by}
+use Rattle.std.specs.Prelude.{⊤}
 use Rattle.std.specs.Option.{option_or}
 use Rattle.std.proofs.lemmas.Bool.{cases_Bool}
-use Rattle.cf_leg.specs.Emits.{AllRight, EndsBy, Greets, IsGreeting, IsRight, Pieces, SpeaksOpen, again, cut_packet, fired_at, peer_mss, piece, repeat_open, repeats, rst, send_mss, way_of}
-use Rattle.cf_leg.specs.Event.{Came, Cut, Ending, Greeting, LegEvent, Nothing, Packet, Spoke, Unspoken, greeted_by, said_by, stream_after}
+use Rattle.cf_leg.specs.Emits.{EndsBy, Greets, IsGreeting, Pieces, SpeaksOpen, again, cut_packet, fired_at, peer_mss, piece, repeat_open, repeats, rst, send_mss, way_of}
+use Rattle.cf_leg.specs.Event.{Came, Cut, Ending, Greeting, Nothing, Packet, Spoke, Unspoken, greeted_by, stream_after}
 use Rattle.cf_leg.specs.Heard.{acked, opened}
 use Rattle.cf_leg.specs.Segment.{segment}
 use Rattle.cf_leg.specs.Timer.{fires, tries}
 use Rattle.cf_leg.specs.Told.{greeting, greeting_in, is_greeted, letters_sent, told}
-use Rattle.cf_leg.specs.declared.ends.Ends.{Ends}
-use Rattle.cf_leg.specs.declared.ends.Role.{Role}
-use Rattle.cf_leg.specs.declared.ends.Role.TheVariants as role
 use Rattle.cf_leg.specs.declared.ends.Advertised.{Advertised}
 use Rattle.cf_leg.specs.declared.ends.Way.{Way}
-use Rattle.cf_packet.specs.Packet.{PacketValue}
-use Rattle.cf_packet.specs.Written.{IsWritable}
 use Rattle.cf_stream.specs.Stream.{Stream, letter_count, no_letters}
+use Rattle.cf_leg.specs.declared.ends.Role.TheVariants as role
 
 -- what an event sends, by its three parts
 pub record Sends (P : PacketValue → Type 0) (e : LegEvent) : Type 0 where

@@ -1,17 +1,7 @@
 -- All that a run sends may be written at its moment.
-use Rattle.std.proofs.Common.{◌≡◌, ℕ, ◌+◌, ◌<◌, List, [], ◌∷◌, sym, ap, ◌∙◌, subst, arith}
-use Rattle.std.specs.List.{AllByRecursion, flat_map}
-use Rattle.cf_leg.specs.Event.{moment}
-use Rattle.cf_packet.specs.Written.{IsWritable}
-use Rattle.cf_policy.specs.declared.Asset.{Asset}
+use Rattle.std.proofs.Common.{ℕ, ◌+◌, ◌<◌, List, [], ◌∷◌, sym, ap, ◌∙◌, subst, arith}
+use Rattle.cf_isolation.proofs.Common.{AllByRecursion, AreRight, AreRunEvents, AreTicks, Asset, Flow, IsRightSession, IsWritable, RunEvent, Sent, Session, SessionEvent, SessionsAreRight, flat_map, found, kept, moment, sent, sent_first, sent_received, sent_second, table_after, tick_of}
 use Rattle.cf_view.specs.Moment.{moment_limit}
-use Rattle.cf_session.specs.Event.{AreRight}
-use Rattle.cf_session.specs.Sent.{Sent, sent_first, sent_second}
-use Rattle.cf_session.specs.Session.{Flow, SessionEvent}
-use Rattle.cf_run.specs.Sessions.{HasRightEvents as IsRightSession, SessionsAreRight}
-use Rattle.cf_run.specs.Summary.{found}
-use Rattle.cf_run.specs.Table.{Session}
-use Rattle.cf_run.specs.Trace.{AreRunEvents, AreTicks, RunEvent, kept, sent, sent_received, table_after, tick_of}
 use Rattle.cf_isolation.specs.ReadBack.{MayBeWritten}
 use Rattle.cf_isolation.proofs.Legs.{LegsRight, legs_right}
 use Rattle.cf_isolation.proofs.Lists.{all_both, all_filtered}

@@ -1,24 +1,12 @@
 -- The packets that were heard from a client to an asset, session by session.
 use Rattle.std.proofs.Common.{◌≡◌, ℕ, Bool, true, false, List, [], ◌∷◌, ◌++◌, cond, map, slice_get, Option, Some, None, refl, sym, ap, ◌∙◌, subst}
-use Rattle.std.specs.List.{AllByRecursion}
-use Rattle.std.proofs.lemmas.Bool.{and_parts, false≢true}
-use Rattle.cf_run.proofs.Matched.{same_is}
+use Rattle.cf_unobjected.proofs.Common.{AllByRecursion, AreRunEvents, Asset, Endpoint, Flow, IsRightSession, IsSpoken, Numbered, PacketValue, RunEvent, Session, SessionEvent, Watched, and_parts, asset_place, client_of, controllers, false≢true, is_to_place, packets_of, pairs_on, same_endpoint, same_is, sessions_of, sessions_on}
 use Rattle.cf_isolation.proofs.Tables.{BegunHave, Has, begun_in, sessions_have}
-use Rattle.cf_packet.specs.Packet.{PacketValue}
-use Rattle.cf_policy.specs.declared.Asset.{Asset}
-use Rattle.cf_policy.specs.AtEndpoint.{asset_at, asset_place}
-use Rattle.cf_run.specs.Sessions.{HasEvents, HasRightEvents as IsRightSession, sessions_of}
-use Rattle.cf_run.specs.Table.{Session}
-use Rattle.cf_view.specs.Endpoints.{same_endpoint}
-use Rattle.cf_run.specs.Trace.{AreRunEvents, RunEvent}
+use Rattle.cf_policy.specs.AtEndpoint.{asset_at}
+use Rattle.cf_run.specs.Sessions.{HasEvents}
 use Rattle.cf_session.specs.Event.{AreEvents as AreSessionEvents}
 use Rattle.cf_session.specs.Laws.{AreUncutBefore}
-use Rattle.cf_session.specs.Session.{Flow, SessionEvent, client_of, controllers}
-use Rattle.cf_view.specs.declared.Endpoint.{Endpoint}
-use Rattle.cf_watch.specs.Watched.{Watched}
-use Rattle.cf_unobjected.specs.OneFlow.{Numbered, packets_of}
-use Rattle.cf_unobjected.specs.PairFlows.{IsSpoken, SpeaksAs, Spoken, pairs_on, sessions_on}
-use Rattle.cf_unobjected.specs.Separate.{is_to_place}
+use Rattle.cf_unobjected.specs.PairFlows.{SpeaksAs, Spoken}
 use Rattle.cf_unobjected.proofs.Halves.{is_theirs}
 use Rattle.cf_unobjected.proofs.Others.{number_is}
 use Rattle.cf_unobjected.proofs.Places.{place_has}

@@ -1,22 +1,16 @@
 -- What a watched flow carried is what the segments of a session carry.
-use Rattle.std.proofs.Common.{◌≡◌, ◌⊎◌, ◌+ℤ◌, ℕ, ℤ, pos, negsuc, ◌-◌, ◌==◌, max, Bool, true, false, inl, inr, List, [], ◌∷◌, ◌++◌, map, None, refl, sym, ap, ◌∙◌, subst, arith}
-use Rattle.std.specs.Prelude.{if◌then◌else◌}
-use Rattle.std.specs.List.{AllByRecursion}
-use Rattle.std.proofs.lemmas.Bool.{cases_Bool, true≢false}
-use Rattle.std.proofs.lemmas.Bool.Decides.{nat_tests}
+use Rattle.std.proofs.Common.{◌≡◌, ◌⊎◌, ◌+ℤ◌, ℕ, ℤ, pos, negsuc, ◌-◌, ◌==◌, max, Bool, true, false, inl, inr, List, [], ◌∷◌, ◌++◌, map, None, refl, sym, ap, ◌∙◌, subst, arith, if◌then◌else◌}
+use Rattle.cf_unobjected.proofs.Common.{AllByRecursion, Carried, LegEvent, Numbered, PacketValue, Stream, carried_by, cases_Bool, has_syn, letter_at, letter_count, nat_tests, none-some, packets_of, sent_in, top_of, true≢false}
 use Rattle.std.proofs.lemmas.Int.{ints}
-use Rattle.std.proofs.lemmas.Option.{none-some}
-use Rattle.cf_leg.specs.Event.{LegEvent, sent_in}
 use Rattle.cf_leg.specs.OneStream.{CarryAll, IsOneStream}
-use Rattle.cf_leg.specs.Segment.{has_syn, letters_in, letters_of}
+use Rattle.cf_leg.specs.Segment.{letters_in, letters_of}
 use Rattle.cf_leg.specs.Told.{letters_sent, letters_sent_by, letters_sent_by_all}
-use Rattle.cf_leg.specs.declared.ends.Role.TheVariants as role
-use Rattle.cf_packet.specs.Packet.{PacketValue}
 use Rattle.cf_stream.specs.Position.{place_or_zero, position}
-use Rattle.cf_stream.specs.Stream.{Carries, Stream, letter_at, letter_count, letter_from}
-use Rattle.cf_watch.specs.Carried.{Carried, end_of, top_of}
-use Rattle.cf_watch.specs.Watched.{carried_by, text_place}
-use Rattle.cf_unobjected.specs.OneFlow.{Numbered, carried_on, packets_of}
+use Rattle.cf_stream.specs.Stream.{Carries, letter_from}
+use Rattle.cf_watch.specs.Carried.{end_of}
+use Rattle.cf_watch.specs.Watched.{text_place}
+use Rattle.cf_unobjected.specs.OneFlow.{carried_on}
+use Rattle.cf_leg.specs.declared.ends.Role.TheVariants as role
 
 -- a packet with SYN has no letters
 abbrev pub IsPlain : PacketValue → Type 0

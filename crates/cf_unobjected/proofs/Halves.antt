@@ -1,22 +1,15 @@
 -- What one half of a session's event sends towards an asset: its own early or late segments.
-use Rattle.std.proofs.Common.{◌≡◌, ℕ, Bool, false, List, [], ◌∷◌, ◌++◌, cond, map, refl, ap, ◌∙◌}
-use Rattle.std.specs.Prelude.{filter}
-use Rattle.std.specs.List.{AllByRecursion}
-use Rattle.std.proofs.lemmas.List.{append-nil, map-append}
+use Rattle.std.proofs.Common.{◌≡◌, ℕ, Bool, false, List, [], ◌∷◌, ◌++◌, cond, map, refl, ap, ◌∙◌, filter}
+use Rattle.cf_unobjected.proofs.Common.{AllByRecursion, Asset, Endpoint, Flow, IsOwn, PacketValue, Sent, SessionEvent, append-nil, asset_place, client_of, controller_ends, is_first_half, is_to_place, late, map-append, sent_first, sent_second}
 use Rattle.std.proofs.lemmas.List.Elements.{filter-append}
 use Rattle.cf_isolation.proofs.Ends.{GoesFrom, leg_goes}
 use Rattle.cf_isolation.proofs.Legs.{LegsRight}
 use Rattle.cf_isolation.proofs.Lists.{all_map, filter_all}
 use Rattle.cf_isolation.proofs.Packets.{early_all, late_all}
-use Rattle.cf_isolation.proofs.Tables.{IsOwn}
-use Rattle.cf_packet.specs.Packet.{PacketValue}
-use Rattle.cf_policy.specs.declared.Asset.{Asset}
-use Rattle.cf_policy.specs.AtEndpoint.{asset_place}
 use Rattle.cf_session.specs.Event.{AreRight}
-use Rattle.cf_session.specs.Sent.{Sent, at, early, is_first_half, late, sent_first, sent_second}
-use Rattle.cf_session.specs.Session.{Flow, SessionEvent, client_ends, client_of, controller_ends}
-use Rattle.cf_view.specs.declared.Endpoint.{Endpoint}
-use Rattle.cf_unobjected.specs.Separate.{goes_to_place, is_to_place}
+use Rattle.cf_session.specs.Sent.{at, early}
+use Rattle.cf_session.specs.Session.{client_ends}
+use Rattle.cf_unobjected.specs.Separate.{goes_to_place}
 use Rattle.cf_unobjected.proofs.Places.{no_place}
 
 -- the packets that were sent

@@ -1,15 +1,9 @@
 -- The watched flows of a capture of sent packets are those of these packets.
-use Rattle.std.proofs.Common.{◌≡◌, ◌+◌, ℕ, suc, List, [], ◌∷◌, ◌++◌, length, map, refl, sym, ap, ◌∙◌, append_assoc, arith}
-use Rattle.std.specs.Prelude.{reverse}
-use Rattle.std.specs.List.{AllByRecursion}
-use Rattle.std.proofs.lemmas.List.{append-nil, reverse-append, reverse-reverse}
-use Rattle.cf_records.specs.Capture.{Record}
-use Rattle.cf_policy.specs.declared.Asset.{Asset}
-use Rattle.cf_session.specs.Sent.{Sent}
-use Rattle.cf_watch.specs.Watched.{watched, with_record}
+use Rattle.std.proofs.Common.{◌≡◌, ◌+◌, ℕ, suc, List, [], ◌∷◌, ◌++◌, length, map, refl, sym, ap, ◌∙◌, append_assoc, arith, reverse}
+use Rattle.cf_unobjected.proofs.Common.{AllByRecursion, Asset, Record, Sent, append-nil, heard_on, watched, with_record}
+use Rattle.std.proofs.lemmas.List.{reverse-append, reverse-reverse}
 use Rattle.cf_unobjected.specs.OneFlow.{numbered_from}
 use Rattle.cf_isolation.specs.ReadBack.{IsReadAgain, record_by}
-use Rattle.cf_unobjected.specs.Separate.{heard_on}
 
 abbrev onto : List Record → List Record → List Record
 onto [] earlier = earlier

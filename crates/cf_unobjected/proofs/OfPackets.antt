@@ -1,16 +1,7 @@
 -- The flows of a client and an asset are those of the packets from the one to the other.
-use Rattle.std.proofs.Common.{◌≡◌, ◌&&◌, ◌==◌, ℕ, Bool, true, false, List, [], ◌∷◌, cond, Option, Some, None, Ok, refl, ap, ◌∙◌, subst}
-use Rattle.std.specs.Prelude.{filter}
-use Rattle.std.proofs.lemmas.Bool.{and_parts}
-use Rattle.cf_packet.specs.Packet.{PacketValue}
-use Rattle.cf_policy.specs.declared.Asset.{Asset}
-use Rattle.cf_view.specs.declared.Endpoint.{Endpoint}
-use Rattle.cf_policy.specs.AtEndpoint.{asset_place}
-use Rattle.cf_view.specs.Endpoints.{same_endpoint}
-use Rattle.cf_watch.specs.Watched.{Watched, goes, with_record}
-use Rattle.cf_unobjected.specs.OneFlow.{Numbered}
-use Rattle.cf_unobjected.specs.PairFlows.{pair_on, pairs_on}
-use Rattle.cf_unobjected.specs.Separate.{heard_on, is_to, is_to_place, pair_of}
+use Rattle.std.proofs.Common.{◌≡◌, ◌&&◌, ◌==◌, ℕ, Bool, true, false, List, [], ◌∷◌, cond, Option, Some, None, Ok, refl, ap, ◌∙◌, subst, filter}
+use Rattle.cf_unobjected.proofs.Common.{Asset, Endpoint, Numbered, PacketValue, Watched, and_parts, asset_place, goes, heard_on, is_to_place, pair_of, pair_on, pairs_on, same_endpoint, with_record}
+use Rattle.cf_unobjected.specs.Separate.{is_to}
 use Rattle.cf_unobjected.proofs.Others.{number_is, stays}
 use Rattle.cf_unobjected.proofs.Separate.{keeps}
 

@@ -1,25 +1,19 @@
 -- What a watcher sees of one session has no objection.
-use Rattle.cf_isolation.proofs.Legs.{legs_right}
-use Rattle.cf_lane.specs.Caller.{newcomer}
 use Rattle.std.proofs.Common.{◌≡◌, ◌≤◌, ◌^◌, ◌++◌, ℕ, List, [], ◌∷◌, Option, Some, None, refl, sym, ap, ◌∙◌, subst, append_assoc}
-use Rattle.std.specs.List.{AllByRecursion}
-use Rattle.std.proofs.lemmas.Option.{none-some}
+use Rattle.cf_unobjected.proofs.Common.{AllByRecursion, AreEvents, Carried, Flow, GoesTo, HasConflict, IsConflictAfter, PacketValue, SessionEvent, client_of, controller_ends, controllers, copy_of, legs_right, none-some, packets_of, top_of}
+use Rattle.cf_lane.specs.Caller.{newcomer}
 use Rattle.cf_lane.specs.Output.{outputs}
-use Rattle.cf_packet.specs.Packet.{PacketValue}
-use Rattle.cf_session.specs.Event.{AreEvents}
 use Rattle.cf_session.specs.Laws.{AreUncutBefore, CarriesOneStream, SegmentsCarryOneStream, WorkIsOfTheTaken}
-use Rattle.cf_session.specs.Session.{Flow, SessionEvent, client_of, controller_ends, controllers, history, work_of}
+use Rattle.cf_session.specs.Session.{history, work_of}
 use Rattle.cf_session.specs.Work.{Work, Works}
 use Rattle.cf_leg.specs.OneStream.{CarryAll}
-use Rattle.cf_view.specs.declared.Side.TheVariants as side
 use Rattle.cf_watch.specs.declared.flow.Conflict.{Conflict}
 use Rattle.cf_unobjected.specs.Unobjected.{BeginningsAreUnobjected}
-use Rattle.cf_watch.specs.Carried.{Carried, HasConflict, IsConflictAfter, copy_of, top_of}
 use Rattle.cf_watch.specs.OneStream.{CarryOneStream, SeesOneStream}
-use Rattle.cf_unobjected.specs.OneFlow.{CarriedSession, HasNoObjection, OneFlowIsUnobjected, packets_of}
-use Rattle.cf_unobjected.specs.PairFlows.{GoesTo}
+use Rattle.cf_unobjected.specs.OneFlow.{CarriedSession, HasNoObjection, OneFlowIsUnobjected}
 use Rattle.cf_unobjected.proofs.Carrying.{CarryOne, IsPlain, carry_all, events_carry, silent_carry, silent_top}
 use Rattle.cf_unobjected.proofs.Towards.{all_to}
+use Rattle.cf_view.specs.declared.Side.TheVariants as side
 
 -- ---- where there is no conflict, there is no other answer
 

@@ -1,30 +1,20 @@
 -- What a run sends from a client to an asset is what its sessions of theirs sent, one after the other, and they are never two at a time.
-use Rattle.std.proofs.Common.{◌≡◌, ℕ, suc, ◌+◌, ◌≤◌, ◌&&◌, ◌==◌, Bool, true, false, not, List, [], ◌∷◌, ◌++◌, cond, Option, Some, None, option_map, Result, refl, sym, ap, ◌∙◌, subst, append_assoc, arith}
-use Rattle.std.specs.Prelude.{filter, position, slice_get}
-use Rattle.std.specs.List.{AllByRecursion as Each, flat_map, remove}
-use Rattle.std.proofs.lemmas.Bool.{and_parts, and_right, false_from_ne_true, false≢true, true≢false}
-use Rattle.std.proofs.lemmas.List.{append-nil}
+use Rattle.std.proofs.Common.{◌≡◌, ℕ, suc, ◌+◌, ◌≤◌, ◌&&◌, ◌==◌, Bool, true, false, not, List, [], ◌∷◌, ◌++◌, cond, Option, Some, None, option_map, Result, refl, sym, ap, ◌∙◌, subst, append_assoc, arith, filter, position, slice_get}
+use Rattle.cf_unobjected.proofs.Common.{AreRunEvents, Asset, Endpoint, Flow, IsOwn, IsRightSession, LegEvent, PacketValue, RunEvent, Sent, Session, SessionEvent, Side, and_parts, append-nil, asset_place, client_of, controllers, false≢true, flat_map, is_first_half, is_to_place, late, packets_of, same_endpoint, same_is, sent_first, sent_in, sent_second, sessions_of, true≢false, with_event_at, with_events}
+use Rattle.std.specs.List.{AllByRecursion as Each, remove}
+use Rattle.std.proofs.lemmas.Bool.{and_right, false_from_ne_true}
 use Rattle.cf_isolation.proofs.Lists.{all_back, all_filtered}
-use Rattle.cf_isolation.proofs.Tables.{HasOwn, IsOwn, all_own, begun_in, found_has_all, kept_has, receives, same_self, table_has}
-use Rattle.cf_leg.specs.Event.{LegEvent, is_idle, sent_in}
-use Rattle.cf_packet.specs.Packet.{PacketValue}
+use Rattle.cf_isolation.proofs.Tables.{HasOwn, all_own, begun_in, found_has_all, kept_has, receives, same_self, table_has}
+use Rattle.cf_leg.specs.Event.{is_idle}
 use Rattle.cf_packet.specs.declared.packet.PacketRefusal.{PacketRefusal}
-use Rattle.cf_policy.specs.declared.Asset.{Asset}
-use Rattle.cf_policy.specs.AtEndpoint.{asset_place}
-use Rattle.cf_run.specs.Sessions.{HasRightEvents as IsRightSession, SessionsAreRight, gone_after, leaves, left_by_packet, session_at, sessions_of}
-use Rattle.cf_run.specs.Table.{Session, is_between, place_of, without}
-use Rattle.cf_view.specs.Endpoints.{same_endpoint}
-use Rattle.cf_run.specs.Trace.{AreRunEvents, Begun, RunEvent, GoesOnAt, Received, ReceivesRecord, Went, after_received, kept, sent, sent_received, stays, table_after, tick_of, ticked, with_event_at, with_events}
+use Rattle.cf_run.specs.Sessions.{SessionsAreRight, gone_after, leaves, left_by_packet, session_at}
+use Rattle.cf_run.specs.Table.{is_between, place_of, without}
+use Rattle.cf_run.specs.Trace.{Begun, GoesOnAt, Received, ReceivesRecord, Went, after_received, kept, sent, sent_received, stays, table_after, tick_of, ticked}
 use Rattle.cf_session.specs.Event.{IsBeginning}
-use Rattle.cf_session.specs.Sent.{Sent, is_first_half, late, sent_first, sent_second}
-use Rattle.cf_session.specs.Session.{Flow, SessionEvent, client_of, controllers, is_expired}
-use Rattle.cf_view.specs.declared.Endpoint.{Endpoint}
-use Rattle.cf_view.specs.declared.Side.{Side}
-use Rattle.cf_unobjected.specs.OneFlow.{packets_of}
-use Rattle.cf_unobjected.specs.Separate.{is_to_place}
+use Rattle.cf_session.specs.Session.{is_expired}
 use Rattle.cf_unobjected.proofs.Halves.{is_theirs, picked, picked_append, second_picked}
 use Rattle.cf_unobjected.proofs.Others.{number_is}
-use Rattle.cf_run.proofs.Matched.{place_by, same_is}
+use Rattle.cf_run.proofs.Matched.{place_by}
 use Rattle.cf_unobjected.proofs.Places.{one_place}
 use Rattle.cf_unobjected.proofs.Stepping.{IsReady, all_ready, ticks_told, went_told}
 use Rattle.cf_unobjected.proofs.Theirs.{count, count_append, fewer, fewer_out, one_of, parts, same_count, same_count_at, taken_out, told, told_append}

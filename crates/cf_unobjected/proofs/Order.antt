@@ -1,25 +1,17 @@
 -- A SYN comes before every packet with ACK.
-use Rattle.std.proofs.Common.{◌≡◌, ◌||◌, ◌&&◌, ◌==◌, ℕ, Bool, true, false, inl, inr, List, [], ◌∷◌, ◌++◌, length, refl, sym, ap, ◌∙◌, subst}
-use Rattle.std.specs.Prelude.{MatchBool, nat_lt}
-use Rattle.std.specs.List.{AllByRecursion}
-use Rattle.std.proofs.lemmas.Bool.{cases_Bool, false≢true, or_parts, true≢false}
-use Rattle.cf_isolation.proofs.Legs.{legs_right}
-use Rattle.cf_isolation.proofs.Lists.{all_both}
+use Rattle.std.proofs.Common.{◌≡◌, ◌||◌, ◌&&◌, ◌==◌, ℕ, Bool, true, false, inl, inr, List, [], ◌∷◌, ◌++◌, length, refl, sym, ap, ◌∙◌, subst, MatchBool, nat_lt}
+use Rattle.cf_unobjected.proofs.Common.{AllByRecursion, AreEvents, Flow, LegEvent, PacketValue, SessionEvent, Side, SynsFirst, all_both, cases_Bool, controller_ends, controllers, false≢true, greeted_by, has_syn, legs_right, packets_of, said_by, sent_in, true≢false}
+use Rattle.std.proofs.lemmas.Bool.{or_parts}
 use Rattle.cf_isolation.proofs.Writing.{again_are, came_are, ending_are, greeted, repeat_is}
 use Rattle.cf_leg.specs.Emits.{AllRight, EndsBy, IsGreeting, IsRight, SpeaksOpen, cut_packet, fired_at}
-use Rattle.cf_leg.specs.Event.{Cut, Ending, LegEvent, Spoke, Unspoken, greeted_by, said_by, sent_in}
+use Rattle.cf_leg.specs.Event.{Cut, Ending, Spoke, Unspoken}
 use Rattle.cf_leg.specs.Heard.{opened}
-use Rattle.cf_leg.specs.Segment.{has_ack, has_syn}
+use Rattle.cf_leg.specs.Segment.{has_ack}
 use Rattle.cf_leg.specs.Told.{greeting}
 use Rattle.cf_leg.specs.Timer.{fires, tries}
-use Rattle.cf_packet.specs.Packet.{PacketValue}
-use Rattle.cf_view.specs.declared.Side.{Side}
-use Rattle.cf_view.specs.declared.Side.TheVariants as side
-use Rattle.cf_session.specs.Event.{AreEvents, IsEvent, came_controller}
-use Rattle.cf_session.specs.Session.{Flow, SessionEvent, controller_ends, controllers}
-use Rattle.cf_unobjected.specs.OneFlow.{packets_of}
-use Rattle.cf_unobjected.specs.PairFlows.{SynsFirst}
+use Rattle.cf_session.specs.Event.{IsEvent, came_controller}
 use Rattle.cf_unobjected.proofs.Towards.{no_syn}
+use Rattle.cf_view.specs.declared.Side.TheVariants as side
 
 abbrev NoSyn : PacketValue → Type 0
 NoSyn p = has_syn p ≡ false

@@ -1,16 +1,7 @@
 -- A packet leaves the flows of another client or asset as they are.
-use Rattle.std.proofs.Common.{◌≡◌, ◌&&◌, ◌==◌, ℕ, zero, suc, Bool, true, false, List, [], ◌∷◌, ◌++◌, set, slice_get, Option, Some, None, refl, sym, ap, ◌∙◌, subst, arith}
-use Rattle.std.specs.Prelude.{if◌then◌else◌}
-use Rattle.std.proofs.lemmas.Bool.{and_parts, false≢true}
-use Rattle.std.proofs.lemmas.Bool.Decides.{nat_tests}
-use Rattle.std.proofs.lemmas.Option.{none-some, same_Some}
-use Rattle.std.proofs.lemmas.List.{append-nil}
-use Rattle.cf_packet.specs.Packet.{PacketValue}
-use Rattle.cf_view.specs.declared.Endpoint.{Endpoint}
-use Rattle.cf_leg.specs.Segment.{is_opening}
-use Rattle.cf_view.specs.Endpoints.{same_endpoint}
-use Rattle.cf_watch.specs.Watched.{Watched, begins_anew, begun_by, goes_at, goes_to, is_between, last_place, later_place, with_packet}
-use Rattle.cf_unobjected.specs.Separate.{pair_of}
+use Rattle.std.proofs.Common.{◌≡◌, ◌&&◌, ◌==◌, ℕ, zero, suc, Bool, true, false, List, [], ◌∷◌, ◌++◌, set, slice_get, Option, Some, None, refl, sym, ap, ◌∙◌, subst, arith, if◌then◌else◌}
+use Rattle.cf_unobjected.proofs.Common.{Endpoint, PacketValue, Watched, and_parts, append-nil, begins_anew, begun_by, false≢true, goes_at, goes_to, is_between, is_opening, last_place, nat_tests, none-some, pair_of, same_Some, same_endpoint, with_packet}
+use Rattle.cf_watch.specs.Watched.{later_place}
 use Rattle.cf_unobjected.proofs.Separate.{new_mine}
 
 pub number_is : (a b : ℕ) → (a == b) ≡ true → a ≡ b

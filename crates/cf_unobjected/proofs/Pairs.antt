@@ -1,17 +1,10 @@
 -- The flows of a client and an asset, session by session.
 use Rattle.std.proofs.Common.{None, ◌≡◌, ◌&&◌, ◌||◌, ◌==◌, ℕ, Bool, true, false, not, inl, inr, List, [], ◌∷◌, map, refl, sym, ap, ◌∙◌, subst, arith}
-use Rattle.std.specs.List.{AllByRecursion}
-use Rattle.std.proofs.lemmas.Bool.{and_parts, cases_Bool, not-false, not-true, or_parts}
-use Rattle.std.proofs.lemmas.Bool.Decides.{nat_tests}
-use Rattle.cf_leg.specs.Emits.{syn}
-use Rattle.cf_leg.specs.Segment.{has_ack, has_syn, is_opening}
-use Rattle.cf_packet.specs.Packet.{PacketValue}
-use Rattle.cf_session.specs.Session.{Flow, controller_ends}
-use Rattle.cf_stream.specs.Stream.{letter_count}
-use Rattle.cf_watch.specs.Carried.{Carried, top_of}
-use Rattle.cf_watch.specs.Watched.{Watched, begins_anew, carried_by, with_packet}
-use Rattle.cf_unobjected.specs.OneFlow.{Numbered, carried_on}
-use Rattle.cf_unobjected.specs.PairFlows.{GoesTo, IsOfSession, IsSpoken, Spoken, SynsFirst, pair_on, pairs_on, sessions_on}
+use Rattle.cf_unobjected.proofs.Common.{AllByRecursion, Carried, Flow, GoesTo, IsSpoken, Numbered, PacketValue, SynsFirst, Watched, and_parts, begins_anew, carried_by, cases_Bool, controller_ends, has_syn, is_opening, letter_count, nat_tests, pair_on, pairs_on, sessions_on, syn, top_of, with_packet}
+use Rattle.std.proofs.lemmas.Bool.{not-false, not-true, or_parts}
+use Rattle.cf_leg.specs.Segment.{has_ack}
+use Rattle.cf_unobjected.specs.OneFlow.{carried_on}
+use Rattle.cf_unobjected.specs.PairFlows.{IsOfSession, Spoken}
 use Rattle.cf_unobjected.proofs.Others.{number_is}
 
 abbrev AreSilent : List Carried → Type 0

@@ -1,14 +1,9 @@
 -- The place of an asset among the assets of a policy, and the asset that is found at an endpoint.
-use Rattle.std.proofs.Common.{◌≡◌, ℕ, suc, Bool, true, false, List, [], ◌∷◌, cond, Option, Some, None, option_map, refl, sym, ap, ◌∙◌, subst}
-use Rattle.std.specs.Prelude.{slice_get}
-use Rattle.std.proofs.lemmas.Bool.{true≢false}
-use Rattle.std.proofs.lemmas.Option.{none-some, same_Some}
+use Rattle.std.proofs.Common.{◌≡◌, ℕ, suc, Bool, true, false, List, [], ◌∷◌, cond, Option, Some, None, option_map, refl, sym, ap, ◌∙◌, subst, slice_get}
+use Rattle.cf_unobjected.proofs.Common.{Asset, Endpoint, asset_place, none-some, same_Some, same_endpoint, same_is, true≢false}
 use Rattle.cf_policy.proofs.FirstPlace.{first_at}
-use Rattle.cf_run.proofs.Matched.{place_by, same_is}
-use Rattle.cf_policy.specs.declared.Asset.{Asset}
-use Rattle.cf_policy.specs.AtEndpoint.{asset_at, asset_place, has_asset_at}
-use Rattle.cf_view.specs.Endpoints.{same_endpoint}
-use Rattle.cf_view.specs.declared.Endpoint.{Endpoint}
+use Rattle.cf_run.proofs.Matched.{place_by}
+use Rattle.cf_policy.specs.AtEndpoint.{asset_at, has_asset_at}
 
 has_by : (assets : List Asset) (a : Asset) (e : Endpoint) (k : ℕ) (b : Bool) (o : Option ℕ) → ((i : ℕ) → o ≡ Some i → slice_get assets i ≡ asset_at assets e) → same_endpoint a.endpoint e ≡ b →
     cond b (Some 0) (option_map suc o) ≡ Some k → slice_get (a ∷ assets) k ≡ asset_at (a ∷ assets) e

@@ -1,28 +1,18 @@
 -- The flows of a run's output capture have no objection.
-use Rattle.std.proofs.Common.{◌≡◌, ℕ, ◌+◌, ◌≤◌, ◌^◌, Bool, true, false, List, [], ◌∷◌, ◌++◌, cond, if◌then◌else◌, map, slice_get, Some, None, option_map, refl, sym, ap, ◌∙◌, subst, arith}
-use Rattle.std.specs.Prelude.{drop, filter, length, reverse}
-use Rattle.std.specs.List.{AllByRecursion}
-use Rattle.cf_isolation.proofs.Lists.{all_front, all_map}
-use Rattle.cf_judge.specs.Objections.{AreReadBy, IsReadBy, Reading, first_wrong, objected, objection_of, objection_to, sooner, wrong_by}
-use Rattle.cf_judge.specs.Plain.{AreRead, Whole}
-use Rattle.cf_packet.specs.Packet.{PacketValue}
-use Rattle.cf_policy.specs.declared.Asset.{Asset}
+use Rattle.std.proofs.Common.{◌≡◌, ℕ, ◌+◌, ◌≤◌, ◌^◌, Bool, true, false, List, [], ◌∷◌, ◌++◌, cond, if◌then◌else◌, map, slice_get, Some, None, option_map, refl, sym, ap, ◌∙◌, subst, arith, drop, filter, length, reverse}
+use Rattle.cf_unobjected.proofs.Common.{AllByRecursion, AreFlowsOf, AreRead, AreReadBy, AreRunEvents, Asset, Endpoint, Flow, IsFlowOf, IsReadBy, Numbered, PacketValue, Reading, RunEvent, Sent, Watched, Whole, all_front, client_of, first_wrong, heard_on, is_between, objected, objection_of, objection_to, pair_of, sessions_of, sessions_on, sooner, wrong_by}
+use Rattle.cf_isolation.proofs.Lists.{all_map}
 use Rattle.cf_isolation.specs.ReadBack.{ReadsAs, RunsAreReadBack, output_form, record_by}
 use Rattle.cf_records.specs.Capture.{AreRecords, FileEnd, LastPlace}
 use Rattle.cf_records.specs.Form.{first_place}
 use Rattle.cf_records.specs.Records.{HaveOneList}
-use Rattle.cf_run.specs.Sessions.{SessionsAreRight, sessions_of}
-use Rattle.cf_run.specs.Trace.{AreRunEvents, RunEvent, sent}
-use Rattle.cf_session.specs.Sent.{Sent}
-use Rattle.cf_session.specs.Session.{Flow, client_of}
+use Rattle.cf_run.specs.Sessions.{SessionsAreRight}
+use Rattle.cf_run.specs.Trace.{sent}
 use Rattle.cf_unobjected.specs.Unobjected.{IsUnobjected}
-use Rattle.cf_view.specs.declared.Endpoint.{Endpoint}
-use Rattle.cf_watch.specs.Flow.{AreFlowsOf, IsFlowOf}
-use Rattle.cf_watch.specs.Watched.{Watched, is_between}
-use Rattle.cf_unobjected.specs.OneFlow.{HasNoObjection, Numbered, OneFlowIsUnobjected, numbered_from}
-use Rattle.cf_unobjected.specs.PairFlows.{IsOfSession, sessions_on}
+use Rattle.cf_unobjected.specs.OneFlow.{HasNoObjection, OneFlowIsUnobjected, numbered_from}
+use Rattle.cf_unobjected.specs.PairFlows.{IsOfSession}
 use Rattle.cf_unobjected.specs.SelfJudged.{RunsAreUnobjected, WatchedRunsAreUnobjected}
-use Rattle.cf_unobjected.specs.Separate.{goes_to_place, heard_on, is_to, pair_of}
+use Rattle.cf_unobjected.specs.Separate.{goes_to_place, is_to}
 use Rattle.cf_unobjected.proofs.Built.{IsTheirs, build, sessions_found}
 use Rattle.cf_unobjected.proofs.Halves.{packets}
 use Rattle.cf_unobjected.proofs.Heard.{watched_heard}

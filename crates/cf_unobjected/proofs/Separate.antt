@@ -1,14 +1,7 @@
 -- A packet changes the flows of its own client and asset as if there were no others.
-use Rattle.std.proofs.Common.{◌≡◌, ◌==◌, ℕ, suc, Bool, true, false, inl, inr, List, [], ◌∷◌, ◌++◌, slice_get, Option, Some, None, refl, sym, ap, ◌∙◌, arith}
-use Rattle.std.specs.Prelude.{if◌then◌else◌}
-use Rattle.std.proofs.lemmas.Bool.{cases_Bool}
-use Rattle.std.proofs.lemmas.Bool.Decides.{nat_tests}
-use Rattle.std.proofs.lemmas.Option.{none-some}
-use Rattle.cf_packet.specs.Packet.{PacketValue}
-use Rattle.cf_leg.specs.Segment.{is_opening}
-use Rattle.cf_watch.specs.Watched.{Watched, begins_anew, begun_by, goes_at, goes_to, is_between, last_place, later_place}
-use Rattle.cf_unobjected.specs.PairFlows.{pair_on}
-use Rattle.cf_unobjected.specs.Separate.{pair_of}
+use Rattle.std.proofs.Common.{◌≡◌, ◌==◌, ℕ, suc, Bool, true, false, inl, inr, List, [], ◌∷◌, ◌++◌, slice_get, Option, Some, None, refl, sym, ap, ◌∙◌, arith, if◌then◌else◌}
+use Rattle.cf_unobjected.proofs.Common.{PacketValue, Watched, begins_anew, begun_by, cases_Bool, goes_at, goes_to, is_between, is_opening, last_place, nat_tests, none-some, pair_of, pair_on}
+use Rattle.cf_watch.specs.Watched.{later_place}
 
 pub self_number : (n : ℕ) → (n == n) ≡ true
 self_number n = grind (arith, nat_tests)

@@ -1,14 +1,7 @@
 -- A session sends its SYN first.
 use Rattle.std.proofs.Common.{◌≡◌, ℕ, false, List, [], ◌∷◌, ◌++◌, map, refl, sym, ap, ◌∙◌, subst}
-use Rattle.std.specs.List.{AllByRecursion}
-use Rattle.cf_isolation.proofs.Legs.{legs_right}
-use Rattle.cf_leg.specs.Emits.{syn}
-use Rattle.cf_leg.specs.Event.{LegEvent, sent_in}
-use Rattle.cf_packet.specs.Packet.{PacketValue}
-use Rattle.cf_session.specs.Event.{AreEvents}
-use Rattle.cf_session.specs.Session.{Flow, SessionEvent, controller_ends, controllers}
-use Rattle.cf_unobjected.specs.OneFlow.{Numbered, packets_of}
-use Rattle.cf_unobjected.specs.PairFlows.{GoesTo, SpeaksAs, SynsFirst}
+use Rattle.cf_unobjected.proofs.Common.{AllByRecursion, AreEvents, Flow, GoesTo, LegEvent, Numbered, PacketValue, SessionEvent, SynsFirst, controller_ends, controllers, legs_right, packets_of, sent_in, syn}
+use Rattle.cf_unobjected.specs.PairFlows.{SpeaksAs}
 use Rattle.cf_unobjected.proofs.Order.{syns_first}
 use Rattle.cf_unobjected.proofs.Towards.{all_to}
 

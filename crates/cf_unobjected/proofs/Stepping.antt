@@ -1,30 +1,19 @@
 -- What a run sends from a client to an asset is what its sessions of theirs sent, one after the other.
-use Rattle.std.proofs.Common.{◌≡◌, ℕ, zero, suc, ◌+◌, ◌≤◌, ◌&&◌, Bool, true, false, not, List, [], ◌∷◌, ◌++◌, cond, Option, Some, None, refl, sym, ap, ◌∙◌, append_assoc, arith}
-use Rattle.std.specs.Prelude.{filter, slice_get}
-use Rattle.std.specs.List.{AllByRecursion as Each, flat_map}
-use Rattle.std.proofs.lemmas.Bool.{false≢true}
-use Rattle.std.proofs.lemmas.List.{append-nil}
-use Rattle.cf_isolation.proofs.Legs.{legs_right}
+use Rattle.std.proofs.Common.{◌≡◌, ℕ, zero, suc, ◌+◌, ◌≤◌, ◌&&◌, Bool, true, false, not, List, [], ◌∷◌, ◌++◌, cond, Option, Some, None, refl, sym, ap, ◌∙◌, append_assoc, arith, filter, slice_get}
+use Rattle.cf_unobjected.proofs.Common.{Asset, Endpoint, Flow, IsOwn, IsRightSession, LegEvent, PacketValue, Session, SessionEvent, Side, append-nil, controller_ends, controllers, false≢true, flat_map, greeted_by, is_first_half, late, legs_right, packets_of, said_by, sent_first, sent_in, sent_second, with_event_at, with_events}
+use Rattle.std.specs.List.{AllByRecursion as Each}
 use Rattle.cf_isolation.proofs.Packets.{right_events, uncut}
-use Rattle.cf_isolation.proofs.Tables.{HasOwn, IsOwn}
+use Rattle.cf_isolation.proofs.Tables.{HasOwn}
 use Rattle.cf_audit.specs.declared.CutReason.{CutReason}
 use Rattle.cf_leg.specs.Emits.{fired_at}
-use Rattle.cf_leg.specs.Event.{Came, Ending, LegEvent, greeted_by, is_idle, said_by, sent_in}
+use Rattle.cf_leg.specs.Event.{Came, Ending, is_idle}
 use Rattle.cf_leg.specs.declared.Ends.{Ends}
-use Rattle.cf_packet.specs.Packet.{PacketValue}
-use Rattle.cf_policy.specs.declared.Asset.{Asset}
-use Rattle.cf_run.specs.Sessions.{HasRightEvents as IsRightSession}
-use Rattle.cf_run.specs.Table.{Session}
-use Rattle.cf_run.specs.Trace.{AreTicks, GoesOnAt, GoesOnWith, ends_cut, replaced, stays, with_event_at, with_events}
+use Rattle.cf_run.specs.Trace.{AreTicks, GoesOnAt, GoesOnWith, ends_cut, replaced, stays}
 use Rattle.cf_session.specs.Event.{AreEvents as AreSessionEvents, EndsTick, IsPacket, IsTick}
-use Rattle.cf_session.specs.Sent.{early, is_first_half, late, sent_first, sent_second}
-use Rattle.cf_session.specs.Session.{Flow, SessionEvent, controller_ends, controllers}
-use Rattle.cf_view.specs.declared.Endpoint.{Endpoint}
-use Rattle.cf_view.specs.declared.Side.{Side}
-use Rattle.cf_view.specs.declared.Side.TheVariants as side
-use Rattle.cf_unobjected.specs.OneFlow.{packets_of}
+use Rattle.cf_session.specs.Sent.{early}
 use Rattle.cf_unobjected.proofs.Halves.{first_picked, is_theirs, picked, picked_append, second_picked}
 use Rattle.cf_unobjected.proofs.Theirs.{count, none_told, spoken, told}
+use Rattle.cf_view.specs.declared.Side.TheVariants as side
 
 -- ---- one event of an end
 

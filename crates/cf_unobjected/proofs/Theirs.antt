@@ -1,14 +1,8 @@
 -- Of a list of sessions, with at most one of a client and an asset, what those of them sent to the asset.
-use Rattle.std.proofs.Common.{◌≡◌, ℕ, zero, suc, ◌+◌, ◌≤◌, Bool, true, false, not, List, [], ◌∷◌, ◌++◌, cond, Some, refl, sym, ap, ◌∙◌, append_assoc, arith}
-use Rattle.std.specs.Prelude.{filter}
+use Rattle.std.proofs.Common.{◌≡◌, ℕ, zero, suc, ◌+◌, ◌≤◌, Bool, true, false, not, List, [], ◌∷◌, ◌++◌, cond, Some, refl, sym, ap, ◌∙◌, append_assoc, arith, filter}
+use Rattle.cf_unobjected.proofs.Common.{Flow, PacketValue, Session, SessionEvent, append-nil, controllers, packets_of, with_event_at, with_events}
 use Rattle.std.specs.List.{remove}
-use Rattle.std.proofs.lemmas.List.{append-nil}
-use Rattle.cf_packet.specs.Packet.{PacketValue}
 use Rattle.cf_run.specs.Sessions.{session_at}
-use Rattle.cf_run.specs.Table.{Session}
-use Rattle.cf_run.specs.Trace.{with_event_at, with_events}
-use Rattle.cf_session.specs.Session.{Flow, SessionEvent, controllers}
-use Rattle.cf_unobjected.specs.OneFlow.{packets_of}
 
 pub nothing_left : {X : Type 0} (xs ys : List X) → xs ++ ys ≡ [] → (xs ≡ []) × (ys ≡ [])
 nothing_left [] ys h = (refl, h)

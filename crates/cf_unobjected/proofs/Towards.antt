@@ -1,18 +1,10 @@
 -- The segments to a controller: who they are from and for, and which have letters.
-use Rattle.std.proofs.Common.{◌≡◌, ℕ, ◌+◌, ◌/◌, ◌%◌, ◌==◌, Bool, true, false, List, [], ◌∷◌, length, refl, sym, ◌∙◌, subst}
-use Rattle.std.specs.Prelude.{if◌then◌else◌}
-use Rattle.std.specs.List.{AllByRecursion}
-use Rattle.std.proofs.lemmas.Bool.{false≢true, true≢false}
-use Rattle.cf_isolation.proofs.Lists.{all_both}
+use Rattle.std.proofs.Common.{◌≡◌, ℕ, ◌+◌, ◌/◌, ◌%◌, ◌==◌, Bool, true, false, List, [], ◌∷◌, length, refl, sym, ◌∙◌, subst, if◌then◌else◌}
+use Rattle.cf_unobjected.proofs.Common.{AllByRecursion, Flow, GoesTo, LegEvent, Stream, all_both, controller_ends, false≢true, greeted_by, packets_of, said_by, syn, true≢false}
 use Rattle.cf_isolation.proofs.Writing.{Sends, sends_all}
-use Rattle.cf_leg.specs.Emits.{AllRight, IsRight, rst, syn, way_of}
-use Rattle.cf_leg.specs.Event.{LegEvent, greeted_by, said_by}
+use Rattle.cf_leg.specs.Emits.{AllRight, IsRight, rst, way_of}
 use Rattle.cf_leg.specs.Segment.{segment}
 use Rattle.cf_leg.specs.declared.ends.Advertised.{Advertised}
-use Rattle.cf_session.specs.Session.{Flow, controller_ends}
-use Rattle.cf_stream.specs.Stream.{Stream}
-use Rattle.cf_unobjected.specs.OneFlow.{packets_of}
-use Rattle.cf_unobjected.specs.PairFlows.{GoesTo}
 
 pub no_syn : (a b : Bool) → ((16 + (if a then 0 else 8) + (if b then 1 else 0)) / 2 % 2 == 1) ≡ false
 no_syn true true = refl

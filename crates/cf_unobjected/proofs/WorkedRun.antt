@@ -1,9 +1,8 @@
 -- The capture of two sessions that is worked by hand.
 use Rattle.std.proofs.Common.{ap, arith, refl, sym}
-use Rattle.std.proofs.lemmas.Bool.{false≢true}
+use Rattle.cf_unobjected.proofs.Common.{IsSpoken, false≢true}
 use Rattle.cf_leg.specs.Emitted.{spelled}
 use Rattle.cf_packet.specs.Checksum.{ones_sum}
-use Rattle.cf_unobjected.specs.PairFlows.{IsSpoken}
 use Rattle.cf_unobjected.specs.RunRows.{RunRowsHold, one_spoken}
 
 spoken : IsSpoken one_spoken
