@@ -5,7 +5,7 @@ mod Halves
 mod Items
 pub mod Legs
 pub mod Lists
-mod Lives
+pub mod Lives
 mod Logging
 mod Moments
 mod Naming
@@ -14,7 +14,7 @@ mod Output
 pub mod Packets
 mod Ranges
 mod Reading
-mod Sending
+pub mod Sending
 pub mod Tables
 mod Theirs
 mod Turns

@@ -14,6 +14,7 @@ use Rattle.cf_isolation.proofs.Tables.{same_self}
 use Rattle.cf_isolation.proofs.Turns.{AtMostOne, first_turn, none_there, second_turn}
 
 pub record Holds {X : Type 0} (o : Output X) (flow : Flow) (q : X → Bool) (es : List RunEvent) : Type 0 where
+  pub content : filter q (o.all es) ≡ flat_map (λ s. o.own s.flow s.events) (filter (is_between (client_of flow) flow.asset.endpoint) (sessions_of es))
   pub in_life : (s : Session) (before later : List Session) → filter (is_between (client_of flow) flow.asset.endpoint) (sessions_of es) ≡ before ++ s ∷ later →
       filter (λ x. q x && is_in_life (born_at s.events) later (o.at x)) (o.all es) ≡ o.own s.flow s.events
   pub in_time : (has : HasSession flow es) → filter (λ x. q x && is_during (began_at has) (seen_until has) (o.at x)) (o.all es) ≡ o.over (client_of flow) flow.asset.endpoint has.first has.earlier has.later
@@ -259,4 +260,4 @@ module _ {X : Type 0} (o : Output X) (law : SessionsAreRight) (assets : List Ass
       has.later behind.next next next_rise has.none
 
   pub holds : (es : List RunEvent) → Right es → Rises es → Holds o flow q es
-  holds es h r = record { in_life = alive es h r; in_time = in_time es h r; to_next = to_next es h r }
+  holds es h r = record { content = (each_held es h r).content ∙ ap (flat_map own_of) (sym (filter-append (is_between client asset) (gone_after es) (table_after es))); in_life = alive es h r; in_time = in_time es h r; to_next = to_next es h r }

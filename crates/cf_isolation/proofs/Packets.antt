@@ -1,6 +1,6 @@
 -- Which packets of one event go between a client and an asset: those of their session.
 use Rattle.std.proofs.Common.{◌≡◌, ℕ, Bool, true, false, List, [], ◌∷◌, ◌++◌, cond, if◌then◌else◌, Option, Some, None, Result, refl, sym, ap, ◌∙◌, subst, filter, not, slice_get}
-use Rattle.cf_isolation.proofs.Common.{AllByRecursion, AreRight, AreRunEvents, AreTicks, Asset, Begun, CutReason, Dropped, Endpoint, EventsAreFixed, Flow, GoesOnAt, HasEvents, IsBeginning, IsPacket, IsRightSession, LegEvent, NoRoom, NoSession, PacketRefusal, PacketValue, Received, ReceivesRecord, RunEvent, Sent, Session, SessionEvent, SessionsAreRight, Side, Went, append-nil, at, begins_theirs, client_ends, client_of, controller_ends, filter-append, flat_map, found, goes_between, goes_to_theirs, gone_after, is_between, is_first_half, is_flow_of, is_theirs, kept, moment, said_by, same_endpoint, same_is, sent_first, sent_received, sent_second, stays, table_after, tick_of, ticked, ticks_of, true≢false, with_events}
+use Rattle.cf_isolation.proofs.Common.{AllByRecursion, AreRight, AreRunEvents, AreTicks, Asset, Begun, CutReason, Dropped, Endpoint, EventsAreFixed, Flow, GoesOnAt, HasEvents, IsBeginning, IsPacket, IsRightSession, LegEvent, NoRoom, NoSession, PacketRefusal, PacketValue, Received, ReceivesRecord, RunEvent, Sent, Session, SessionEvent, SessionsAreRight, Side, Went, append-nil, at, begins_theirs, client_ends, client_of, controller_ends, filter-append, flat_map, found, goes_between, goes_to_theirs, gone_after, is_between, is_first_half, is_flow_of, is_theirs, kept, moment, said_by, same_endpoint, same_is, sent, sent_first, sent_received, sent_second, stays, table_after, tick_of, ticked, ticks_of, true≢false, with_events}
 use Rattle.std.specs.Option.{is_some}
 use Rattle.std.proofs.Math.Bool.{and_comm, or-false}
 use Rattle.std.proofs.lemmas.Bool.{false_from_ne_true}
@@ -14,7 +14,7 @@ use Rattle.cf_run.specs.Sessions.{AreAlike}
 use Rattle.cf_run.specs.Trace.{GoesOnWith}
 use Rattle.cf_isolation.proofs.Ends.{GoesFrom, leg_goes}
 use Rattle.cf_isolation.proofs.Lists.{all_back, all_both, all_filtered, all_map, filter_all}
-use Rattle.cf_isolation.proofs.Tables.{HasOwn, IsOwn, each_get, receives}
+use Rattle.cf_isolation.proofs.Tables.{HasOwn, IsOwn, all_own, begun_in, each_get, found_has_all, kept_has, receives, table_has}
 
 -- ---- sessions that had their first half
 
@@ -170,3 +170,32 @@ module _ (assets : List Asset) (client asset : Endpoint) (none : has_asset_at as
       (λ i e s p x half es at is now before on new.
       subst (λ o. between (sent_second e) ≡ cond (is_theirs client asset o) (sent_second e) []) (sym at)
       (filter_all _ _ (sent_second e) (second_told x.flow (each_get (HasOwn assets) table i x own at) es e (legs_right x.flow limit es before) on.right)) ∙ sym (append-nil _)) p r g new
+
+-- ---- all that a run sends
+
+module _ (law : SessionsAreRight) (assets : List Asset) (limit : ℕ) (R : ℕ → Type 0) (Q : Sent → Type 0)
+    (first : (tick : ℕ) → R tick → (f : Flow) → IsOwn assets f → (es : List SessionEvent) (t : SessionEvent) → LegsRight f es → AreRight f es t → t.client.tick ≡ tick → AllByRecursion Q (sent_first t))
+    (second : (tick : ℕ) → R tick → (f : Flow) → IsOwn assets f → (es : List SessionEvent) (e : SessionEvent) → LegsRight f es → AreRight f es e → e.client.tick ≡ tick → AllByRecursion Q (sent_second e)) where
+  ticks_all : (tick : ℕ) → R tick → (ss : List Session) (ts : List SessionEvent) → AllByRecursion (IsRightSession limit) ss → AllByRecursion (HasOwn assets) ss → AreTicks tick ss ts → AllByRecursion Q (flat_map sent_first ts)
+  ticks_all tick m [] ts h own are = subst (λ xs. AllByRecursion Q (flat_map sent_first xs)) (sym are) tt
+  ticks_all tick m (s ∷ ss) [] h own are = absurd are
+  ticks_all tick m (s ∷ ss) (t ∷ ts) h own are =
+      let legs = legs_right s.flow limit s.events (right_events limit s.flow s.events h.0) in
+      all_both Q (sent_first t) _ (first tick m s.flow own.0 s.events t legs are.0.right are.0.client_tick) (ticks_all tick m ss ts h.1 own.1 are.1)
+
+  -- what holds of the packets of each session's event holds of all packets
+  pub sent_all : (es : List RunEvent) → AreRunEvents assets limit es → AllByRecursion (λ e. R (tick_of e.input)) es → AllByRecursion Q (sent es)
+  sent_all [] are m = tt
+  sent_all (e ∷ es) are m =
+      let tick = tick_of e.input in
+      let table = table_after es in
+      let own = table_has (IsOwn assets) es (all_own assets limit es are.1) in
+      all_both Q (sent es) _ (sent_all es are.1 m.1)
+      (all_both Q (flat_map sent_first e.ticks) _
+      (ticks_all tick m.0 (kept tick table) e.ticks (all_filtered (IsRightSession limit) _ table (rights_after law assets limit es are.1)) (kept_has (IsOwn assets) tick table own) are.0.ticks)
+      (receives_halved assets limit tick (found table e) (halves law assets limit e es are) (λ r. ((f : Flow) (b : SessionEvent) → r ≡ Begun f b → IsOwn assets f) → AllByRecursion Q (sent_received r))
+      ((λ new. tt), (λ new. tt), (λ new. tt))
+      (λ f b begins new. second tick m.0 f (new f b refl) [] b (record { controller = tt; client = tt }) begins.right (ap (λ x. x.tick) begins.client))
+      (λ i b s p x half before at is ticked right on new.
+      second tick m.0 x.flow (each_get (HasOwn assets) (found table e) i x (found_has_all (IsOwn assets) tick e.ticks table own) at) before b (legs_right x.flow limit before right) on.right (on.client_on.0 ∙ ticked))
+      e.input.packet e.received are.0.received (λ f b is. (begun_in assets limit e es are f b is).2.own)))

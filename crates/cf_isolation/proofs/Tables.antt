@@ -43,7 +43,7 @@ each_get P (x ∷ xs) (suc i) s h e = each_get P xs i s h.1 e
 
 -- ---- a packet that begins a session
 
-found_has : (assets : List Asset) (endpoint : Endpoint) (asset : Asset) → asset_at assets endpoint ≡ Some asset → has_asset_at assets asset.endpoint ≡ true
+pub found_has : (assets : List Asset) (endpoint : Endpoint) (asset : Asset) → asset_at assets endpoint ≡ Some asset → has_asset_at assets asset.endpoint ≡ true
 found_has [] endpoint asset h = cc
 found_has (a ∷ assets) endpoint asset h = by (λ e. found_has assets endpoint asset e) (same_endpoint a.endpoint endpoint) h
   where

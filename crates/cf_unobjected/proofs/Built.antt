@@ -7,11 +7,10 @@ use Rattle.cf_run.specs.Sessions.{HasEvents}
 use Rattle.cf_session.specs.Event.{AreEvents as AreSessionEvents}
 use Rattle.cf_session.specs.Laws.{AreUncutBefore}
 use Rattle.cf_unobjected.specs.PairFlows.{SpeaksAs, Spoken}
-use Rattle.cf_unobjected.proofs.Halves.{is_theirs}
+use Rattle.cf_unobjected.proofs.Halves.{is_theirs, told}
 use Rattle.cf_unobjected.proofs.Others.{number_is}
 use Rattle.cf_unobjected.proofs.Places.{place_has}
 use Rattle.cf_unobjected.proofs.Speaks.{speaks}
-use Rattle.cf_unobjected.proofs.Theirs.{spoken, told}
 
 -- ---- every session is to the asset that is found at its endpoint
 
@@ -110,13 +109,13 @@ module _ (assets : List Asset) (limit : ℕ) (client : Endpoint) (asset : ℕ) w
       }
 
   build_by : (s : Session) (ss : List Session) (heard : List Numbered) (b : Bool) → is_theirs assets client asset s.flow ≡ b → IsRightSession limit s → IsFound assets s.flow →
-      ((ns : List Numbered) → heard_as ns ≡ told (is_theirs assets client asset) ss → Built ns) → heard_as heard ≡ cond b (spoken s) [] ++ told (is_theirs assets client asset) ss → Built heard
+      ((ns : List Numbered) → heard_as ns ≡ told assets client asset ss → Built ns) → heard_as heard ≡ cond b (packets_of (controllers s.events)) [] ++ told assets client asset ss → Built heard
   build_by s ss heard false ours right found more is = more heard is
   build_by s ss heard true ours right found more is =
-      let parts = split heard (spoken s) (told (is_theirs assets client asset) ss) is in
+      let parts = split heard (packets_of (controllers s.events)) (told assets client asset ss) is in
       one_more heard s.flow s.events _ right found ours parts (more parts.rest parts.rest_is)
 
-  pub build : (ss : List Session) → AllByRecursion (IsRightSession limit) ss → AllByRecursion (Has (IsFound assets)) ss → (heard : List Numbered) → heard_as heard ≡ told (is_theirs assets client asset) ss → Built heard
+  pub build : (ss : List Session) → AllByRecursion (IsRightSession limit) ss → AllByRecursion (Has (IsFound assets)) ss → (heard : List Numbered) → heard_as heard ≡ told assets client asset ss → Built heard
   build [] right found [] is = record { sessions = []; spoken = tt; theirs = tt; is = λ fs. refl }
   build [] right found (n ∷ ns) is = cc
   build (s ∷ ss) right found heard is = build_by s ss heard (is_theirs assets client asset s.flow) refl right.0 found.0 (λ ns e. build ss right.1 found.1 ns e) is

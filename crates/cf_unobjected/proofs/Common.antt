@@ -3,8 +3,7 @@ pub use Rattle.cf_decode.specs.Units.{Passed}
 pub use Rattle.cf_dnplink.specs.LinkFrame.{FrameValue}
 pub use Rattle.cf_dnplink.specs.UserOctets.{user_of}
 pub use Rattle.cf_isolation.proofs.Legs.{legs_right}
-pub use Rattle.cf_isolation.proofs.Lists.{all_both, all_front}
-pub use Rattle.cf_isolation.proofs.Tables.{IsOwn}
+pub use Rattle.cf_isolation.proofs.Lists.{all_both, all_front, all_map}
 pub use Rattle.cf_judge.specs.Objections.{AreReadBy, IsReadBy, Reading, commands_in, first_wrong, objected, objection_of, objection_to, sooner, wrong, wrong_by}
 pub use Rattle.cf_judge.specs.Plain.{AreRead, Breaks, Ending, HasPlainFate, Whole, completed_in, fate_by_asdu}
 pub use Rattle.cf_judge.specs.Ruling.{complaint_of}
@@ -27,21 +26,20 @@ pub use Rattle.cf_records.specs.Capture.{Record}
 pub use Rattle.cf_run.proofs.Matched.{same_is}
 pub use Rattle.cf_run.specs.Sessions.{HasRightEvents as IsRightSession, sessions_of}
 pub use Rattle.cf_run.specs.Table.{Session}
-pub use Rattle.cf_run.specs.Trace.{AreRunEvents, RunEvent, with_event_at, with_events}
+pub use Rattle.cf_run.specs.Trace.{AreRunEvents, RunEvent}
 pub use Rattle.cf_session.specs.Event.{AreEvents}
 pub use Rattle.cf_session.specs.Laws.{HasLetter}
-pub use Rattle.cf_session.specs.Sent.{Sent, is_first_half, late, sent_first, sent_second}
+pub use Rattle.cf_session.specs.Sent.{Sent}
 pub use Rattle.cf_session.specs.Session.{Flow, SessionEvent, client_of, controller_ends, controllers}
 pub use Rattle.cf_stream.specs.Stream.{Letter, Stream, letter_at, letter_count}
 pub use Rattle.cf_unobjected.specs.Allowed.{part_of}
 pub use Rattle.cf_unobjected.specs.OneFlow.{Numbered, packets_of}
 pub use Rattle.cf_unobjected.specs.PairFlows.{GoesTo, IsSpoken, SynsFirst, pair_on, pairs_on, sessions_on}
 pub use Rattle.cf_unobjected.specs.Passed.{IsRightlyPassed}
-pub use Rattle.cf_unobjected.specs.Separate.{heard_on, is_to_place, pair_of}
+pub use Rattle.cf_unobjected.specs.Separate.{goes_to_place, heard_on, is_to_place, pair_of}
 pub use Rattle.cf_view.specs.Endpoints.{same_endpoint}
 pub use Rattle.cf_view.specs.Framing.{Begins, IsPartial}
 pub use Rattle.cf_view.specs.declared.Endpoint.{Endpoint}
-pub use Rattle.cf_view.specs.declared.Side.{Side}
 pub use Rattle.cf_watch.specs.Carried.{Carried, HasBytes, HasConflict, IsConflictAfter, copy_of, offer_of, top_of}
 pub use Rattle.cf_watch.specs.Flow.{AreFlowsOf, IsFlowOf}
 pub use Rattle.cf_watch.specs.FlowValue.{FlowValue}

@@ -1,7 +1,7 @@
 -- The front of the bytes of a flow, up to a record, as it is read: what is wrong in it is what is wrong in all, where that came up to there.
 use Rattle.std.proofs.Common.{◌≡◌, ◌<◌, ◌≤◌, ◌+◌, ◌-◌, ◌∙◌, ℕ, List, [], ◌∷◌, ◌++◌, length, take, drop, get_or, Option, None, Some, option_map, refl, sym, ap, subst, inl, inr, arith, append_assoc, length-append, length-drop, take-append-drop}
 use Rattle.cf_unobjected.proofs.Common.{AreRead, Asset, Begins, Breaks, Ending, FlowValue, IsPartial, Judged, Objection, SpellsUnit, UnitValue, Whole, cases_lt, complaint_of, completed_in, first_wrong, length-take-le, objected, option_or, wrong}
-use Rattle.std.proofs.lemmas.List.{get_or-drop, get_or-take, drop-take, take-take}
+use Rattle.std.proofs.lemmas.List.{drop-take, get_or-drop, get_or-take, take-take}
 use Rattle.cf_judge.specs.Objections.{wrong_at}
 use Rattle.cf_judge.specs.Plain.{HasEnding}
 use Rattle.cf_judge.specs.declared.Complaint.{Complaint}

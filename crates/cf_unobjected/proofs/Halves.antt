@@ -1,15 +1,17 @@
--- What one half of a session's event sends towards an asset: its own early or late segments.
-use Rattle.std.proofs.Common.{◌≡◌, ℕ, Bool, false, List, [], ◌∷◌, ◌++◌, cond, map, refl, ap, ◌∙◌, filter}
-use Rattle.cf_unobjected.proofs.Common.{AllByRecursion, Asset, Endpoint, Flow, IsOwn, PacketValue, Sent, SessionEvent, append-nil, asset_place, client_of, controller_ends, is_first_half, is_to_place, late, map-append, sent_first, sent_second}
+-- What a session sends towards an asset: its own segments to its controller.
+use Rattle.std.proofs.Common.{Bool, List, [], ap, cond, false, filter, map, refl, sym, true, ℕ, ◌++◌, ◌∙◌, ◌∷◌, ◌≡◌}
+use Rattle.cf_unobjected.proofs.Common.{AllByRecursion, AreEvents, Asset, Endpoint, Flow, IsRightSession, LegEvent, PacketValue, Sent, Session, SessionEvent, all_map, and_parts, append-nil, asset_place, client_of, controller_ends, controllers, false≢true, flat_map, goes_to_place, greeted_by, is_to_place, legs_right, map-append, packets_of, said_by, sent_in}
+use Rattle.cf_isolation.specs.Lives.{own_sent}
+use Rattle.cf_leg.specs.Event.{Came, Greeting, Nothing, Packet, is_idle}
+use Rattle.cf_isolation.proofs.Tables.{HasOwn, IsOwn}
 use Rattle.std.proofs.lemmas.List.Elements.{filter-append}
 use Rattle.cf_isolation.proofs.Ends.{GoesFrom, leg_goes}
-use Rattle.cf_isolation.proofs.Legs.{LegsRight}
-use Rattle.cf_isolation.proofs.Lists.{all_map, filter_all}
-use Rattle.cf_isolation.proofs.Packets.{early_all, late_all}
+use Rattle.cf_isolation.proofs.Legs.{LegsRight, are_right}
+use Rattle.cf_isolation.proofs.Lists.{filter_all}
+use Rattle.cf_isolation.proofs.Packets.{early_all, late_all, right_events}
 use Rattle.cf_session.specs.Event.{AreRight}
-use Rattle.cf_session.specs.Sent.{at, early}
+use Rattle.cf_session.specs.Sent.{at, early, is_first_half, late, sent_first, sent_second}
 use Rattle.cf_session.specs.Session.{client_ends}
-use Rattle.cf_unobjected.specs.Separate.{goes_to_place}
 use Rattle.cf_unobjected.proofs.Places.{no_place}
 
 -- the packets that were sent
@@ -39,7 +41,7 @@ module _ (assets : List Asset) (client : Endpoint) (place : ℕ) where
     to_controller : (p : PacketValue) → GoesFrom (client_of f) f.asset.endpoint p → Told (is_theirs f) p
     to_controller p g = ap (λ d. is_to_place client place p.source (asset_place assets d)) g.1 ∙ ap (λ e. is_to_place client place e (asset_place assets f.asset.endpoint)) g.0
 
-    to_client : (p : PacketValue) → GoesFrom f.asset.endpoint (client_of f) p → Told false p
+    pub to_client : (p : PacketValue) → GoesFrom f.asset.endpoint (client_of f) p → Told false p
     to_client p g = ap (λ d. is_to_place client place p.source (asset_place assets d)) g.1 ∙ ap (is_to_place client place p.source) (no_place assets (client_of f) own.0)
 
     picked_of : (now : ℕ) (xs ys : List PacketValue) → AllByRecursion (GoesFrom (client_of f) f.asset.endpoint) xs → AllByRecursion (GoesFrom f.asset.endpoint (client_of f)) ys →
@@ -50,14 +52,56 @@ module _ (assets : List Asset) (client : Endpoint) (place : ℕ) where
         ∙ ap (λ ps. cond (is_theirs f) xs [] ++ ps) (filter_all q false ys (all_map _ (Told false) to_client ys g)) ∙ append-nil _
 
     module _ (es : List SessionEvent) (e : SessionEvent) (legs : LegsRight f es) (right : AreRight f es e) where
-      pub first_picked : picked (sent_first e) ≡ cond (is_theirs f) (early (is_first_half e) e.controller) []
+      first_picked : picked (sent_first e) ≡ cond (is_theirs f) (early (is_first_half e) e.controller) []
       first_picked =
           picked_of e.client.tick (early (is_first_half e) e.controller) (early (is_first_half e) e.client)
           (early_all _ _ e.controller (leg_goes (controller_ends f) _ e.controller legs.controller right.controller))
           (early_all _ _ e.client (leg_goes (client_ends f) _ e.client legs.client right.client))
 
-      pub second_picked : picked (sent_second e) ≡ cond (is_theirs f) (late (is_first_half e) e.controller) []
+      second_picked : picked (sent_second e) ≡ cond (is_theirs f) (late (is_first_half e) e.controller) []
       second_picked =
           picked_of _ (late (is_first_half e) e.controller) (late (is_first_half e) e.client)
           (late_all _ _ e.controller (leg_goes (controller_ends f) _ e.controller legs.controller right.controller))
           (late_all _ _ e.client (leg_goes (client_ends f) _ e.client legs.client right.client))
+
+    -- both halves of an event of the end towards the controller
+    joined : (first : Bool) (c : LegEvent) → (first ≡ true → is_idle c.came ≡ true) → early first c ++ late first c ≡ c.fired ++ sent_in c
+    joined true c idle = ap (λ ps. (c.fired ++ said_by c.ending) ++ (ps ++ [])) (silent c.came (idle refl)) ∙ append-nil _ ∙ ap (λ ps. c.fired ++ (ps ++ said_by c.ending)) (sym (silent c.came (idle refl)))
+      where
+        silent : (came : Came) → is_idle came ≡ true → greeted_by came ≡ []
+        silent Nothing h = refl
+        silent (Greeting p) h = absurd (false≢true h)
+        silent (Packet p) h = absurd (false≢true h)
+    joined false c idle = ap (λ ps. ps ++ sent_in c) (append-nil c.fired)
+
+    more_by : (b : Bool) (before one two all : List PacketValue) → one ++ two ≡ all → cond b before [] ++ (cond b one [] ++ cond b two []) ≡ cond b (before ++ all) []
+    more_by true before one two all h = ap (λ ps. before ++ ps) h
+    more_by false before one two all h = refl
+
+    none_by : (b : Bool) → picked [] ≡ cond b [] []
+    none_by true = refl
+    none_by false = refl
+
+    -- all of its events
+    pub own_picked : (limit : ℕ) (es : List SessionEvent) → AreEvents f limit es → picked (own_sent es) ≡ cond (is_theirs f) (packets_of (controllers es)) []
+    own_picked limit [] h = none_by (is_theirs f)
+    own_picked limit (e ∷ es) h =
+        let legs = legs_right f limit es h.1 in
+        let right = are_right f limit es e h.0 in
+        picked_append (own_sent es) (sent_first e ++ sent_second e) ∙ ap (λ ps. picked (own_sent es) ++ ps) (picked_append (sent_first e) (sent_second e))
+        ∙ ap (λ ps. ps ++ (picked (sent_first e) ++ picked (sent_second e))) (own_picked limit es h.1)
+        ∙ ap (λ ps. cond (is_theirs f) (packets_of (controllers es)) [] ++ (ps ++ picked (sent_second e))) (first_picked es e legs right)
+        ∙ ap (λ ps. cond (is_theirs f) (packets_of (controllers es)) [] ++ (cond (is_theirs f) (early (is_first_half e) e.controller) [] ++ ps)) (second_picked es e legs right)
+        ∙ more_by (is_theirs f) (packets_of (controllers es)) (early (is_first_half e) e.controller) (late (is_first_half e) e.controller) (e.controller.fired ++ sent_in e.controller)
+        (joined (is_first_half e) e.controller (λ first. (and_parts (is_idle e.controller.came) (is_idle e.client.came) first).0))
+
+  -- what those sessions that are theirs sent
+  abbrev pub told : List Session → List PacketValue
+  told [] = []
+  told (s ∷ ss) = cond (is_theirs s.flow) (packets_of (controllers s.events)) [] ++ told ss
+
+  pub all_told : (limit : ℕ) (ss : List Session) → AllByRecursion (IsRightSession limit) ss → AllByRecursion (HasOwn assets) ss → picked (flat_map (λ s. own_sent s.events) ss) ≡ told ss
+  all_told limit [] h own = refl
+  all_told limit (s ∷ ss) h own =
+      picked_append (own_sent s.events) (flat_map (λ (x : Session). own_sent x.events) ss) ∙ ap (λ ps. ps ++ picked (flat_map (λ (x : Session). own_sent x.events) ss)) (own_picked s.flow own.0 limit s.events (right_events limit s.flow s.events h.0))
+      ∙ ap (λ ps. cond (is_theirs s.flow) (packets_of (controllers s.events)) [] ++ ps) (all_told limit ss h.1 own.1)

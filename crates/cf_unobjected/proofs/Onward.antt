@@ -1,196 +1,147 @@
--- What a run sends from a client to an asset is what its sessions of theirs sent, one after the other, and they are never two at a time.
-use Rattle.std.proofs.Common.{◌≡◌, ℕ, suc, ◌+◌, ◌≤◌, ◌&&◌, ◌==◌, Bool, true, false, not, List, [], ◌∷◌, ◌++◌, cond, Option, Some, None, option_map, Result, refl, sym, ap, ◌∙◌, subst, append_assoc, arith, filter, position, slice_get}
-use Rattle.cf_unobjected.proofs.Common.{AreRunEvents, Asset, Endpoint, Flow, IsOwn, IsRightSession, LegEvent, PacketValue, RunEvent, Sent, Session, SessionEvent, Side, and_parts, append-nil, asset_place, client_of, controllers, false≢true, flat_map, is_first_half, is_to_place, late, packets_of, same_endpoint, same_is, sent_first, sent_in, sent_second, sessions_of, true≢false, with_event_at, with_events}
-use Rattle.std.specs.List.{AllByRecursion as Each, remove}
+-- What a run sends from a client to an asset is what its sessions of theirs sent, one after the other.
+use Rattle.std.proofs.Common.{◌≡◌, ℕ, ◌&&◌, ◌||◌, ◌==◌, Bool, true, false, List, [], ◌∷◌, ◌++◌, cond, Option, Some, None, refl, sym, ap, ◌∙◌, subst, arith, filter}
+use Rattle.cf_unobjected.proofs.Common.{AllByRecursion, AreRunEvents, Asset, Endpoint, Flow, IsRightSession, LegEvent, PacketValue, RunEvent, Sent, Session, SessionEvent, all_map, and_parts, asset_place, client_of, controller_ends, controllers, false≢true, goes_to_place, is_to_place, nat_tests, packets_of, same_endpoint, same_is, sessions_of, true≢false}
 use Rattle.std.proofs.lemmas.Bool.{and_right, false_from_ne_true}
-use Rattle.cf_isolation.proofs.Lists.{all_back, all_filtered}
-use Rattle.cf_isolation.proofs.Tables.{HasOwn, all_own, begun_in, found_has_all, kept_has, receives, same_self, table_has}
-use Rattle.cf_leg.specs.Event.{is_idle}
-use Rattle.cf_packet.specs.declared.packet.PacketRefusal.{PacketRefusal}
-use Rattle.cf_run.specs.Sessions.{SessionsAreRight, gone_after, leaves, left_by_packet, session_at}
-use Rattle.cf_run.specs.Table.{is_between, place_of, without}
-use Rattle.cf_run.specs.Trace.{Begun, GoesOnAt, Received, ReceivesRecord, Went, after_received, kept, sent, sent_received, stays, table_after, tick_of, ticked}
-use Rattle.cf_session.specs.Event.{IsBeginning}
-use Rattle.cf_session.specs.Session.{is_expired}
-use Rattle.cf_unobjected.proofs.Halves.{is_theirs, picked, picked_append, second_picked}
+use Rattle.cf_isolation.proofs.Ends.{GoesFrom, leg_goes}
+use Rattle.cf_isolation.proofs.Legs.{LegsRight}
+use Rattle.cf_isolation.proofs.Lists.{all_filtered}
+use Rattle.cf_isolation.proofs.Packets.{first_all, second_all, sent_all}
+use Rattle.cf_isolation.proofs.Sending.{sent_holds}
+use Rattle.cf_isolation.proofs.Tables.{HasOwn, IsOwn, all_own, found_has, same_self, sessions_have}
+use Rattle.cf_isolation.proofs.Writing.{Sends}
+use Rattle.cf_isolation.specs.Records.{goes_between, goes_from}
+use Rattle.cf_policy.proofs.FirstPlace.{IsFirstAt, first_at}
+use Rattle.cf_policy.specs.AtEndpoint.{has_asset_at}
+use Rattle.cf_run.specs.Selected.{Rises}
+use Rattle.cf_run.specs.Sessions.{SessionsAreRight}
+use Rattle.cf_run.specs.Table.{is_between}
+use Rattle.cf_run.specs.Trace.{sent}
+use Rattle.cf_session.specs.Event.{AreRight}
+use Rattle.cf_session.specs.Session.{client_ends}
+use Rattle.cf_unobjected.proofs.Halves.{all_told, is_theirs, packets, picked, to_client, told}
 use Rattle.cf_unobjected.proofs.Others.{number_is}
-use Rattle.cf_run.proofs.Matched.{place_by}
-use Rattle.cf_unobjected.proofs.Places.{one_place}
-use Rattle.cf_unobjected.proofs.Stepping.{IsReady, all_ready, ticks_told, went_told}
-use Rattle.cf_unobjected.proofs.Theirs.{count, count_append, fewer, fewer_out, one_of, parts, same_count, same_count_at, taken_out, told, told_append}
+use Rattle.cf_unobjected.proofs.Places.{one_place, place_has}
 
--- ---- lists in parts
-
-pub chain : {X : Type 0} (g t x k p w y f q z a : List X) → t ≡ x ++ k → k ++ p ≡ w → w ≡ y ++ f → f ++ q ≡ z ++ a → (g ++ t) ++ (p ++ q) ≡ (g ++ (x ++ (y ++ z))) ++ a
-chain g t x k p w y f q z a h1 h2 h3 h4 =
-    append_assoc g t (p ++ q) ∙ ap (λ l. g ++ l)
-    (ap (λ l. l ++ (p ++ q)) h1 ∙ append_assoc x k (p ++ q) ∙ ap (λ l. x ++ l)
-    (sym (append_assoc k p q) ∙ ap (λ l. l ++ q) (h2 ∙ h3) ∙ append_assoc y f q ∙ ap (λ l. y ++ l) h4 ∙ sym (append_assoc y z a))
-    ∙ sym (append_assoc x (y ++ z) a))
-    ∙ sym (append_assoc g (x ++ (y ++ z)) a)
-
-not_not : (b : Bool) → b ≡ not (not b)
-not_not true = refl
-not_not false = refl
-
--- ---- a session begins
-
-begun_late : (f : Flow) (tick : ℕ) (e : SessionEvent) → IsBeginning f tick e → late (is_first_half e) e.controller ≡ packets_of (controllers (e ∷ []))
-begun_late f tick e h =
-    ap (λ b. late b e.controller) (ap (λ (l : LegEvent). is_idle l.came && is_idle e.client.came) h.controller)
-    ∙ ap (λ ps. ps ++ sent_in e.controller) (sym (ap (λ (l : LegEvent). l.fired) h.controller))
+-- what a test picks of packets it also picks of those that pass a wider test
+narrowed : (p q : PacketValue → Bool) → ((x : PacketValue) → p x ≡ true → q x ≡ true) → (all : List Sent) → filter p (packets all) ≡ filter p (packets (filter (λ s. q s.packet) all))
+narrowed p q wider [] = refl
+narrowed p q wider (s ∷ all) = by (p s.packet) (q s.packet) refl refl (narrowed p q wider all)
+  where
+    by : (a b : Bool) → p s.packet ≡ a → q s.packet ≡ b → filter p (packets all) ≡ filter p (packets (filter (λ x. q x.packet) all)) →
+        filter p (packets (s ∷ all)) ≡ filter p (packets (filter (λ x. q x.packet) (s ∷ all)))
+    by true true e f more = rw (f, e) (ap (λ ps. s.packet ∷ ps) more)
+    by true false e f more = absurd (true≢false (sym (wider s.packet e) ∙ f))
+    by false true e f more = rw (f, e) more
+    by false false e f more = rw (f, e) more
 
 module _ (assets : List Asset) (client : Endpoint) (place : ℕ) where
-  abbrev ours : Flow → Bool
-  ours f = is_theirs assets client place f
+  -- a packet goes to a place where an asset stands
+  goes_by : (p : PacketValue) (o : Option ℕ) → asset_place assets p.dest ≡ o → is_to_place client place p.source o ≡ true → (p.source ≡ client) × (asset_place assets p.dest ≡ Some place)
+  goes_by p None at h = absurd (false≢true h)
+  goes_by p (Some k) at h =
+      let parts = and_parts (same_endpoint p.source client) (k == place) h in
+      (same_is p.source client parts.0, at ∙ ap Some (number_is k place parts.1))
 
-  abbrev P : List Sent → List PacketValue
-  P all = picked assets client place all
+  -- what goes there comes from no asset
+  abbrev IsOutside : PacketValue → Type 0
+  IsOutside p = goes_to_place assets client place p ≡ true → has_asset_at assets p.source ≡ false
 
-  -- ---- of theirs there is one pair of endpoints
+  module _ (f : Flow) (own : IsOwn assets f) where
+    outside : (source dest : Endpoint) → ((p : PacketValue) → GoesFrom source dest p → IsOutside p) → (e : LegEvent) → Sends (GoesFrom source dest) e → Sends IsOutside e
+    outside source dest k e h = record {
+      fired = all_map (GoesFrom source dest) IsOutside k _ h.fired;
+      greeted = all_map (GoesFrom source dest) IsOutside k _ h.greeted;
+      said = all_map (GoesFrom source dest) IsOutside k _ h.said;
+    }
 
-  module _ (f : Flow) (k : ℕ) (there : asset_place assets f.asset.endpoint ≡ Some k) (same : same_endpoint (client_of f) client ≡ true) (here : (k == place) ≡ true) where
-    other_place : (x : Endpoint) → same_endpoint x f.asset.endpoint ≡ false → (j : ℕ) → asset_place assets x ≡ Some j → (j == place) ≡ false
-    other_place x apart j at =
-        false_from_ne_true (j == place) (λ e.
-        let number : j ≡ k = number_is j place e ∙ sym (number_is k place here) in
-        let one : x ≡ f.asset.endpoint = one_place assets x f.asset.endpoint k (at ∙ ap Some number) there in
-        true≢false (sym (same_self f.asset.endpoint) ∙ ap (λ y. same_endpoint y f.asset.endpoint) (sym one) ∙ apart))
+    module _ (es : List SessionEvent) (e : SessionEvent) (legs : LegsRight f es) (right : AreRight f es e) where
+      controller_outside : Sends IsOutside e.controller
+      controller_outside =
+          outside (client_of f) f.asset.endpoint (λ p g goes. ap (has_asset_at assets) g.0 ∙ own.0) e.controller (leg_goes (controller_ends f) _ e.controller legs.controller right.controller)
 
-    apart_by : (s : Session) (o : Option ℕ) → asset_place assets s.flow.asset.endpoint ≡ o → same_endpoint s.flow.asset.endpoint f.asset.endpoint ≡ false → is_to_place client place (client_of s.flow) o ≡ false
-    apart_by s None at apart = refl
-    apart_by s (Some j) at apart = ap (λ b. same_endpoint (client_of s.flow) client && b) (other_place s.flow.asset.endpoint apart j at) ∙ and_right (same_endpoint (client_of s.flow) client) false refl
+      client_outside : Sends IsOutside e.client
+      client_outside =
+          outside f.asset.endpoint (client_of f) (λ p g goes. absurd (false≢true (sym (to_client assets client place f own p g) ∙ goes))) e.client
+          (leg_goes (client_ends f) _ e.client legs.client right.client)
 
-    agree_by : (s : Session) (b : Bool) → same_endpoint s.flow.asset.endpoint f.asset.endpoint ≡ b → (same_endpoint (client_of s.flow) (client_of f) && b) ≡ ours s.flow
-    agree_by s true e =
-        let one = same_is s.flow.asset.endpoint f.asset.endpoint e in
-        let at : asset_place assets s.flow.asset.endpoint ≡ Some k = ap (asset_place assets) one ∙ there in
-        ap (λ c. same_endpoint (client_of s.flow) c && true) (same_is (client_of f) client same)
-        ∙ ap (λ b. same_endpoint (client_of s.flow) client && b) (sym here) ∙ ap (is_to_place client place (client_of s.flow)) (sym at)
-    agree_by s false e = and_right _ false refl ∙ sym (apart_by s (asset_place assets s.flow.asset.endpoint) refl e)
+  all_outside : SessionsAreRight → (limit : ℕ) (es : List RunEvent) → AreRunEvents assets limit es → AllByRecursion IsOutside (packets (sent es))
+  all_outside law limit es are =
+      packets_all (sent es) (sent_all law assets limit (λ tick. Unit {0}) (λ s. IsOutside s.packet)
+      (λ tick m f own es t legs right now. first_all IsOutside (λ s. IsOutside s.packet) t (controller_outside f own es t legs right) (client_outside f own es t legs right) (λ p h. h))
+      (λ tick m f own es e legs right now. second_all IsOutside (λ s. IsOutside s.packet) e (controller_outside f own es e legs right) (client_outside f own es e legs right) (λ p h. h)) es are (all_unit es))
+    where
+      packets_all : (all : List Sent) → AllByRecursion (λ s. IsOutside s.packet) all → AllByRecursion IsOutside (packets all)
+      packets_all [] h = tt
+      packets_all (s ∷ all) h = (h.0, packets_all all h.1)
 
-  ours_by : (f : Flow) (s : Session) (o : Option ℕ) → asset_place assets f.asset.endpoint ≡ o → is_to_place client place (client_of f) o ≡ true → is_between (client_of f) f.asset.endpoint s ≡ ours s.flow
-  ours_by f s None at h = absurd (false≢true h)
-  ours_by f s (Some k) at h = agree_by f k at ((and_parts _ _ h).0) ((and_parts (same_endpoint (client_of f) client) _ h).1) s _ refl
+      all_unit : (es : List RunEvent) → AllByRecursion (λ e. Unit {0}) es
+      all_unit [] = tt
+      all_unit (e ∷ es) = (tt, all_unit es)
 
-  -- a session that begins is of theirs only where no other one is
-  agree : (f : Flow) → ours f ≡ true → (s : Session) → is_between (client_of f) f.asset.endpoint s ≡ ours s.flow
-  agree f h s = ours_by f s (asset_place assets f.asset.endpoint) refl h
+  -- the first packet that is picked, and what holds of it
+  first_of : (P : PacketValue → Type 0) (q : PacketValue → Bool) (all ps : List PacketValue) (p : PacketValue) → AllByRecursion P all → filter q all ≡ p ∷ ps → (q p ≡ true) × P p
+  first_of P q [] ps p h e = cc
+  first_of P q (x ∷ all) ps p h e = by (first_of P q all ps p h.1) (q x) refl e
+    where
+      by : (filter q all ≡ p ∷ ps → (q p ≡ true) × P p) → (b : Bool) → q x ≡ b → cond b (x ∷ filter q all) (filter q all) ≡ p ∷ ps → (q p ≡ true) × P p
+      by more true is g = let same : x ≡ p = cc in subst (λ y. (q y ≡ true) × P y) same (is, h.0)
+      by more false is g = more g
 
-  abbrev left : List Session → Option ℕ → List Session
-  left ss o = elim o [ Some i ↦ remove ss i | None ↦ ss ]
+  module _ (law : SessionsAreRight) (limit : ℕ) (es : List RunEvent) (are : AreRunEvents assets limit es) (rises : Rises es) (p : PacketValue) (ps : List PacketValue)
+      (some : picked assets client place (sent es) ≡ p ∷ ps) where
+    head : (goes_to_place assets client place p ≡ true) × IsOutside p
+    head = first_of IsOutside (goes_to_place assets client place) (packets (sent es)) ps p (all_outside law limit es are) some
 
-  none_by : (s : Session) (ss : List Session) (b : Bool) (o : Option ℕ) → b ≡ ours s.flow → cond (ours s.flow) 1 0 + count ours ss ≤ 1 → count ours (left ss o) ≡ 0 →
-      count ours (left (s ∷ ss) (cond b (Some 0) (option_map suc o))) ≡ 0
-  none_by s ss true o e few ih = let one : one_of (ours s.flow) ≡ one_of true = ap one_of (sym e) in omega (arith, few, one)
-  none_by s ss false None e few ih = let no : one_of (ours s.flow) ≡ one_of false = ap one_of (sym e) in omega (arith, no, ih)
-  none_by s ss false (Some i) e few ih = let no : one_of (ours s.flow) ≡ one_of false = ap one_of (sym e) in omega (arith, no, ih)
+    ends : (p.source ≡ client) × (asset_place assets p.dest ≡ Some place)
+    ends = goes_by p (asset_place assets p.dest) refl head.0
 
-  none_left : (test : Session → Bool) → ((s : Session) → test s ≡ ours s.flow) → (ss : List Session) → count ours ss ≤ 1 → count ours (left ss (position test ss)) ≡ 0
-  none_left test are [] few = refl
-  none_left test are (s ∷ ss) few =
-      subst (λ o. count ours (left (s ∷ ss) o) ≡ 0) (sym (place_by test s ss (test s) refl))
-      (none_by s ss (test s) (position test ss) (are s) few (none_left test are ss (omega (arith, few))))
+    -- the asset that stands there
+    there : (a : Asset) × IsFirstAt (λ (x : Asset). same_endpoint x.endpoint p.dest) assets place a
+    there = first_at (λ (a : Asset). same_endpoint a.endpoint p.dest) assets place ends.1
 
-  abbrev new_session : Flow → SessionEvent → Session
-  new_session f e = record { flow = f; events = e ∷ [] }
+    abbrev flow : Flow
+    flow = record { asset = there.0; syn = p }
 
-  left_fewer : (ss : List Session) (o : Option ℕ) → count ours (left ss o) ≤ count ours ss
-  left_fewer ss None = omega arith
-  left_fewer ss (Some i) = fewer_out ours ss i
+    dest_is : there.0.endpoint ≡ p.dest
+    dest_is = same_is there.0.endpoint p.dest there.1.passes
 
-  begun_few_by : (f : Flow) (e : SessionEvent) (ss : List Session) (b : Bool) → ours f ≡ b → count ours ss ≤ 1 → count ours (without (client_of f) f.asset.endpoint ss ++ new_session f e ∷ []) ≤ 1
-  begun_few_by f e ss true h few =
-      let none = none_left (is_between (client_of f) f.asset.endpoint) (agree f h) ss few in
-      let all = count_append ours (without (client_of f) f.asset.endpoint ss) (new_session f e ∷ []) in
-      let one : one_of (ours f) ≡ one_of true = ap one_of h in
-      omega (arith, none, all, one)
-  begun_few_by f e ss false h few =
-      let fewer_left = left_fewer ss (place_of (client_of f) f.asset.endpoint ss) in
-      let all = count_append ours (without (client_of f) f.asset.endpoint ss) (new_session f e ∷ []) in
-      let no : one_of (ours f) ≡ one_of false = ap one_of h in
-      omega (arith, few, fewer_left, all, no)
+    own : IsOwn assets flow
+    own = (head.1 head.0, found_has assets p.dest there.0 (sym (place_has assets p.dest place ends.1) ∙ there.1.here))
 
-  left_told : (ss : List Session) (o : Option ℕ) → count ours ss ≤ 1 → told ours (session_at ss o) ++ told ours (left ss o) ≡ told ours ss
-  left_told ss None few = refl
-  left_told ss (Some i) few = taken_out ours ss i few
+    place_self : (place == place) ≡ true
+    place_self = grind (arith, nat_tests)
 
-  -- ---- the second half
+    -- to go to the place is to go to its endpoint
+    to_place : (source dest : Endpoint) (b : Bool) (o : Option ℕ) → same_endpoint dest there.0.endpoint ≡ b → asset_place assets dest ≡ o →
+        is_to_place client place source o ≡ (same_endpoint source p.source && b)
+    to_place source dest true o is at =
+        let here : o ≡ Some place = sym at ∙ ap (asset_place assets) (same_is dest there.0.endpoint is ∙ dest_is) ∙ ends.1 in
+        ap (is_to_place client place source) here ∙ ap (λ b. same_endpoint source client && b) place_self ∙ ap (λ c. same_endpoint source c && true) (sym ends.0)
+    to_place source dest false None is at = sym (and_right (same_endpoint source p.source) false refl)
+    to_place source dest false (Some k) is at =
+        let other : (k == place) ≡ false = false_from_ne_true (k == place) (λ e.
+        let same : dest ≡ p.dest = one_place assets dest p.dest place (at ∙ ap Some (number_is k place e)) ends.1 in
+        true≢false (sym (same_self there.0.endpoint) ∙ ap (λ x. same_endpoint x there.0.endpoint) (dest_is ∙ sym same) ∙ is)) in
+        ap (λ b. same_endpoint source client && b) other ∙ and_right (same_endpoint source client) false refl ∙ sym (and_right (same_endpoint source p.source) false refl)
 
-  begun_picked : (f : Flow) (tick : ℕ) (e : SessionEvent) → IsOwn assets f → IsBeginning f tick e → P (sent_second e) ≡ told ours (new_session f e ∷ [])
-  begun_picked f tick e own h =
-      second_picked assets client place f own [] e (record { controller = tt; client = tt }) h.right ∙ ap (λ ps. cond (ours f) ps []) (begun_late f tick e h) ∙ sym (append-nil _)
+    goes_is : (x : PacketValue) → goes_to_place assets client place x ≡ goes_from p.source there.0.endpoint x
+    goes_is x = to_place x.source x.dest (same_endpoint x.dest there.0.endpoint) (asset_place assets x.dest) refl refl
 
-  begun_told : (f : Flow) (tick : ℕ) (e : SessionEvent) (ss : List Session) → IsOwn assets f → IsBeginning f tick e → count ours ss ≤ 1 →
-      told ours ss ++ P (sent_second e) ≡ told ours (left_by_packet (Begun f e) ss) ++ told ours (after_received (Begun f e) ss)
-  begun_told f tick e ss own h few =
-      let o = place_of (client_of f) f.asset.endpoint ss in
-      ap (λ ps. ps ++ P (sent_second e)) (sym (left_told ss o few)) ∙ append_assoc (told ours (session_at ss o)) (told ours (left ss o)) (P (sent_second e))
-      ∙ ap (λ ps. told ours (session_at ss o) ++ ps) (ap (λ ps. told ours (left ss o) ++ ps) (begun_picked f tick e own h) ∙ sym (told_append ours (left ss o) (new_session f e ∷ [])))
+    told_same : (ss : List Session) → told assets client place (filter (is_between p.source there.0.endpoint) ss) ≡ told assets client place ss
+    told_same [] = refl
+    told_same (s ∷ ss) =
+        by (is_between p.source there.0.endpoint s) (to_place (client_of s.flow) s.flow.asset.endpoint (same_endpoint s.flow.asset.endpoint there.0.endpoint) (asset_place assets s.flow.asset.endpoint) refl refl) (told_same ss)
+      where
+        by : (b : Bool) → is_theirs assets client place s.flow ≡ b → told assets client place (filter (is_between p.source there.0.endpoint) ss) ≡ told assets client place ss →
+            told assets client place (cond b (s ∷ filter (is_between p.source there.0.endpoint) ss) (filter (is_between p.source there.0.endpoint) ss)) ≡ told assets client place (s ∷ ss)
+        by true e more = ap (λ qs. cond (is_theirs assets client place s.flow) (packets_of (controllers s.events)) [] ++ qs) more
+        by false e more = rw e more
 
-  went_parts : (limit : ℕ) (from : Side) (p : PacketValue) (e : SessionEvent) (ss : List Session) (i : ℕ) → Each (IsReady limit) ss → Each (HasOwn assets) ss → GoesOnAt limit from p e (slice_get ss i) → count ours ss ≤ 1 →
-      told ours ss ++ P (sent_second e) ≡ told ours (left_by_packet (Went i e) ss) ++ told ours (after_received (Went i e) ss)
-  went_parts limit from p e ss i h own g few =
-      went_told assets client place limit from p e ss i h own g few
-      ∙ sym (parts ours leaves stays (λ s. not_not (stays s)) (with_event_at i e ss) (let same = same_count_at ours i e ss in omega (arith, few, same)))
-
-  still_told : (ss : List Session) → told ours ss ++ [] ≡ told ours [] ++ told ours ss
-  still_told ss = append-nil (told ours ss)
-
-  module _ (limit tick : ℕ) where
-    second_told : (table : List Session) (p : Result PacketValue PacketRefusal) (r : Received) → Each (IsReady limit) table → Each (HasOwn assets) table → ((f : Flow) (e : SessionEvent) → r ≡ Begun f e → IsOwn assets f) →
-        count ours table ≤ 1 → ReceivesRecord assets limit tick table p r → told ours table ++ P (sent_received r) ≡ told ours (left_by_packet r table) ++ told ours (after_received r table)
-    second_told table p r h own new few g =
-        receives assets limit tick table
-        (λ r. ((f : Flow) (e : SessionEvent) → r ≡ Begun f e → IsOwn assets f) → told ours table ++ P (sent_received r) ≡ told ours (left_by_packet r table) ++ told ours (after_received r table))
-        ((λ new. still_told table), (λ new. still_told table), (λ new. still_told table)) (λ f e b new. begun_told f tick e table (new f e refl) b few)
-        (λ i e s q on new. went_parts limit s q e table i h own on few) p r g new
-
-  received_few : (table : List Session) (r : Received) → count ours table ≤ 1 → count ours (after_received r table) ≤ 1
-  received_few table (Begun f e) few = begun_few_by f e table (ours f) refl few
-  received_few table (Went i e) few = let same = same_count_at ours i e table in let f = fewer ours stays (with_event_at i e table) in omega (arith, few, same, f)
-  received_few table _ few = few
-
-  -- ---- all events
-
-  kept_few : (tick : ℕ) (table : List Session) → count ours table ≤ 1 → count ours (kept tick table) ≤ 1
-  kept_few tick table few = let f = fewer ours (λ s. not (is_expired s.flow s.events tick)) table in omega (arith, few, f)
-
-  with_few : (tick : ℕ) (ts : List SessionEvent) (table : List Session) → count ours table ≤ 1 → count ours (with_events (kept tick table) ts) ≤ 1
-  with_few tick ts table few = let k = kept_few tick table few in let same = same_count ours (kept tick table) ts in omega (arith, k, same)
-
-  ticked_few : (tick : ℕ) (ts : List SessionEvent) (table : List Session) → count ours table ≤ 1 → count ours (ticked ts tick table) ≤ 1
-  ticked_few tick ts table few = let w = with_few tick ts table few in let f = fewer ours stays (with_events (kept tick table) ts) in omega (arith, w, f)
-
-  few_after : (es : List RunEvent) → count ours (table_after es) ≤ 1
-  few_after [] = omega arith
-  few_after (e ∷ es) = received_few (ticked e.ticks (tick_of e.input) (table_after es)) e.received (ticked_few (tick_of e.input) e.ticks (table_after es) (few_after es))
-
-  module _ (law : SessionsAreRight) (limit : ℕ) where
-    pub onward : (es : List RunEvent) → AreRunEvents assets limit es → P (sent es) ≡ told ours (sessions_of es)
-    onward [] h = refl
-    onward (e ∷ es) h =
-        let tick = tick_of e.input in
-        let T = table_after es in
-        let K = kept tick T in
-        let W = with_events K e.ticks in
-        let F = ticked e.ticks tick T in
-        let A = after_received e.received F in
-        let X = filter (λ s. is_expired s.flow s.events tick) T in
-        let Y = filter leaves W in
-        let Z = left_by_packet e.received F in
-        let few = few_after es in
-        let right : Each (IsRightSession limit) K = all_filtered (IsRightSession limit) _ T (all_back (IsRightSession limit) (gone_after es) T (law assets limit es h.1)) in
-        let own_table = table_has (IsOwn assets) es (all_own assets limit es h.1) in
-        let first = ticks_told assets client place limit tick K e.ticks right (kept_has (IsOwn assets) tick T own_table) h.0.ticks (kept_few tick T few) in
-        let second = second_told limit tick F e.input.packet e.received (all_ready limit tick K e.ticks right h.0.ticks) (found_has_all (IsOwn assets) tick e.ticks T own_table)
-        (λ f b is. (begun_in assets limit e es h f b is).2.own) (ticked_few tick e.ticks T few) h.0.received in
-        let by_clock = flat_map sent_first e.ticks in
-        let by_packet = sent_received e.received in
-        picked_append assets client place (sent es) (by_clock ++ by_packet) ∙ ap (λ ps. P (sent es) ++ ps) (picked_append assets client place by_clock by_packet)
-        ∙ ap (λ ps. ps ++ (P by_clock ++ P by_packet)) (onward es h.1 ∙ told_append ours (gone_after es) T)
-        ∙ chain (told ours (gone_after es)) (told ours T) (told ours X) (told ours K) (P by_clock) (told ours W) (told ours Y) (told ours F) (P by_packet) (told ours Z) (told ours A)
-        (sym (parts ours (λ s. is_expired s.flow s.events tick) (λ s. not (is_expired s.flow s.events tick)) (λ s. refl) T few)) first
-        (sym (parts ours leaves stays (λ s. not_not (stays s)) W (with_few tick e.ticks T few))) second
-        ∙ sym (told_append ours (gone_after es ++ (X ++ (Y ++ Z))) A
-        ∙ ap (λ ps. ps ++ told ours A) (told_append ours (gone_after es) (X ++ (Y ++ Z)) ∙ ap (λ ps. told ours (gone_after es) ++ ps) (told_append ours X (Y ++ Z) ∙ ap (λ ps. told ours X ++ ps) (told_append ours Y Z))))
+    pub onward : picked assets client place (sent es) ≡ told assets client place (sessions_of es)
+    onward =
+        let mine = filter (is_between p.source there.0.endpoint) (sessions_of es) in
+        narrowed (goes_to_place assets client place) (goes_between p.source there.0.endpoint) (λ x g. ap (λ b. b || goes_from there.0.endpoint p.source x) (sym (goes_is x) ∙ g)) (sent es)
+        ∙ ap (picked assets client place) (sent_holds law assets limit flow own es are rises).content
+        ∙ all_told assets client place limit mine (all_filtered (IsRightSession limit) _ (sessions_of es) (law assets limit es are))
+        (all_filtered (HasOwn assets) _ (sessions_of es) (sessions_have (IsOwn assets) es (all_own assets limit es are)))
+        ∙ told_same (sessions_of es)

@@ -1,6 +1,7 @@
 -- A SYN comes before every packet with ACK.
 use Rattle.std.proofs.Common.{◌≡◌, ◌||◌, ◌&&◌, ◌==◌, ℕ, Bool, true, false, inl, inr, List, [], ◌∷◌, ◌++◌, length, refl, sym, ap, ◌∙◌, subst, MatchBool, nat_lt}
-use Rattle.cf_unobjected.proofs.Common.{AllByRecursion, AreEvents, Flow, LegEvent, PacketValue, SessionEvent, Side, SynsFirst, all_both, cases_Bool, controller_ends, controllers, false≢true, greeted_by, has_syn, legs_right, packets_of, said_by, sent_in, true≢false}
+use Rattle.cf_unobjected.proofs.Common.{AllByRecursion, AreEvents, Flow, LegEvent, PacketValue, SessionEvent, SynsFirst, all_both, cases_Bool, controller_ends, controllers, false≢true, greeted_by, has_syn, legs_right, packets_of, said_by, sent_in, true≢false}
+use Rattle.cf_view.specs.declared.Side.{Side}
 use Rattle.std.proofs.lemmas.Bool.{or_parts}
 use Rattle.cf_isolation.proofs.Writing.{again_are, came_are, ending_are, greeted, repeat_is}
 use Rattle.cf_leg.specs.Emits.{AllRight, EndsBy, IsGreeting, IsRight, SpeaksOpen, cut_packet, fired_at}

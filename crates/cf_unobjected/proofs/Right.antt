@@ -14,7 +14,7 @@ use Rattle.cf_dnptrans.specs.declared.assembly.SegmentAnswer.{SegmentAnswer}
 use Rattle.cf_lane.specs.Acts.{admission, by_refusal, fate_of_acts, first_refusal, refusal_or}
 use Rattle.cf_lane.specs.Rates.{Says, is_spent, said, says_at, unless_spent, used_at}
 use Rattle.cf_dnptrans.specs.Transport.{fitting, is_linked, last_fragment, octets_of, since_first}
-use Rattle.cf_lane.specs.Dnp3.{answer_now, segments_of, fate_of_read}
+use Rattle.cf_lane.specs.Dnp3.{answer_now, fate_of_read, segments_of}
 use Rattle.cf_lane.specs.Fate.{HaveFates, HasItemFate}
 use Rattle.cf_lane.specs.Iec104.{asdu_in, asdu_refused, fate_by_form, fate_of_asdu, or_cut}
 use Rattle.cf_lane.specs.Item.{Item, Took}

@@ -1,7 +1,7 @@
 -- The flows of a run's output capture have no objection.
 use Rattle.std.proofs.Common.{◌≡◌, ℕ, ◌+◌, ◌≤◌, ◌^◌, Bool, true, false, List, [], ◌∷◌, ◌++◌, cond, if◌then◌else◌, map, slice_get, Some, None, option_map, refl, sym, ap, ◌∙◌, subst, arith, drop, filter, length, reverse}
-use Rattle.cf_unobjected.proofs.Common.{AllByRecursion, AreFlowsOf, AreRead, AreReadBy, AreRunEvents, Asset, Endpoint, Flow, IsFlowOf, IsReadBy, Numbered, PacketValue, Reading, RunEvent, Sent, Watched, Whole, all_front, client_of, first_wrong, heard_on, is_between, objected, objection_of, objection_to, pair_of, sessions_of, sessions_on, sooner, wrong_by}
-use Rattle.cf_isolation.proofs.Lists.{all_map}
+use Rattle.cf_unobjected.proofs.Common.{AllByRecursion, AreFlowsOf, AreRead, AreReadBy, AreRunEvents, Asset, Endpoint, Flow, IsFlowOf, IsReadBy, Numbered, PacketValue, Reading, RunEvent, Sent, Watched, Whole, all_front, all_map, client_of, first_wrong, goes_to_place, heard_on, is_between, objected, objection_of, objection_to, pair_of, sessions_of, sessions_on, sooner, wrong_by}
+use Rattle.cf_run.specs.Selected.{Rises}
 use Rattle.cf_isolation.specs.ReadBack.{ReadsAs, RunsAreReadBack, output_form, record_by}
 use Rattle.cf_records.specs.Capture.{AreRecords, FileEnd, LastPlace}
 use Rattle.cf_records.specs.Form.{first_place}
@@ -12,9 +12,9 @@ use Rattle.cf_unobjected.specs.Unobjected.{IsUnobjected}
 use Rattle.cf_unobjected.specs.OneFlow.{HasNoObjection, OneFlowIsUnobjected, numbered_from}
 use Rattle.cf_unobjected.specs.PairFlows.{IsOfSession}
 use Rattle.cf_unobjected.specs.SelfJudged.{RunsAreUnobjected, WatchedRunsAreUnobjected}
-use Rattle.cf_unobjected.specs.Separate.{goes_to_place, is_to}
-use Rattle.cf_unobjected.proofs.Built.{IsTheirs, build, sessions_found}
-use Rattle.cf_unobjected.proofs.Halves.{packets}
+use Rattle.cf_unobjected.specs.Separate.{is_to}
+use Rattle.cf_unobjected.proofs.Built.{Built, IsTheirs, build, sessions_found}
+use Rattle.cf_unobjected.proofs.Halves.{packets, picked}
 use Rattle.cf_unobjected.proofs.Heard.{watched_heard}
 use Rattle.cf_unobjected.proofs.OfPackets.{of_packets}
 use Rattle.cf_unobjected.proofs.OneReading.{one_reading}
@@ -72,17 +72,27 @@ module _ (one : OneFlowIsUnobjected) (law : SessionsAreRight) (assets : List Ass
         (record { silent = h.silent; are_silent = h.are_silent; heard = h.session.first ∷ h.session.rest; packets = h.holds.packets; is = h.is });
   }
 
-  all_fine : (events : List RunEvent) → AreRunEvents assets limit events → AllByRecursion (λ w. IsFine assets w.client w.asset w) (heard_on assets (numbered_from 1 (sent events)) [])
-  all_fine events are =
-      let heard = numbered_from 1 (sent events) in
-      all_of_pairs (IsFine assets) (heard_on assets heard [])
-      (λ client asset.
-      (let theirs_heard = filter (is_to assets client asset) heard in
-      let is = picked_heard (goes_to_place assets client asset) heard ∙ ap (filter (goes_to_place assets client asset)) (heard_all 1 (sent events)) ∙ onward assets client asset law limit events are in
-      let built = build assets limit client asset (sessions_of events) (law assets limit events are) (sessions_found assets limit events are) theirs_heard is in
-      let of = all_of asset (IsTheirs assets limit client asset) built.sessions built.spoken built.theirs in
-      subst (AllByRecursion (IsFine assets client asset)) (sym (of_packets client asset assets heard [] ∙ built.is []))
-      (all_map (IsOfSession (IsTheirs assets limit client asset)) (IsFine assets client asset) (of_session client asset) (sessions_on asset built.sessions []) of)))
+  module _ (events : List RunEvent) (are : AreRunEvents assets limit events) (rises : Rises events) where
+    abbrev heard : List Numbered
+    heard = numbered_from 1 (sent events)
+
+    -- what is heard of a client and an asset is nothing, or what its sessions of theirs sent
+    built_of : (client : Endpoint) (asset : ℕ) (ns : List Numbered) → filter (is_to assets client asset) heard ≡ ns → Built assets limit client asset ns
+    built_of client asset [] e = record { sessions = []; spoken = tt; theirs = tt; is = λ fs. refl }
+    built_of client asset (n ∷ ns) e =
+        let is : map (λ (m : Numbered). m.packet) (n ∷ ns) ≡ picked assets client asset (sent events) =
+        ap (map (λ (m : Numbered). m.packet)) (sym e) ∙ picked_heard (goes_to_place assets client asset) heard ∙ ap (filter (goes_to_place assets client asset)) (heard_all 1 (sent events)) in
+        build assets limit client asset (sessions_of events) (law assets limit events are) (sessions_found assets limit events are) (n ∷ ns)
+        (is ∙ onward assets client asset law limit events are rises n.packet _ (sym is))
+
+    all_fine : AllByRecursion (λ w. IsFine assets w.client w.asset w) (heard_on assets heard [])
+    all_fine =
+        all_of_pairs (IsFine assets) (heard_on assets heard [])
+        (λ client asset.
+        (let built = built_of client asset (filter (is_to assets client asset) heard) refl in
+        let of = all_of asset (IsTheirs assets limit client asset) built.sessions built.spoken built.theirs in
+        subst (AllByRecursion (IsFine assets client asset)) (sym (of_packets client asset assets heard [] ∙ built.is []))
+        (all_map (IsOfSession (IsTheirs assets limit client asset)) (IsFine assets client asset) (of_session client asset) (sessions_on asset built.sessions []) of)))
 
 -- ---- the judgement
 
@@ -116,7 +126,7 @@ self_judged one law back one_list assets limit given out log summary run small t
     let ws = watched_heard assets newest all records reads.packets in
     let of : AreFlowsOf (heard_on assets (numbered_from 1 all) []) flows = subst (λ l. AreFlowsOf l flows) ws of_records in
     let of_readings = subst (AreFlowsOf (heard_on assets (numbered_from 1 all) [])) (sym judgement.of_flows) of in
-    judgement.objection ∙ none_of assets (heard_on assets (numbered_from 1 all) []) judgement.readings (all_fine one law assets limit small run.events run.are) of_readings judgement.are_read
+    judgement.objection ∙ none_of assets (heard_on assets (numbered_from 1 all) []) judgement.readings (all_fine one law assets limit small run.events run.are run.rises) of_readings judgement.are_read
 
 -- the file that holds them has the form that is written
 pub watched_judged : RunsAreReadBack → RunsAreUnobjected → WatchedRunsAreUnobjected
