@@ -1,6 +1,6 @@
-use Rattle.std.proofs.Common.{◌≡◌, ◌⊎◌, refl, subst}
+use Rattle.std.proofs.Common.{◌≡◌, ◌⊎◌, Some, refl, subst}
 use Rattle.cf_words.specs.Command.{Command, World}
-use Rattle.cf_box.specs.Ends.{Ends, TellsCounts}
+use Rattle.cf_box.specs.Ends.{Ends, TellsEnding}
 use Rattle.cf_ending.specs.Outside.{Outside, RisesIn, RoseIn, outside_value}
 use Rattle.cf_box.specs.Status.{AsksItsPair, CutsItsCapture, CutsItsStream, DeniesWhatItAsks, EndsItsIdles, ExceedsItsCells, ExceedsItsRules, LacksItsAsset, RefusesItsCapture, RefusesItsPolicy, inputs_of, outputs_of}
 use Rattle.cf_words.specs.Words.{command_value}
@@ -43,11 +43,11 @@ returns-in-Some-clause-ends g c =
     let e : Explains (command g c) (before g c) (after g c) c.report.result = explains g c in
     subst (λ words. Ends words (before g c) (after g c) c.report.result) c.in-Some.ensures.command (e.r, e.middle, e.meets, e.reports)
 
-pub returns-in-Some-clause-counted : goal.returns-in-Some-clause-counted
+pub returns-in-Some-clause-tells : goal.returns-in-Some-clause-tells
 unfolding explains
-returns-in-Some-clause-counted g c =
+returns-in-Some-clause-tells g c =
     let e : Explains (command g c) (before g c) (after g c) c.report.result = explains g c in
-    subst (λ words. TellsCounts words (before g c) (after g c) c.report.result c.counted.result) c.in-Some.ensures.command (e.r, e.middle, e.meets, e.reports, c.counted.ensures)
+    subst (λ words. TellsEnding words (before g c) (after g c) c.report.result (Some c.perform-ended.result)) c.in-Some.ensures.command (e.r, e.middle, e.meets, e.reports, refl)
 
 pub returns-in-Some-clause-read : goal.returns-in-Some-clause-read
 returns-in-Some-clause-read g c = λ is.
