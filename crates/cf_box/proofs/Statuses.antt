@@ -222,12 +222,15 @@ module _ (failed : Type 0) (status : ℕ) where
   -- each record of a capture has its line, and nothing else was told
   lists_from : (before middle after : Outside) (file : List ℕ) (r : Result Done Stop) → Meets (Packets file) before middle r → Reports r middle
       after status →
-      IsOf r failed status → status ≡ 0 → Lists file before after done.Listed
-  lists_from before middle after file (Ok done.Listed) m reports h is = record {
-    lists = subst (λ s. ListsFile (before.files.content file) before.sink s (Ok done.Listed)) (sym reports.prints.1) m.lists;
-    content = ap (λ f. f.content) reports.files ∙ m.content;
-    pair = reports.pair ∙ m.pair;
-  }
+      IsOf r failed status → status ≡ 0 → (dropped : ℕ) × Lists file before after (done.Listed dropped)
+  lists_from before middle after file (Ok (done.Listed dropped)) m reports h is = (
+    dropped,
+    record {
+      lists = subst (λ s. ListsFile (before.files.content file) before.sink s (Ok (done.Listed dropped))) (sym reports.prints.1) m.lists;
+      content = ap (λ f. f.content) reports.files ∙ m.content;
+      pair = reports.pair ∙ m.pair;
+    },
+  )
   lists_from before middle after file (Ok _) m reports h is = cc (m.lists.answers.0)
   lists_from before middle after file (Err s) m reports h is = absurd (not_done s h is)
 
@@ -316,6 +319,6 @@ module _ {c : Command} {before after : Outside} {status : ℕ} (e : Explains c b
       passes_from Unprinted status law keep before e.middle after policy name client names e.reports.files e.r
       (subst (λ k. Meets k before e.middle e.r) is e.meets) explained
 
-  pub lists_told : (file : List ℕ) → c ≡ Packets file → status ≡ 0 → Lists file before after done.Listed
+  pub lists_told : (file : List ℕ) → c ≡ Packets file → status ≡ 0 → (dropped : ℕ) × Lists file before after (done.Listed dropped)
   lists_told file is =
       lists_from Unprinted status before e.middle after file e.r (subst (λ k. Meets k before e.middle e.r) is e.meets) e.reports explained

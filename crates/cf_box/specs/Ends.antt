@@ -13,7 +13,7 @@ use Rattle.cf_words.specs.Command.{Review, Run, Relay, World, Sift, asset_name, 
 use Rattle.cf_words.specs.Command.{policy_file, Draft, Learn}
 use Rattle.cf_box.specs.Compare.{CompareLeaves, Compares, DeniesInclusion, FilesExceed}
 use Rattle.cf_box.specs.Draft.{CapturesShowTooMuch, DraftLeaves, SomeCuts, SomeRefuses, WritesDraft}
-use Rattle.cf_ending.specs.Ending.{Puts, Reports, counted_in}
+use Rattle.cf_ending.specs.Ending.{Puts, Reports}
 use Rattle.cf_box.specs.Judge.{JudgesClean, Objects}
 use Rattle.cf_box.specs.Watching.{ReviewCuts, ReviewRefuses, WatchCuts, WatchRefuses}
 use Rattle.cf_box.specs.Learn.{FilesShowTooMuch, LearnLeaves, WritesLearned}
@@ -31,7 +31,6 @@ use Rattle.cf_ending.specs.declared.CaptureRefusal.{CaptureRefusal}
 use Rattle.cf_ending.specs.declared.Done.{Done}
 use Rattle.cf_ending.specs.declared.Stop.{Stop}
 use Rattle.cf_ending.specs.declared.Stop.TheVariants as stop
-use Rattle.cf_run.specs.declared.summary.Summary.{Summary}
 
 -- the policy that a command makes for itself means one: it can be refused only where its file does not tell what it holds
 abbrev pub RefusesMadePolicy : Command → Outside → Type 0
@@ -195,8 +194,9 @@ Ends None before after status =
     Puts (codes "usage\n") 2 2 before.sink after.sink status × (after.files ≡ before.files) × (after.pair ≡ before.pair)
 Ends (Some c) before after status = (r : Result Done Stop) × (middle : Outside) × Meets c before middle r × Reports r middle after status
 
--- what was counted is told beside the text: that of the answer with which the command ended so; where the words have no form, nothing
-abbrev pub TellsCounts : Option Command → (before after : Outside) → (status : ℕ) → Option Summary → Type 0
-TellsCounts None before after status told = told ≡ None
-TellsCounts (Some c) before after status told =
-    (r : Result Done Stop) × (middle : Outside) × Meets c before middle r × Reports r middle after status × (told ≡ counted_in r)
+-- how the command ended is told beside the text: the very answer that explains the files, and of which the status and the text are made;
+-- nothing where the words have no form
+abbrev pub TellsEnding : Option Command → (before after : Outside) → (status : ℕ) → Option (Result Done Stop) → Type 0
+TellsEnding None before after status told = told ≡ None
+TellsEnding (Some c) before after status told =
+    (r : Result Done Stop) × (middle : Outside) × Meets c before middle r × Reports r middle after status × (told ≡ Some r)

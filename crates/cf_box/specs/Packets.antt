@@ -14,7 +14,7 @@ use Rattle.cf_ending.specs.declared.CaptureRefusal.{CaptureRefusal}
 use Rattle.cf_ending.specs.declared.CaptureRefusal.TheVariants as refusal
 use Rattle.cf_ending.specs.Captures.{EndsAt, Refuses, form_refusal}
 use Rattle.cf_ending.specs.Outside.{Outside, SinkValue}
-use Rattle.cf_ending.specs.PacketLine.{lines_from}
+use Rattle.cf_ending.specs.PacketLine.{dropped_in, lines_from}
 use Rattle.cf_ending.specs.declared.Done.{Done}
 use Rattle.cf_ending.specs.declared.Done.TheVariants as done
 use Rattle.cf_ending.specs.declared.Stop.{Stop}
@@ -42,11 +42,11 @@ open_stop (opened.Refused of) = stop.CaptureRefused (form_refusal of)
 
 -- ---- what a listing did
 
--- what an answer tells of a capture's records, which end so, and of what was put: the lines of all of them; where a read failed,
--- those of the first ones; where a put failed, a prefix of the lines
+-- what an answer tells of a capture's records, which end so, and of what was put: the lines of all of them, and at their end how many have
+-- no segment; where a read failed, those of the first ones; where a put failed, a prefix of the lines
 abbrev pub ListingAnswers : List Record → LastPlace → (before after : Option (List ℕ)) → (failed : Type 0) → Result Done Stop → Type 0
 ListingAnswers records last before after failed (Ok d) =
-    (d ≡ done.Listed) × (last.found ≡ FileEnd) × (after ≡ printed_with before (lines_from 1 records))
+    (d ≡ done.Listed (dropped_in records)) × (last.found ≡ FileEnd) × (after ≡ printed_with before (lines_from 1 records))
 ListingAnswers records last before after failed (Err (stop.CaptureCut place)) =
     (last ≡ record { place = place; found = Cut }) × (after ≡ printed_with before (lines_from 1 records))
 ListingAnswers records last before after failed (Err (stop.CaptureRefused refusal.TooLong)) =
