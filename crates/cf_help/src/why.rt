@@ -35,7 +35,7 @@ const TOO_LONG: PolicyRefusal = PolicyRefusal {
     rule: 0,
 };
 
-/// The files that a command reads, but for the captures of a draft; an empty name stands for none.
+/// The files that a command reads, but for the captures of a recording; an empty name stands for none.
 fn inputs_of<'a>(command: &Command<'a>) -> [&'a str; 2] {
     match command {
         Command::Check { policy }
@@ -47,13 +47,8 @@ fn inputs_of<'a>(command: &Command<'a>) -> [&'a str; 2] {
             policy,
             capture,
             ..
-        }
-        | Command::Review {
-            policy,
-            capture,
-            ..
         } => [*policy, *capture],
-        Command::Draft { policy, .. } => [*policy, ""],
+        Command::Draft { policy, .. } | Command::Review { policy, .. } => [*policy, ""],
         Command::Packets { capture } => [*capture, ""],
         Command::Run { policy, names } => [*policy, names.capture],
         Command::Sift { policy, names, .. } => [*policy, names.stream],
@@ -61,10 +56,10 @@ fn inputs_of<'a>(command: &Command<'a>) -> [&'a str; 2] {
     }
 }
 
-/// The captures of a draft.
+/// The captures that a command reads as one recording.
 fn captures_of<'a>(command: &Command<'a>) -> &'a [String] {
     match command {
-        Command::Draft { captures, .. } => *captures,
+        Command::Draft { captures, .. } | Command::Review { captures, .. } => *captures,
         _ => &[],
     }
 }
@@ -166,9 +161,9 @@ fn remark<R: FileSystem + Eprint + AllocGlobal>(
         }
         Command::Review {
             policy,
-            capture,
+            captures,
             ..
-        } => remark_on_reviewed(rt, policy, capture, printed, files),
+        } => remark_on_reviewed(rt, policy, captures, printed, files),
         Command::Packets { capture } => remark_on_listed(rt, capture, printed, files),
         Command::Run { names, .. } => remark_on_run(rt, names.capture, told, files),
         _ => Ok(()),
@@ -229,13 +224,9 @@ fn explain_bad_capture<R: FileSystem + Eprint + AllocGlobal>(
             explain_capture(rt, LinkSet::Plain, names.capture, true, files)
         }
         Command::Judge { capture, .. } | Command::Learn { capture, .. }
-            if status == CAPTURE_REFUSED => explain_watched(rt, LinkSet::Plain, capture, files),
-        Command::Draft { captures, .. } => explain_captures(rt, captures, status, files),
-        Command::Review { capture, .. } if status == CAPTURE_REFUSED => {
-            explain_watched(rt, LinkSet::Recorded, capture, files)
-        }
-        Command::Review { capture, .. } => {
-            explain_capture(rt, LinkSet::Recorded, capture, false, files)
+            if status == CAPTURE_REFUSED => explain_watched(rt, capture, files),
+        Command::Draft { captures, .. } | Command::Review { captures, .. } => {
+            explain_captures(rt, captures, files)
         }
         Command::Judge { capture, .. }
         | Command::Learn { capture, .. }
@@ -456,54 +447,27 @@ fn remark_on_drafted<R: Eprint>(rt: &R, out: &str, printed: &str) -> io::Result<
     )
 }
 
-/// The first of the captures of a draft that is refused or cut, with its number among them, and why. Of a pipe, which cannot be read a
-/// second time, no more is said.
+/// The first of the captures of a recording that is refused or cut, and why; where there are several, with its number among them. Of a
+/// pipe, which cannot be read a second time, no more is said.
 fn explain_captures<R: FileSystem + Eprint + AllocGlobal>(
     rt: &R,
     captures: &[String],
-    status: u8,
     files: &mut RealFiles<'_, R>,
 ) -> io::Result<()> {
     for (place, capture) in captures.iter().enumerate() {
         let name = capture.as_str();
-        if is_bad_capture(rt, name, status, files)? {
-            let number = place.saturating_add(1);
-            eprintln!(rt;
-                "cmdwall: capture {number} of the words, {name}, is at fault; nothing was written"
-            )?;
-            return explain_one(rt, name, status, files);
+        let message = capture_message(rt.alloc(), LinkSet::Recorded, name, false, files)?;
+        if let Some(message) = message {
+            if captures.len() > 1 {
+                let number = place.saturating_add(1);
+                eprintln!(rt;
+                    "cmdwall: capture {number} of the words, {name}, is at fault; nothing was written"
+                )?;
+            }
+            return eprintln!(rt; "cmdwall: {message}");
         }
     }
     Ok(())
-}
-
-fn is_bad_capture<R: FileSystem + AllocGlobal>(
-    rt: &R,
-    name: &str,
-    status: u8,
-    files: &mut RealFiles<'_, R>,
-) -> io::Result<bool> {
-    let mut octet = [0u8; 1];
-    if status == CAPTURE_REFUSED {
-        if let ReadAnswer::Got(_) = files.read_at(name, CAPTURE_LIMIT, &mut octet) {
-            return Ok(true);
-        }
-    }
-    let message = capture_message(rt.alloc(), LinkSet::Recorded, name, false, files)?;
-    Ok(message.is_some())
-}
-
-fn explain_one<R: FileSystem + Eprint + AllocGlobal>(
-    rt: &R,
-    name: &str,
-    status: u8,
-    files: &mut RealFiles<'_, R>,
-) -> io::Result<()> {
-    if status == CAPTURE_REFUSED {
-        explain_watched(rt, LinkSet::Recorded, name, files)
-    } else {
-        explain_capture(rt, LinkSet::Recorded, name, false, files)
-    }
 }
 
 /// Why one policy is not included in another.
@@ -564,7 +528,6 @@ fn explain_asset<R: FileSystem + Eprint + AllocGlobal>(
 /// Why a capture is refused that is watched: it is too long, or its octets are at fault. A pipe cannot be read a second time.
 fn explain_watched<R: FileSystem + Eprint + AllocGlobal>(
     rt: &R,
-    kinds: LinkSet,
     name: &str,
     files: &mut RealFiles<'_, R>,
 ) -> io::Result<()> {
@@ -575,7 +538,9 @@ fn explain_watched<R: FileSystem + Eprint + AllocGlobal>(
                 "cmdwall: {name}: it has more than 67,108,864 bytes, and no longer capture is watched"
             )
         }
-        ReadAnswer::End | ReadAnswer::Failed => explain_capture(rt, kinds, name, false, files),
+        ReadAnswer::End | ReadAnswer::Failed => {
+            explain_capture(rt, LinkSet::Plain, name, false, files)
+        }
     }
 }
 

@@ -1,38 +1,41 @@
 -- The records of a capture that were taken so far, behind those of the captures before.
-use Rattle.std.proofs.Common.{◌≡◌, ◌+◌, ◌≤◌, ℕ, suc, All, List, [], ◌∷◌, ◌++◌, ◌∙◌, ap, length, map, reverse, slice_get, Some, Ok, Err, refl, sym, subst, arith}
+use Rattle.std.proofs.Common.{◌≡◌, ◌+◌, ◌≤◌, ℕ, suc, All, List, [], ◌∷◌, ◌++◌, ◌∙◌, ◌^◌, ap, length, map, reverse, slice_get, Result, Some, Ok, Err, refl, vec_items, sym, subst, arith}
 use Rattle.std.specs.List.{AllByRecursion}
 use Rattle.std.proofs.lemmas.List.{map-append, reverse-append, reverse-reverse}
 use Rattle.std.proofs.lemmas.List.Elements.{All-from_recursion}
+use Rattle.std.proofs.lemmas.Result.{IfOk-weaker}
+use Rattle.std.specs.Prelude.{IfOk}
 use Rattle.cf_outside.specs.Files.{Content, IsAtEnd}
 use Rattle.cf_policy.specs.declared.Asset.{Asset}
 use Rattle.cf_records.proofs.Behind.{StandsBehind}
-use Rattle.cf_records.specs.Capture.{AtPlace, FileEnd, IsLast, Record}
+use Rattle.cf_records.specs.Capture.{AtPlace, FileEnd, IsLast, Large, Record}
 use Rattle.cf_records.specs.Form.{first_place}
 use Rattle.cf_records.specs.Reader.{FindsRecord, HasFormIn, ReaderValue}
 use Rattle.cf_records.specs.declared.Form.{Form}
 use Rattle.cf_records.specs.declared.NextRecord.TheVariants as next
 use Rattle.cf_view.specs.declared.LinkSet.TheVariants as set
 use Rattle.cf_watch.specs.Flow.{AreFlowsOf}
-use Rattle.cf_watch.specs.FlowValue.{AreStretchesFor, FlowValue, IsForAsset, StretchValue, flow_value}
-use Rattle.cf_watch.specs.Recorded.{IsCaptureIn, IsCaptureOf, IsReadTo, IsRecordingOf, StopsAs}
-use Rattle.cf_watch.specs.Recorder.{IsRecorderFor, IsRecorderOf}
+use Rattle.cf_watch.specs.FlowValue.{AreStretchesFor, FlowValue, IsForAsset, StretchValue, flow_value, stretch_value}
+use Rattle.cf_watch.specs.Recorded.{IsCaptureIn, IsCaptureOf, IsReadTo, IsRecordingOf, StopsAs, large_by}
+use Rattle.cf_watch.specs.Recorder.{HasRecorded, IsRecorderFor, IsRecorderOf}
 use Rattle.cf_watch.specs.Trail.{IsHeard, IsWatchOf}
 use Rattle.cf_watch.specs.Seen.{seen_by}
 use Rattle.cf_watch.specs.Stretches.{all_stretches}
-use Rattle.cf_watch.specs.Watch.{FailsAs, HasFlows, kinds_by}
+use Rattle.cf_watch.specs.Watch.{HasFlows, kinds_by}
 use Rattle.cf_watch.specs.Watched.{Watched, watched}
 use Rattle.cf_watch.specs.declared.fault.TheConstants.{CAPTURE_LIMIT}
-use Rattle.cf_watch.specs.declared.fault.WatchFault.{WatchFault}
 use Rattle.cf_watch.specs.declared.fault.WatchFault.TheVariants as fault
 use Rattle.cf_watch.specs.declared.fault.WatchRefusal.TheVariants as refusal
 use Rattle.cf_watch.specs.declared.recorder.Recorder.{Recorder}
 use Rattle.cf_watch.specs.declared.scope.Scope.{Scope}
 use Rattle.cf_watch.specs.declared.scope.Scope.TheVariants as scope
 use Rattle.cf_watch.specs.declared.flow.Flow.{Flow}
+use Rattle.cf_watch.specs.declared.flow.Recording.{Recording}
 use Rattle.cf_watch.specs.declared.watching.Trail.{Trail}
 use Rattle.cf_watch.proofs.ForAssets.{are_for_seen}
 use Rattle.cf_watch.proofs.Seen.{watched_is_seen}
 use Rattle.cf_watch.proofs.StretchFlows.{stretches_are_for}
+use Rattle.cf_watch.proofs.Lengths.{large_is_long}
 use Rattle.cf_watch.proofs.Leading.{Leads, leads_first, leads_on, leads_to}
 
 -- ---- records, one after the other
@@ -84,6 +87,13 @@ module _ {by : Scope} {assets : List Asset} {file : Content} {start : Form} {rea
     place = place;
     are_records = leads_to file start reader place (reverse so.newest) FileEnd so.leads stands tt;
   }
+
+module _ {assets : List Asset} {file : Content} {start : Form} {reader : ReaderValue} {old now : Recorder} where
+  -- they end below an octet at place 2^40
+  pub large_stops : {by : Scope} (so : SoFar by assets file start reader old now) (place : ℕ) → StandsBehind file reader place Large → place ≤ 2 ^ 40 →
+      StopsAs by file (fault.Refused (large_by by))
+  large_stops {by = scope.Connections} so place stands near = (refl, large_is_long file reader place CAPTURE_LIMIT stands near (omega arith))
+  large_stops {by = scope.Recording} so place stands near = (refl, (place, read_to so place Large stands tt))
 
 -- records behind others, each in the order of the captures
 pub taken_behind : (assets : List Asset) (old new : Recorder) (newest earlier : List Record) →
@@ -138,13 +148,29 @@ has_flows assets file newest r short capture is = record {
   are_flows = subst (λ ws. AreFlowsOf ws (map flow_value r.watch.flows.items)) (sym (watched_is_seen assets newest)) (flows_now scope.Connections assets newest r is);
 }
 
--- one that is not read to its end was tested for its length before
-pub fails_short : (file : Content) → IsAtEnd file CAPTURE_LIMIT → (why : WatchFault) → StopsAs scope.Connections file why → FailsAs set.Plain file why
-fails_short file short (fault.Cut at) s = record { short = short; form = s.form; has_form = s.has_form; records = s.records; are_records = s.are_records }
-fails_short file short (fault.Refused refusal.TooLong) s = (s.0, record { short = short; form = s.1.form; has_form = s.1.has_form; records = s.1.records; are_records = s.1.are_records })
-fails_short file short (fault.Refused (refusal.Block of)) s = (s.0, record { short = short; form = s.1.form; has_form = s.1.has_form; records = s.1.records; are_records = s.1.are_records })
-fails_short file short (fault.Refused (refusal.Header of)) s = (short, s)
-fails_short file short (fault.Refused refusal.Long) s = s.1
-fails_short file short (fault.Refused refusal.Large) s = let none = s.0 in cc
-fails_short file short fault.Read s = tt
-fails_short file short fault.NoMemory s = tt
+-- what is made of all that was kept
+module _ {E : Type 0} (self : Recorder) (r : Result Recording E) where
+  abbrev KeepsStretches : Recording → Type 0
+  KeepsStretches x = (number : ℕ) (ws : List Watched) → IsWatchOf number self.watch ws → map stretch_value x.stretches.items ≡ all_stretches ws (map flow_value self.watch.flows.items)
+
+  pub finished : IfOk r (λ x. x.flows ≡ self.watch.flows) → IfOk r (λ x. x.stamps ≡ self.stamps) → IfOk r KeepsStretches →
+      IfOk r (λ x. (assets : List Asset) (records : List Record) → IsRecorderOf assets records self → IsRecordingOf assets records (map flow_value x.flows.items) (map stretch_value x.stretches.items) x.stamps.items)
+  finished flows stamps others = made r flows stamps others
+    where
+      made : (r : Result Recording E) → IfOk r (λ x. x.flows ≡ self.watch.flows) → IfOk r (λ x. x.stamps ≡ self.stamps) → IfOk r KeepsStretches →
+          IfOk r (λ x. (assets : List Asset) (records : List Record) → IsRecorderOf assets records self → IsRecordingOf assets records (map flow_value x.flows.items) (map stretch_value x.stretches.items) x.stamps.items)
+      made (Ok x) flows stamps others = λ assets records is.
+          subst (λ fs. IsRecordingOf assets records fs (map stretch_value x.stretches.items) x.stamps.items) (ap (λ fs. map flow_value (vec_items fs)) (sym flows))
+          (subst (λ ss. IsRecordingOf assets records (map flow_value self.watch.flows.items) (map stretch_value x.stretches.items) ss) (ap (λ ss. vec_items ss) (sym stamps))
+          (is_recording assets records self (map stretch_value x.stretches.items) is (others self.count (seen_by scope.Recording assets (reverse records)) is.heard)))
+      made (Err e) flows stamps others = flows
+
+  pub finished_for : IfOk r (λ x. x.flows ≡ self.watch.flows) → IfOk r (λ x. (assets : List Asset) → HasRecorded assets self → All (IsForAsset assets) (map flow_value x.flows.items))
+  finished_for flows = IfOk-weaker r (λ x. x.flows ≡ self.watch.flows) (λ x. (assets : List Asset) → HasRecorded assets self → All (IsForAsset assets) (map flow_value x.flows.items))
+      (λ x same assets has.
+      subst (All (IsForAsset assets)) (ap (λ fs. map flow_value (vec_items fs)) (sym same)) (for_assets scope.Recording assets (reverse has.0) self has.1)) flows
+
+  pub finished_for_too : IfOk r KeepsStretches → IfOk r (λ x. (assets : List Asset) → HasRecorded assets self → AreStretchesFor assets (map stretch_value x.stretches.items))
+  finished_for_too others = IfOk-weaker r KeepsStretches (λ x. (assets : List Asset) → HasRecorded assets self → AreStretchesFor assets (map stretch_value x.stretches.items))
+      (λ x keeps assets has.
+      for_assets_too scope.Recording assets (reverse has.0) self has.1 (map stretch_value x.stretches.items) (keeps self.count (seen_by scope.Recording assets (reverse has.0)) has.1.heard)) others

@@ -1,5 +1,5 @@
 //! The records of captures, those of one capture behind those of another, as one list.
-ghost use Rattle.std.specs.Prelude.{◌≡◌, ◌<◌, ◌++◌, ◌∷◌, ◌^◌, [], All, List, OnOk, IfOk, IfErr, Ok, true, IsErrOf, length, map, reverse};
+ghost use Rattle.std.specs.Prelude.{◌≡◌, ◌<◌, ◌++◌, ◌∷◌, ◌^◌, [], All, List, OnOk, IfOk, IfErr, Ok, true, IsErrOf, ℕ, length, map, reverse};
 ghost use Rattle.cf_outside.specs.Frames.{OnlyReads};
 ghost use Rattle.cf_policy.specs.declared.Asset.{Asset as AssetFields};
 ghost use Rattle.cf_records.specs.Capture.{Record};
@@ -8,7 +8,10 @@ ghost use Rattle.cf_records.specs.Reader.{HasFormIn};
 ghost use Rattle.cf_watch.specs.FlowValue.{AreStretchesFor, IsForAsset, flow_value, stretch_value};
 ghost use Rattle.cf_watch.specs.Recorded.{IsCaptureIn, IsCaptureOf, IsRecordingOf, StopsAs, UnreadAs, large_by};
 ghost use Rattle.cf_watch.specs.Recorder.{HasRecorded, IsRecorderFor, IsRecorderOf};
+ghost use Rattle.cf_watch.specs.Stretches.{all_stretches};
+ghost use Rattle.cf_watch.specs.Trail.{IsWatchOf};
 ghost use Rattle.cf_watch.specs.Watch.{kinds_by};
+ghost use Rattle.cf_watch.specs.Watched.{Watched};
 
 use crate::fault::{CAPTURE_LIMIT, WatchFault, WatchRefusal};
 use crate::flow::Recording;
@@ -70,7 +73,7 @@ impl Recorder {
     }
 
     /// The flows of all records that were taken, their other stretches, and the stamps.
-    pub fn finish(mut self, alloc: Global) -> Result<Recording, NoMemory>
+    pub fn finish(self, alloc: Global) -> Result<Recording, NoMemory>
         requires recorded { (assets : List AssetFields) × HasRecorded assets self }
         ensures recording { IfOk result (λ r. (assets : List AssetFields) (records : List Record) → IsRecorderOf assets records self
             → IsRecordingOf assets records (map flow_value r.flows.items) (map stretch_value r.stretches.items) r.stamps.items) }
@@ -79,12 +82,7 @@ impl Recorder {
         ensures stretches_for_assets { IfOk result (λ r. (assets : List AssetFields) → HasRecorded assets self
             → AreStretchesFor assets (map stretch_value r.stretches.items)) }
     {
-        let stretches = stretches_in(alloc, &mut self.watch)?;
-        Ok(Recording {
-            flows: self.watch.flows,
-            stretches,
-            stamps: self.stamps,
-        })
+        recording_of(alloc, self.watch, self.stamps)
     }
 
     /// Takes the records of a capture behind those before, as its scope says.
@@ -138,8 +136,9 @@ impl Recorder {
                         return Err(WatchFault::Refused(WatchRefusal::Long));
                     }
                     let link = reader.link();
-                    if self.take(alloc, scope, assets, &link, stamp, reader.body()).is_err() {
-                        return Err(WatchFault::NoMemory);
+                    match self.take(alloc, scope, assets, &link, stamp, reader.body()) {
+                        Ok(()) => {}
+                        Err(_) => return Err(WatchFault::NoMemory),
                     }
                 }
                 NextRecord::End => return Ok(()),
@@ -178,6 +177,26 @@ impl Recorder {
         self.count = number;
         Ok(())
     }
+}
+
+/// What is kept of all records, as a recording.
+fn recording_of(
+    alloc: Global,
+    mut watch: Watch,
+    stamps: Vec<u64>,
+) -> Result<Recording, NoMemory>
+    requires { length watch.flows.items ≡ length watch.trails.items }
+    ensures flows { IfOk result (λ r. r.flows ≡ watch.flows) }
+    ensures stamps { IfOk result (λ r. r.stamps ≡ stamps) }
+    ensures stretches { IfOk result (λ r. (number : ℕ) (ws : List Watched) → IsWatchOf number watch ws
+        → map stretch_value r.stretches.items ≡ all_stretches ws (map flow_value watch.flows.items)) }
+{
+    let stretches = stretches_in(alloc, &mut watch)?;
+    Ok(Recording {
+        flows: watch.flows,
+        stretches,
+        stamps,
+    })
 }
 
 /// The link types that are read.
