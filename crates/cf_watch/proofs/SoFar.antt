@@ -1,7 +1,7 @@
 -- The records of a capture that were taken so far, behind those of the captures before.
-use Rattle.std.proofs.Common.{◌≡◌, ◌+◌, ◌≤◌, ℕ, suc, All, List, [], ◌∷◌, ◌++◌, ◌∙◌, ◌^◌, ap, length, map, reverse, slice_get, Result, Some, Ok, Err, refl, vec_items, sym, subst, arith}
+use Rattle.std.proofs.Common.{◌≡◌, ◌≤◌, ℕ, suc, All, List, [], ◌∷◌, ◌++◌, ◌∙◌, ◌^◌, ap, length, map, reverse, slice_get, Result, Some, Ok, Err, refl, vec_items, sym, subst, arith}
 use Rattle.std.specs.List.{AllByRecursion}
-use Rattle.std.proofs.lemmas.List.{map-append, reverse-append, reverse-reverse}
+use Rattle.std.proofs.lemmas.List.{reverse-append, reverse-reverse}
 use Rattle.std.proofs.lemmas.List.Elements.{All-from_recursion}
 use Rattle.std.proofs.lemmas.Result.{IfOk-weaker}
 use Rattle.std.specs.Prelude.{IfOk}
@@ -15,17 +15,16 @@ use Rattle.cf_records.specs.declared.Form.{Form}
 use Rattle.cf_records.specs.declared.NextRecord.TheVariants as next
 use Rattle.cf_view.specs.declared.LinkSet.TheVariants as set
 use Rattle.cf_watch.specs.Flow.{AreFlowsOf}
-use Rattle.cf_watch.specs.FlowValue.{AreStretchesFor, FlowValue, IsForAsset, StretchValue, flow_value, stretch_value}
-use Rattle.cf_watch.specs.Recorded.{IsCaptureIn, IsCaptureOf, IsReadTo, IsRecordingOf, StopsAs, large_by}
+use Rattle.cf_watch.specs.FlowValue.{AreStretchesFor, IsForAsset, StretchValue, flow_value, stretch_value}
+use Rattle.cf_watch.specs.Recorded.{IsCaptureIn, IsReadTo, IsRecordingOf, StopsAs, large_by}
 use Rattle.cf_watch.specs.Recorder.{HasRecorded, IsRecorderFor, IsRecorderOf}
 use Rattle.cf_watch.specs.Trail.{IsHeard, IsWatchOf}
 use Rattle.cf_watch.specs.Seen.{seen_by}
 use Rattle.cf_watch.specs.Stretches.{all_stretches}
 use Rattle.cf_watch.specs.Watch.{HasFlows, kinds_by}
-use Rattle.cf_watch.specs.Watched.{Watched, watched}
+use Rattle.cf_watch.specs.Watched.{Watched}
 use Rattle.cf_watch.specs.declared.fault.TheConstants.{CAPTURE_LIMIT}
 use Rattle.cf_watch.specs.declared.fault.WatchFault.TheVariants as fault
-use Rattle.cf_watch.specs.declared.fault.WatchRefusal.TheVariants as refusal
 use Rattle.cf_watch.specs.declared.recorder.Recorder.{Recorder}
 use Rattle.cf_watch.specs.declared.scope.Scope.{Scope}
 use Rattle.cf_watch.specs.declared.scope.Scope.TheVariants as scope

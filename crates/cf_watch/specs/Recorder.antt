@@ -1,5 +1,5 @@
 -- Steps of the proof: how what a recorder keeps stands for the records that it took: `IsRecorderOf`.
-use Rattle.std.specs.Prelude.{◌≡◌, ℕ, List, length, map, reverse}
+use Rattle.std.specs.Prelude.{◌≡◌, List, length, map, reverse}
 use Rattle.cf_policy.specs.declared.Asset.{Asset}
 use Rattle.cf_records.specs.Capture.{Record}
 use Rattle.cf_watch.specs.Seen.{seen_by}

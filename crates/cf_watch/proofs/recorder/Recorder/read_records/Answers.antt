@@ -1,10 +1,9 @@
-use Rattle.std.proofs.Common.{◌≡◌, ◌∷◌, ◌∙◌, ℕ, List, subst, sym, refl, arith}
+use Rattle.std.proofs.Common.{◌∷◌, ℕ, List, subst, sym, refl, arith}
 use Rattle.cf_outside.specs.Files.{Content}
 use Rattle.cf_outside.proofs.Frames.{reads_none, reads_on}
 use Rattle.cf_records.proofs.Behind.{StandsBehind, stands_cut, stands_end, stands_large, stands_long, stands_refused}
-use Rattle.cf_records.specs.Capture.{AtPlace, Cut, FileEnd, Large, Record, Refused, TooLong}
+use Rattle.cf_records.specs.Capture.{Cut, FileEnd, Large, Refused, TooLong}
 use Rattle.cf_records.specs.Reader.{FindsRecord, ReaderValue}
-use Rattle.cf_records.specs.declared.NextRecord.{NextRecord}
 use Rattle.cf_records.specs.declared.NextRecord.TheVariants as next
 use Rattle.cf_watch.specs.Recorded.{IsReadTo, StopsAs}
 use Rattle.cf_watch.specs.Recorder.{IsRecorderFor}

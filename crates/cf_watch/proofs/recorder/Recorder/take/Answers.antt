@@ -1,4 +1,4 @@
-use Rattle.std.proofs.Common.{◌≡◌, ◌+◌, ◌-◌, ◌++◌, ◌∷◌, [], ◌∙◌, ℕ, List, length, map, reverse, sym, ap, subst, arith}
+use Rattle.std.proofs.Common.{◌≡◌, ◌+◌, ◌-◌, ◌++◌, ◌∷◌, [], ◌∙◌, ℕ, length, map, reverse, sym, ap, subst, arith}
 use Rattle.std.proofs.lemmas.List.{map-append, reverse-append}
 use Rattle.cf_records.specs.Capture.{Record}
 use Rattle.cf_watch.specs.Seen.{packet_by, seen_by, with_frame}
