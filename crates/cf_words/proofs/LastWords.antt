@@ -1,5 +1,5 @@
 -- Words of which the last stands apart.
-use Rattle.std.proofs.Common.{◌≡◌, ℕ, List, [], ◌∷◌, ◌++◌, ◌∙◌, ap, map, refl, sym, true, Some}
+use Rattle.std.proofs.Common.{◌≡◌, ℕ, List, [], ◌∷◌, ◌++◌, ◌∙◌, ap, map, refl, sym, true, false, None, Some}
 use Rattle.std.proofs.lemmas.List.{map-append}
 use Rattle.cf_words.specs.Command.{Review}
 use Rattle.cf_words.specs.Forms.{are_few, last_word, review_command, review_of, words_before}
@@ -35,3 +35,10 @@ review_found bytes words files captures policy log first last few names p l same
     let here : Some (Review p (map bytes captures) l) ≡ review_command p (map bytes captures) l (map bytes words) = rw (few, names) refl in
     here ∙ ap (λ n. review_command n (map bytes captures) l (map bytes words)) same ∙ ap (λ n. review_command (bytes policy) (map bytes captures) n (map bytes words)) also
     ∙ review_words bytes words files captures policy log first last
+
+-- but where the captures are none or too many
+pub review_unfit : {W : Type 0} (bytes : W → List ℕ) (words files captures : List W) (policy log : W) → words ≡ policy ∷ files → files ≡ captures ++ log ∷ [] →
+    are_few (map bytes captures) ≡ false → None ≡ review_of (map bytes words)
+review_unfit bytes words files captures policy log first last many =
+    let here : None ≡ review_command (bytes policy) (map bytes captures) (bytes log) (map bytes words) = rw many refl in
+    here ∙ review_words bytes words files captures policy log first last
