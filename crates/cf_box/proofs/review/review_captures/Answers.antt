@@ -93,3 +93,27 @@ returns-clause-meets g c = λ sink pair.
     refl refl c.write_lines.ensures.writes.others
     (c.in-Err-write_lines.ensures.writes.cause.rose refl)
     (subst (λ t. IsPartly t (g.F.Files.content c.read_recording.new.files c.args.log.now) (g.F.Files.content c.write_lines.new.files c.args.log.now)) text c.in-Err-write_lines.ensures.partly)
+
+pub returns-in-Err-review-clause-later : goal.returns-in-Err-review-clause-later
+returns-in-Err-review-clause-later g c = record {
+  reads = rises_then c.args.policy_file.now (map string_bytes c.args.captures.now) _ _ _ c.load_policy.ensures.only.reads c.read_recording.ensures.only.reads;
+  writes = omega (arith, c.load_policy.ensures.only.writes, c.read_recording.ensures.only.writes);
+}
+
+pub returns-in-Ok-write_lines-clause-later : goal.returns-in-Ok-write_lines-clause-later
+returns-in-Ok-write_lines-clause-later g c =
+    let names = c.args.policy_file.now ∷ map string_bytes c.args.captures.now in
+    let reads = rises_then c.args.policy_file.now (map string_bytes c.args.captures.now) _ _ _ c.load_policy.ensures.only.reads c.read_recording.ensures.only.reads in
+    record {
+      reads = rises_still names (g.F.Files.read_faults c.args.files.now) (g.F.Files.read_faults c.read_recording.new.files) (g.F.Files.read_faults c.write_lines.new.files) reads c.write_lines.ensures.writes.reads;
+      writes = omega (arith, c.load_policy.ensures.only.writes, c.read_recording.ensures.only.writes, c.write_lines.ensures.writes.cause.later);
+    }
+
+pub returns-clause-later : goal.returns-clause-later
+returns-clause-later g c =
+    let names = c.args.policy_file.now ∷ map string_bytes c.args.captures.now in
+    let reads = rises_then c.args.policy_file.now (map string_bytes c.args.captures.now) _ _ _ c.load_policy.ensures.only.reads c.read_recording.ensures.only.reads in
+    record {
+      reads = rises_still names (g.F.Files.read_faults c.args.files.now) (g.F.Files.read_faults c.read_recording.new.files) (g.F.Files.read_faults c.write_lines.new.files) reads c.write_lines.ensures.writes.reads;
+      writes = omega (arith, c.load_policy.ensures.only.writes, c.read_recording.ensures.only.writes, c.write_lines.ensures.writes.cause.later);
+    }
