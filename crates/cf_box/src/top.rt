@@ -34,7 +34,7 @@ use crate::migrate::migrate;
 use crate::numbers::numbers_are;
 use crate::packets::packets;
 use crate::relay::relay;
-use crate::review::review_capture;
+use crate::review::review_captures;
 use crate::run::run;
 use crate::sift::sift;
 use crate::world::world;
@@ -87,9 +87,9 @@ fn perform<F: Files, O: Sink, P: Pair>(
         } => sift(alloc, policy, asset, client, &names, files),
         Command::Review {
             policy,
-            capture,
+            captures,
             log,
-        } => review_capture(alloc, policy, capture, log, files),
+        } => review_captures(alloc, policy, captures, log, files),
         Command::Run { policy, names } => run(alloc, policy, &names, files),
         Command::Relay {
             policy,
@@ -187,17 +187,18 @@ pub fn box_main<F: Files, O: Sink, P: Pair>(
         HoldsLearned policy capture file (outside_value F.Files O.Sink P.Pair files.old out.old pair.old)
         (outside_value F.Files O.Sink P.Pair files.new out.new pair.new) }
 
-    // A policy that was drafted allows each act that any of the captures shows, to the same clients, and where no asset was widened it
+    // A policy that was drafted allows each act that the captures show as one recording, to the same clients, and where no asset was widened it
     // allows, of the acts that commands can have, no other.
     ensures drafts { (policy file : List ℕ) (captures : List (List ℕ)) → command_of (map string_bytes words.now) ≡ Some
         (Draft policy file captures) → result ≡ 0 →
         HoldsDraft policy file captures (outside_value F.Files O.Sink P.Pair files.old out.old pair.old)
         (outside_value F.Files O.Sink P.Pair files.new out.new pair.new) }
 
-    // The log of a review holds exactly the lines of all that the policy objects to in the capture, in the order of its records: none
-    // where the status is 0.
-    ensures reviews { (policy capture file : List ℕ) → command_of (map string_bytes words.now) ≡ Some (Review policy capture file) →
-        (result ≡ 0) ⊎ (result ≡ 15) → ReviewHolds policy capture file (outside_value F.Files O.Sink P.Pair files.old out.old pair.old)
+    // The log of a review holds exactly the lines of all that the policy objects to in the captures, which are one recording, in the order
+    // of their records: none where the status is 0.
+    ensures reviews { (policy file : List ℕ) (captures : List (List ℕ)) → command_of (map string_bytes words.now) ≡ Some
+        (Review policy captures file) →
+        (result ≡ 0) ⊎ (result ≡ 15) → ReviewHolds policy captures file (outside_value F.Files O.Sink P.Pair files.old out.old pair.old)
         (outside_value F.Files O.Sink P.Pair files.new out.new pair.new) result }
 
     // Each record of a capture has its line, and how many have no segment is told.

@@ -1,7 +1,7 @@
 //! What standard error says after work that was done: what a run cannot know, and why a capture shows nothing.
 
 use crate::compared::explain_comparison;
-use crate::say::say_lines;
+use crate::say::{print_lines, say_lines};
 use crate::why::policy_again;
 use cf_ending::{Denial, Done, Stop};
 use cf_explain::policy_warnings;
@@ -46,11 +46,11 @@ pub(crate) fn remark<R: FileSystem + Eprint + AllocGlobal>(
         (
             Command::Review {
                 policy,
-                capture,
+                captures,
                 ..
             },
             Done::Reviewed(counts),
-        ) => { remark_on_reviewed(rt, policy, capture, counts.flows, files) }
+        ) => { remark_on_reviewed(rt, policy, captures, counts.flows, files) }
         (Command::Packets { capture }, Done::Listed { dropped }) => {
             remark_on_listed(rt, capture, *dropped, files)
         }
@@ -75,11 +75,11 @@ pub(crate) fn remark_on_objected<R: FileSystem + Eprint + AllocGlobal>(
         (
             Command::Review {
                 policy,
-                capture,
+                captures,
                 ..
             },
             Stop::Denied(Denial::Remarks(counts)),
-        ) => { remark_on_reviewed(rt, policy, capture, counts.flows, files) }
+        ) => { remark_on_reviewed(rt, policy, captures, counts.flows, files) }
         _ => Ok(()),
     }
 }
@@ -204,11 +204,12 @@ fn remark_on_judged<R: FileSystem + Eprint + AllocGlobal>(
     remark_on_capture(rt, policy, capture, Reading::FromSyn, files)
 }
 
-/// Says first, where nothing was reviewed, that a capture has no connection to an asset at all; then what of it is not read.
+/// Says first, where nothing was reviewed, that the captures have no connection to an asset at all; then what of them is not read: of several
+/// of each by itself, behind its name.
 fn remark_on_reviewed<R: FileSystem + Eprint + AllocGlobal>(
     rt: &R,
     policy: &str,
-    capture: &str,
+    captures: &[String],
     flows: u64,
     files: &mut RealFiles<'_, R>,
 ) -> io::Result<()> {
@@ -217,7 +218,43 @@ fn remark_on_reviewed<R: FileSystem + Eprint + AllocGlobal>(
             "cmdwall: note: no connection to an asset of POLICY is in CAPTURE: neither a SYN nor data goes to an asset's address and port"
         )?;
     }
-    remark_on_capture(rt, policy, capture, Reading::Amid, files)
+    match policy_again(rt, policy, files) {
+        Some(read) => remark_on_each(rt, read.assets.as_slice(), captures, files),
+        None => Ok(()),
+    }
+}
+
+/// Says what of each capture is not read.
+fn remark_on_each<R: FileSystem + Eprint + AllocGlobal>(
+    rt: &R,
+    assets: &[Asset],
+    captures: &[String],
+    files: &mut RealFiles<'_, R>,
+) -> io::Result<()> {
+    for capture in captures {
+        let name = capture.as_str();
+        if let Some(text) = unread_text(rt, assets, name, files) {
+            if captures.len() > 1 && !text.is_empty() {
+                eprintln!(rt; "cmdwall: note: of {name}, read by itself:")?;
+            }
+            print_lines(rt, &text)?;
+        }
+    }
+    Ok(())
+}
+
+/// What is said of what is not read of a capture of a recording, if it can be read again.
+fn unread_text<R: FileSystem + AllocGlobal>(
+    rt: &R,
+    assets: &[Asset],
+    capture: &str,
+    files: &mut RealFiles<'_, R>,
+) -> Option<String> {
+    if !is_file(rt, capture) {
+        return None;
+    }
+    let found = survey_capture(rt.alloc(), assets, capture, Reading::Amid, files)?;
+    survey_text(rt.alloc(), &found, Reading::Amid).ok()
 }
 
 /// Says first, where nothing was learned, that a capture has no connection to an asset from its beginning on; then what of it is not

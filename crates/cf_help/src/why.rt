@@ -22,7 +22,7 @@ use std::rt::Files as FileSystem;
 /// How many octets are kept of what is read of a policy: one more than it may have, so that it is seen where it has more.
 const MOST_KEPT: usize = LONGEST_TEXT + 1;
 
-/// The files that a command reads, but for the captures of a draft; an empty name stands for none.
+/// The files that a command reads, but for the captures of a recording; an empty name stands for none.
 fn inputs_of<'a>(command: &Command<'a>) -> [&'a str; 2] {
     match command {
         Command::Check { policy }
@@ -34,13 +34,8 @@ fn inputs_of<'a>(command: &Command<'a>) -> [&'a str; 2] {
             policy,
             capture,
             ..
-        }
-        | Command::Review {
-            policy,
-            capture,
-            ..
         } => [*policy, *capture],
-        Command::Draft { policy, .. } => [*policy, ""],
+        Command::Draft { policy, .. } | Command::Review { policy, .. } => [*policy, ""],
         Command::Packets { capture } => [*capture, ""],
         Command::Run { policy, names } => [*policy, names.capture],
         Command::Sift { policy, names, .. } => [*policy, names.stream],
@@ -48,10 +43,10 @@ fn inputs_of<'a>(command: &Command<'a>) -> [&'a str; 2] {
     }
 }
 
-/// The captures of a draft.
+/// The captures that a command reads as one recording.
 fn captures_of<'a>(command: &Command<'a>) -> &'a [String] {
     match command {
-        Command::Draft { captures, .. } => *captures,
+        Command::Draft { captures, .. } | Command::Review { captures, .. } => *captures,
         _ => &[],
     }
 }
@@ -221,13 +216,9 @@ fn explain_bad_capture<R: FileSystem + Eprint + AllocGlobal>(
             explain_capture(rt, LinkSet::Plain, names.capture, true, files)
         }
         Command::Judge { capture, .. } | Command::Learn { capture, .. }
-            if status == CAPTURE_REFUSED => explain_watched(rt, LinkSet::Plain, capture, files),
-        Command::Draft { captures, .. } => explain_captures(rt, captures, status, files),
-        Command::Review { capture, .. } if status == CAPTURE_REFUSED => {
-            explain_watched(rt, LinkSet::Recorded, capture, files)
-        }
-        Command::Review { capture, .. } => {
-            explain_capture(rt, LinkSet::Recorded, capture, false, files)
+            if status == CAPTURE_REFUSED => explain_watched(rt, capture, files),
+        Command::Draft { captures, .. } | Command::Review { captures, .. } => {
+            explain_captures(rt, captures, files)
         }
         Command::Judge { capture, .. }
         | Command::Learn { capture, .. }
@@ -375,54 +366,27 @@ pub(crate) fn policy_again<R: FileSystem + AllocGlobal>(
     read_policy(rt.alloc(), files.text_of(name)?).ok()
 }
 
-/// The first of the captures of a draft that is refused or cut, with its number among them, and why. Of a pipe, which cannot be read a
-/// second time, no more is said.
+/// The first of the captures of a recording that is refused or cut, and why; where there are several, with its number among them. Of a
+/// pipe, which cannot be read a second time, no more is said.
 fn explain_captures<R: FileSystem + Eprint + AllocGlobal>(
     rt: &R,
     captures: &[String],
-    status: u8,
     files: &mut RealFiles<'_, R>,
 ) -> io::Result<()> {
     for (place, capture) in captures.iter().enumerate() {
         let name = capture.as_str();
-        if is_bad_capture(rt, name, status, files)? {
-            let number = place.saturating_add(1);
-            eprintln!(rt;
-                "cmdwall: capture {number} of the words, {name}, is at fault; nothing was written"
-            )?;
-            return explain_one(rt, name, status, files);
+        let message = capture_message(rt.alloc(), LinkSet::Recorded, name, false, files)?;
+        if let Some(message) = message {
+            if captures.len() > 1 {
+                let number = place.saturating_add(1);
+                eprintln!(rt;
+                    "cmdwall: capture {number} of the words, {name}, is at fault; nothing was written"
+                )?;
+            }
+            return eprintln!(rt; "cmdwall: {message}");
         }
     }
     Ok(())
-}
-
-fn is_bad_capture<R: FileSystem + AllocGlobal>(
-    rt: &R,
-    name: &str,
-    status: u8,
-    files: &mut RealFiles<'_, R>,
-) -> io::Result<bool> {
-    let mut octet = [0u8; 1];
-    if status == CAPTURE_REFUSED {
-        if let ReadAnswer::Got(_) = files.read_at(name, CAPTURE_LIMIT, &mut octet) {
-            return Ok(true);
-        }
-    }
-    let message = capture_message(rt.alloc(), LinkSet::Recorded, name, false, files)?;
-    Ok(message.is_some())
-}
-
-fn explain_one<R: FileSystem + Eprint + AllocGlobal>(
-    rt: &R,
-    name: &str,
-    status: u8,
-    files: &mut RealFiles<'_, R>,
-) -> io::Result<()> {
-    if status == CAPTURE_REFUSED {
-        explain_watched(rt, LinkSet::Recorded, name, files)
-    } else {
-        explain_capture(rt, LinkSet::Recorded, name, false, files)
-    }
 }
 
 /// Which assets a policy has that has none of the name that the command gives.
@@ -446,7 +410,6 @@ fn explain_asset<R: FileSystem + Eprint + AllocGlobal>(
 /// Why a capture is refused that is watched: it is too long, or its octets are at fault. A pipe cannot be read a second time.
 fn explain_watched<R: FileSystem + Eprint + AllocGlobal>(
     rt: &R,
-    kinds: LinkSet,
     name: &str,
     files: &mut RealFiles<'_, R>,
 ) -> io::Result<()> {
@@ -457,7 +420,9 @@ fn explain_watched<R: FileSystem + Eprint + AllocGlobal>(
                 "cmdwall: {name}: it has more than 67,108,864 bytes, and no longer capture is watched"
             )
         }
-        ReadAnswer::End | ReadAnswer::Failed => explain_capture(rt, kinds, name, false, files),
+        ReadAnswer::End | ReadAnswer::Failed => {
+            explain_capture(rt, LinkSet::Plain, name, false, files)
+        }
     }
 }
 

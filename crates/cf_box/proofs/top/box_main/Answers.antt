@@ -109,7 +109,7 @@ pub returns-in-Some-clause-drafts : goal.returns-in-Some-clause-drafts
 returns-in-Some-clause-drafts g c = λ policy file captures is. drafts_told (explains g c) policy file captures (let known = c.in-Some.ensures.command in cc)
 
 pub returns-in-Some-clause-reviews : goal.returns-in-Some-clause-reviews
-returns-in-Some-clause-reviews g c = λ policy capture file is. reviews_told (explains g c) policy capture file (let known = c.in-Some.ensures.command in cc)
+returns-in-Some-clause-reviews g c = λ policy file captures is. reviews_told (explains g c) policy captures file (let known = c.in-Some.ensures.command in cc)
 
 pub returns-in-Some-clause-lists : goal.returns-in-Some-clause-lists
 returns-in-Some-clause-lists g c = λ capture is. lists_told (explains g c) capture (let known = c.in-Some.ensures.command in cc)

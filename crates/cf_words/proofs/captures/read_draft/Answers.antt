@@ -2,7 +2,7 @@ use Rattle.std.proofs.Common.{◌≡◌, ◌<◌, ℕ, List, ◌∷◌, length, 
 use Rattle.std.proofs.lemmas.List.{length-map}
 use Rattle.std.specs.Prelude.{string_bytes}
 use Rattle.cf_words.specs.Forms.{draft_of}
-use Rattle.cf_words.proofs.draft.read_draft.Goals as goal
+use Rattle.cf_words.proofs.captures.read_draft.Goals as goal
 
 -- fewer than two words are no form
 too_few : (words : List (List ℕ)) → length words < 2 → None ≡ draft_of words
