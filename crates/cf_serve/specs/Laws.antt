@@ -1,5 +1,6 @@
 -- Laws of a service. The main definitions are `EachIsAlone`, `IsolatesSessions`, `StrangersAreRefused` and `FloodsAreBounded`. This
 -- project's own.
+use Rattle.cf_lane.specs.Caller.{RateMoments}
 use Rattle.cf_links.specs.Links.{LinksEntry, answers_of}
 use Rattle.cf_outside.specs.Pair.{Entry}
 use Rattle.cf_relay.specs.Answers.{given}
@@ -20,7 +21,7 @@ use Rattle.cf_serve.specs.declared.table.Place.{Place}
 use Rattle.cf_serve.specs.declared.end.SessionEnd.{SessionEnd}
 use Rattle.cf_serve.specs.declared.end.SessionEnd.TheVariants as end
 
--- the session was a relay: its controller was reached, and memory was not wanting
+-- the session was a relay to its end: its controller was reached, memory was not wanting, and its client did not come again
 abbrev pub was_relayed : SessionEnd → Bool
 was_relayed end.Closed = true
 was_relayed (end.Cut reason) = true
@@ -28,6 +29,7 @@ was_relayed end.Silent = true
 was_relayed end.Lost = true
 was_relayed end.Unreached = false
 was_relayed end.Gone = false
+was_relayed end.Again = false
 was_relayed end.NoMemory = false
 
 -- sessions that stand, or ended and were a relay
@@ -35,21 +37,23 @@ abbrev pub AreRelayed : List SessionEnd → Type 0
 AreRelayed [] = Unit {0}
 AreRelayed (end ∷ ends) = was_relayed end ≡ true
 
--- what a session puts in the log follows from its own answers and from how it ended, whatever the other sessions do
+-- what a session puts in the log follows from its own answers, from what its client's earlier sessions had used as it began, and from how
+-- it ended, whatever the other sessions do
 abbrev pub EachIsAlone : Type 0
 EachIsAlone =
-    (at : Listening) (most : ℕ) (client other_client : Endpoint) (es : List Entry) (own other : List (List ℕ)) (ends : List SessionEnd)
-    → AreRelayed ends → IsSession at most client es own ends → IsSession at most other_client es other ends → own ≡ other
+    (at : Listening) (before : RateMoments) (most : ℕ) (client other_client : Endpoint) (es : List Entry) (own other : List (List ℕ))
+    (ends : List SessionEnd)
+    → AreRelayed ends → IsSession at before most client es own ends → IsSession at before most other_client es other ends → own ≡ other
 
--- two services, a session of each of the same place: where their own answers and their ends are the same, each side was given the same,
--- and their lines are the same. The other sessions, their number and their order may differ in every way
+-- two services, a session of each of the same place, with the same before them: where their own answers and their ends are the same, each
+-- side was given the same, and their lines are the same. The other sessions, their number and their order may differ in every way
 abbrev pub IsolatesSessions : Type 0
 IsolatesSessions =
-    (places others : List Place) (at : Listening) (most : ℕ) (entries other_entries : List LinksEntry) (lines other_lines : List (List ℕ))
+    (places others : List Place) (at : Listening) (before : RateMoments) (most : ℕ) (entries other_entries : List LinksEntry) (lines other_lines : List (List ℕ))
     (one : IsServed places most entries lines) (two : IsServed others most other_entries other_lines) (k l : ℕ)
     (client other_client : Endpoint)
-    → IsSession at most client (answers_of k entries) (lines_in k (turns_of one.rounds)) (ends_in k (turns_of one.rounds))
-    → IsSession at most other_client (answers_of l other_entries) (lines_in l (turns_of two.rounds)) (ends_in l (turns_of two.rounds))
+    → IsSession at before most client (answers_of k entries) (lines_in k (turns_of one.rounds)) (ends_in k (turns_of one.rounds))
+    → IsSession at before most other_client (answers_of l other_entries) (lines_in l (turns_of two.rounds)) (ends_in l (turns_of two.rounds))
     → answers_of k entries ≡ answers_of l other_entries → ends_in k (turns_of one.rounds) ≡ ends_in l (turns_of two.rounds)
     → AreRelayed (ends_in l (turns_of two.rounds))
     → ((s : Side) → given s (answers_of k entries) ≡ given s (answers_of l other_entries))
