@@ -5,9 +5,10 @@ use Rattle.cf_lane.specs.Caller.{RateMoments}
 use Rattle.cf_lane.specs.Handled.{IsLaneOf}
 use Rattle.cf_lane.specs.Judged.{Judged}
 use Rattle.cf_lane.specs.Log.{line_about, with_lines}
+use Rattle.cf_lane.specs.Over.{are_over}
 use Rattle.cf_lane.specs.Rates.{used_at}
 use Rattle.cf_lane.specs.Ring.{RingValue}
-use Rattle.cf_lane.specs.Rings.{AreRingsOf, IsLeft, KnowsRules}
+use Rattle.cf_lane.specs.Rings.{AreRingsOf, IsLeft, KnowRings, KnowsRules}
 use Rattle.cf_links.specs.Links.{LinksEntry, LinksPlace, SessionTold, with_answers}
 use Rattle.cf_links.specs.Service.{LosesSession}
 use Rattle.cf_outside.specs.Pair.{Entry, Moment, met_at}
@@ -23,7 +24,7 @@ use Rattle.cf_relay.specs.declared.stop.Stop.TheVariants as stop
 use Rattle.std.specs.Prelude.{Bool, Err, List, None, Ok, Result, false, true, Option, Some, [], if◌then◌else◌, is_some, map, not, option_map, ℕ}
 use Rattle.std.specs.Prelude.{◌++◌, ◌-◌, ◌∷◌, ◌≡◌, ◌⊎◌}
 use Rattle.cf_serve.specs.Debt.{Admits, Refuses, debt_with, must_rest, no_debt}
-use Rattle.cf_serve.specs.Lending.{Drops, Has, IsFree, KeptValue, Lends, Lent, MayLend, kept_at, rings_in}
+use Rattle.cf_serve.specs.Lending.{Has, KeptRings, KeptValue, Lends, Lent, kept_at, rings_in}
 use Rattle.cf_serve.specs.Rounds.{IsAgain, IsTurn, Seat, TurnOf, has_rates, turn_entries}
 use Rattle.cf_serve.specs.Session.{EndsSo, Listening}
 use Rattle.cf_serve.specs.declared.debt.Debt.{Debt}
@@ -90,6 +91,14 @@ phase_of served = record {
   seat = record { session = served.number; place = served.place; client = served.client };
   linked = option_map linked_value served.linked;
 }
+
+-- a seat by its parts
+abbrev pub seat_at : (session place : ℕ) → Endpoint → Seat
+seat_at session place client = record { session = session; place = place; client = client }
+
+-- the last line of a session whose client came again
+abbrev pub again_line : Asset → Endpoint → (moment : ℕ) → Option LinkedValue → List ℕ
+again_line asset client moment linked = line_about asset client moment (Again (admitted_at linked) (refused_at linked))
 
 -- the asset and the port of a session
 abbrev pub listening_of : Terms → Listening
@@ -194,6 +203,15 @@ pub record TurnKeeps (asset : Asset) (seat : Seat) (moment : ℕ) (store store_a
     pub lent : HasLent asset store seat old → HasLent asset store_after seat new
     pub met : IsMetBy seat.client old new
     pub lane : HasLane asset new
+
+-- what is kept of a client behind the end of a session: at an asset with rates the rings of its relay, or nothing where they count no more
+abbrev pub IsGivenBack : Asset → (moment : ℕ) → Option LinkedValue → (old new : Option KeptRings) → Type 0
+IsGivenBack asset moment None old new = new ≡ old
+IsGivenBack asset moment (Some v) old new =
+    (has_rates asset ≡ false → new ≡ old)
+    × (has_rates asset ≡ true → (rings : List RingValue) × (AreRingsOf asset rings
+    × (((before : RateMoments) (js : List Judged) → KnowsRules before v.now.lane.rules js → KnowRings rings (used_at before js))
+    × ((new ≡ Some (Has rings)) ⊎ ((are_over moment rings ≡ true) × (new ≡ None))))))
 
 -- what a relay begins with, in the turn in which it does
 abbrev pub begun_by : (before : RateMoments) → (old new : Option LinkedValue) → Option RateMoments

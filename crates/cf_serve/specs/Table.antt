@@ -53,6 +53,16 @@ seats_of ps = map (λ (p : Phase). p.seat) ps
 abbrev pub AreCalm : List Listening → (standing : List Seat) → Type 0
 AreCalm places standing = AllByRecursion (λ (s : Seat). must_end places standing s ≡ false) standing
 
+-- a session in its place had its turn: it stays there, and its client did not come again, or it is there no longer
+pub record SeatsStep (places : List Listening) (index : ℕ) (old new : List Seat) (stays_on : Bool) : Type 0 where
+  pub before : List Seat
+  pub it : Seat
+  pub after : List Seat
+  pub was : old ≡ before ++ it ∷ after
+  pub at : length before ≡ index
+  pub is : new ≡ before ++ ((if stays_on then it ∷ [] else []) ++ after)
+  pub calm : stays_on ≡ true → must_end places old it ≡ false
+
 -- a relay has begun once, and any other session not at all
 abbrev pub BegunAs : Option LinkedValue → List RateMoments → Type 0
 BegunAs None begun = begun ≡ []
