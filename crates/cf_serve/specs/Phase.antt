@@ -24,7 +24,7 @@ use Rattle.cf_relay.specs.declared.stop.Stop.TheVariants as stop
 use Rattle.std.specs.Prelude.{Bool, Err, List, None, Ok, Result, false, true, Option, Some, [], if◌then◌else◌, is_some, map, not, option_map, ℕ}
 use Rattle.std.specs.Prelude.{◌++◌, ◌-◌, ◌∷◌, ◌≡◌, ◌⊎◌}
 use Rattle.cf_serve.specs.Debt.{Admits, Refuses, debt_with, must_rest, no_debt}
-use Rattle.cf_serve.specs.Lending.{Has, KeptRings, KeptValue, Lends, Lent, kept_at, rings_in}
+use Rattle.cf_serve.specs.Lending.{Has, IsFree, KeptRings, KeptValue, Lends, Lent, kept_at, rings_in}
 use Rattle.cf_serve.specs.Rounds.{IsAgain, IsTurn, Seat, TurnOf, has_rates, turn_entries}
 use Rattle.cf_serve.specs.Session.{EndsSo, Listening}
 use Rattle.cf_serve.specs.declared.debt.Debt.{Debt}
@@ -183,25 +183,30 @@ rings_for asset store place address = if has_rates asset then rings_in (kept_at 
 -- what is kept as a controller was asked for: a relay that begins has it
 pub record ReachKeeps (asset : Asset) (seat : Seat) (moment : ℕ) (store store_after : List KeptValue) (answer : Reached) : Type 0 where
   pub lends : Lends seat.session moment store store_after
+  pub free : (linked : Linked) → answer ≡ reached.Begun linked → has_rates asset ≡ true
+      → IsFree (kept_at store seat.place seat.client.address)
   pub lent : (linked : Linked) → answer ≡ reached.Begun linked → has_rates asset ≡ true
       → kept_at store_after seat.place seat.client.address ≡ Some (Lent seat.session)
 
--- and in a turn; the client that a relay met as it began has the address that came
-abbrev pub IsMetBy : (client : Endpoint) → (old new : Option LinkedValue) → Type 0
-IsMetBy client None None = Unit {0}
-IsMetBy client None (Some v) = v.met.address ≡ client.address
-IsMetBy client (Some u) new = Unit {0}
+-- a relay that begins is of a client of the address that came, and what is kept of it was free; and a relay stays one
+abbrev pub BeginsBy : Asset → Seat → (store : List KeptValue) → (old new : Option LinkedValue) → Type 0
+BeginsBy asset seat store None None = Unit {0}
+BeginsBy asset seat store None (Some v) =
+    (v.met.address ≡ seat.client.address) × (has_rates asset ≡ true → IsFree (kept_at store seat.place seat.client.address))
+BeginsBy asset seat store (Some u) None = ⊥
+BeginsBy asset seat store (Some u) (Some v) = Unit {0}
 
 -- the lane of a relay is one of the asset, also behind its end
 abbrev pub HasLane : Asset → Option LinkedValue → Type 0
 HasLane asset None = Unit {0}
 HasLane asset (Some v) = IsLaneOf asset v.now.lane
 
+-- what is kept behind a turn
 pub record TurnKeeps (asset : Asset) (seat : Seat) (moment : ℕ) (store store_after : List KeptValue) (old new : Option LinkedValue) : Type 0
   where
     pub lends : Lends seat.session moment store store_after
     pub lent : HasLent asset store seat old → HasLent asset store_after seat new
-    pub met : IsMetBy seat.client old new
+    pub begins : BeginsBy asset seat store old new
     pub lane : HasLane asset new
 
 -- what is kept of a client behind the end of a session: at an asset with rates the rings of its relay, or nothing where they count no more

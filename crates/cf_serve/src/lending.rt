@@ -20,8 +20,7 @@ pub(crate) fn has_rates(asset: &Asset) -> bool
 /// Whether a session of a client may begin: what is kept of it is not lent, and there is room for it.
 pub(crate) fn may_begin(client: Endpoint, terms: &Terms<'_>, keeping: &mut Keeping) -> bool
     ensures drops { Drops terms.now.moment keeping.old keeping.new }
-    ensures rings { rings_for terms.now.asset.now keeping.new terms.now.place client.address
-        ≡ rings_for terms.now.asset.now keeping.old terms.now.place client.address }
+    ensures own { kept_at keeping.new terms.now.place client.address ≡ kept_at keeping.old terms.now.place client.address }
     ensures free { result ≡ true → has_rates terms.now.asset.now ≡ true → MayLend terms.now.place client.address keeping.new }
 {
     !has_rates(terms.asset) || keeping.may_lend(terms.place, client.address, terms.moment)
