@@ -1,5 +1,5 @@
 //! What is kept of the clients of a service between their sessions, and lent to the one that stands.
-ghost use Rattle.std.specs.Prelude.{◌≡◌, IfOk, None, Some, [], true, ◌×◌, ◌⊎◌};
+ghost use Rattle.std.specs.Prelude.{◌≡◌, IfOk, None, Some, [], true, ◌⊎◌};
 ghost use Rattle.cf_lane.specs.Over.{are_over};
 ghost use Rattle.cf_serve.specs.Lending.{Drops, Has, KeepsOthers, Lent, MayLend, kept_at, rings_in};
 
