@@ -121,7 +121,7 @@ module _ (law : StreamsGoOn) (quiet : QuietBehindEnd) (dirs : Directions) (asset
 
   -- the lane stays the asset's
   lane_broke : (why : Stop) → Takes (Err why) → KeepsLane asset lane why
-  lane_broke stop.Idle takes = subst (IsLaneOf asset) (sym (ap (λ (z : TakeState). z.state.lane) takes.1.1)) sound.of_asset
+  lane_broke stop.Idle takes = subst (IsLaneOf asset) (sym (ap (λ (z : TakeState). z.state.lane) takes.2)) sound.of_asset
   lane_broke stop.Link takes = subst (IsLaneOf asset) (sym (ap (λ (z : TakeState). z.state.lane) takes)) sound.of_asset
   lane_broke stop.Write takes = tt
   lane_broke (stop.Cut reason) takes = takes.1.hears.of_asset

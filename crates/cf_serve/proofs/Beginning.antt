@@ -123,8 +123,8 @@ module _ (bs : List RateMoments) (b : RateMoments) where
   abbrev pub before_now : (old new : Option LinkedValue) → RateMoments
   before_now old new = before_of (now_of old new)
 
-  module _ (asset : Asset) (seat : Seat) (store : List KeptValue) where
-    pub begun_as : (old new : Option LinkedValue) → BegunAs old bs → BeginsBy asset seat store old new → BegunAs new (now_of old new)
+  module _ (asset : Asset) (seat : Seat) (store : List KeptValue) (stays_on : Bool) where
+    pub begun_as : (old new : Option LinkedValue) → BegunAs old bs → BeginsBy asset seat store stays_on old new → BegunAs new (now_of old new)
     begun_as None None h by = append-nil bs ∙ h
     begun_as None (Some v) h by = (b, ap (λ (xs : List RateMoments). xs ++ b ∷ []) h)
     begun_as (Some u) None h by = absurd by
@@ -153,8 +153,8 @@ module _ (bs : List RateMoments) (b : RateMoments) where
   now_begins left (Some u) new h is = tt
 
   -- one that is not a relay behind the turn has not begun; and one that begins in it does so with that
-  pub not_begun : (asset : Asset) (seat : Seat) (store : List KeptValue) (old new : Option LinkedValue) → BegunAs old bs → BeginsBy asset seat store old new → now_of old new ≡ [] → new ≡ None
-  not_begun asset seat store None None h by none = refl
-  not_begun asset seat store None (Some v) h by none = let e : b ∷ [] ≡ [] = sym (ap (λ (xs : List RateMoments). xs ++ b ∷ []) h) ∙ none in cc
-  not_begun asset seat store (Some u) None h by none = absurd by
-  not_begun asset seat store (Some u) (Some v) h by none = let e : h.0 ∷ [] ≡ [] = sym (append-nil bs ∙ h.1) ∙ none in cc
+  pub not_begun : (asset : Asset) (seat : Seat) (store : List KeptValue) (stays_on : Bool) (old new : Option LinkedValue) → BegunAs old bs → BeginsBy asset seat store stays_on old new → now_of old new ≡ [] → new ≡ None
+  not_begun asset seat store stays_on None None h by none = refl
+  not_begun asset seat store stays_on None (Some v) h by none = let e : b ∷ [] ≡ [] = sym (ap (λ (xs : List RateMoments). xs ++ b ∷ []) h) ∙ none in cc
+  not_begun asset seat store stays_on (Some u) None h by none = absurd by
+  not_begun asset seat store stays_on (Some u) (Some v) h by none = let e : h.0 ∷ [] ≡ [] = sym (append-nil bs ∙ h.1) ∙ none in cc

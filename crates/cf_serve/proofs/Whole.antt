@@ -1,5 +1,4 @@
 -- What a service did, from its rounds.
-use Rattle.cf_lane.specs.Caller.{none_before}
 use Rattle.std.proofs.Common.{Bool, List, None, Option, Some, ap, arith, length, map, inl, inr, refl, subst, sym, true, false, ℕ, []}
 use Rattle.std.proofs.Common.{◌++◌, ◌+◌, ◌∙◌, ◌∷◌, ◌≡◌, if◌then◌else◌}
 use Rattle.std.specs.Prelude.{Err, Ok, Result, option_map, ◌==◌}
@@ -10,11 +9,11 @@ use Rattle.std.proofs.lemmas.Option.{same_Some}
 use Rattle.cf_links.proofs.Projection.{answers_more}
 use Rattle.cf_links.specs.Links.{Came, LinksEntry, Of, Ready, answers_of}
 use Rattle.cf_outside.specs.Pair.{Entry}
-use Rattle.cf_relay.proofs.Turned.{turned_stands}
-use Rattle.cf_relay.specs.declared.directions.Directions.TheVariants as both
 use Rattle.cf_serve.proofs.Numbers.{all_map, all_zip}
 use Rattle.cf_serve.proofs.Rounding.{flat_one, more_twice}
-use Rattle.cf_serve.specs.Phase.{LinkedValue, MayTurn, Phase, StandsAs, listenings}
+use Rattle.cf_serve.proofs.Relayed.{stands_session}
+use Rattle.cf_serve.specs.Lending.{KeptValue}
+use Rattle.cf_serve.specs.Phase.{Phase, listenings}
 use Rattle.cf_serve.specs.Door.{first_lobby}
 use Rattle.cf_serve.specs.Rounds.{AreRounds, AreTurns, Arrival, IsTurn, Round, Seat, TurnOf, answers_in, arrival_entries, left_by}
 use Rattle.cf_serve.specs.Rounds.{round_entries, turn_entries, turns_of}
@@ -22,7 +21,7 @@ use Rattle.cf_serve.specs.Minute.{all_lines}
 use Rattle.cf_serve.specs.declared.door.Closing.{Closing}
 use Rattle.cf_serve.specs.declared.door.Lobby.{Lobby}
 use Rattle.cf_serve.specs.Served.{IfEnded, IsClient, OpensDo, Serves, left_of, listen_lines, opened_from}
-use Rattle.cf_serve.specs.Session.{Listening, StandsSo}
+use Rattle.cf_serve.specs.Session.{Listening}
 use Rattle.cf_serve.specs.Table.{IfOver, IfWhole, IsHeld, IsTable, Keeps, MayGo, RoundsDo, seats_of}
 use Rattle.cf_serve.specs.declared.end.SessionEnd.{SessionEnd}
 use Rattle.cf_serve.specs.declared.fault.ServeFault.{ServeFault}
@@ -58,10 +57,10 @@ module _ (k : ℕ) where
 
   of_turn : (m : ℕ) (t : TurnOf) (ready : Bool) → t.ready ≡ ready → IsTurn m t → answers_of k (turn_entries t) ≡ own_of t
   of_turn m t true is idle =
-      ap (λ (b : Bool). answers_of k (if b then Ready t.seat.session ∷ (map (Of t.seat.session) t.answers ++ left_by t.seat.session t.end) else [])) is ∙ of_ready t
+      ap (λ (b : Bool). answers_of k (if b then Ready t.seat.session ∷ (map (Of t.seat.session) t.answers ++ left_by t.seat.session t.end) else left_by t.seat.session t.end)) is ∙ of_ready t
   of_turn m t false is idle =
-      ap (λ (b : Bool). answers_of k (if b then Ready t.seat.session ∷ (map (Of t.seat.session) t.answers ++ left_by t.seat.session t.end) else [])) is
-      ∙ sym (nothing (t.seat.session == k) t.answers (idle.1 is).0)
+      ap (λ (b : Bool). answers_of k (if b then Ready t.seat.session ∷ (map (Of t.seat.session) t.answers ++ left_by t.seat.session t.end) else left_by t.seat.session t.end)) is
+      ∙ of_left t.seat.session t.end ∙ sym (nothing (t.seat.session == k) t.answers (idle.1 is).0)
 
   of_turns : (m : ℕ) (ts : List TurnOf) → AreTurns m ts → answers_of k (flat_map turn_entries ts) ≡ answers_in k ts
   of_turns m [] are = refl
@@ -121,12 +120,6 @@ module _ (k : ℕ) where
 
 -- ---- what stands, and what ended
 
-stands_session : (at : Listening) (most : ℕ) (es : List Entry) (own : List (List ℕ)) (o : Option LinkedValue) → StandsAs at most es own o → MayTurn at most o → StandsSo at most es own
-stands_session at most es own None h may = inl h
-stands_session at most es own (Some v) h may =
-    let t = turned_stands both.Separate at.asset none_before at.port most v.met h.moment (Some []) h.answers v.now (Some own) (record { count = h.count; does = h.does; stands = h.stands; few = may.0.few }) in
-    subst (λ (xs : List Entry). StandsSo at most xs own) (sym h.split) (inr (h.count, (t.0, (t.1.0, same_Some _ _ t.1.1))))
-
 pub all_seats : (P : Seat → Type 0) (ps : List Phase) → AllByRecursion (λ (p : Phase). P p.seat) ps → AllByRecursion P (seats_of ps)
 all_seats P [] h = tt
 all_seats P (p ∷ ps) (x, h) = (x, all_seats P ps h)
@@ -143,13 +136,13 @@ module _ (places : List Listening) (most : ℕ) (past : List TurnOf) where
       (λ t h. ended_by places most past ps t t.end h) over
 
   -- sessions that stand
-  pub one_stands : (serves : ℕ → Bool) (p : Phase) → IsHeld places most past p → MayGo places most serves p → IsClient places most past p.seat []
-  one_stands serves p h m at is = stands_session at most _ _ p.linked (h.stands at is) (m.may at is)
+  pub one_stands : (store : List KeptValue) (serves : ℕ → Bool) (p : Phase) → IsHeld places most past p → MayGo places most store serves p → IsClient places most past p.seat []
+  one_stands store serves p h m at is = stands_session at _ most _ _ p.linked (h.stands at is) (m.may at is)
 
-  pub all_stand : (serves : ℕ → Bool) (ps : List Phase) → AllByRecursion (IsHeld places most past) ps → AllByRecursion (MayGo places most serves) ps →
+  pub all_stand : (store : List KeptValue) (serves : ℕ → Bool) (ps : List Phase) → AllByRecursion (IsHeld places most past) ps → AllByRecursion (MayGo places most store serves) ps →
       AllByRecursion (λ (p : Phase). IsClient places most past p.seat []) ps
-  all_stand serves ps held may =
-      all_zip (IsHeld places most past) (MayGo places most serves) (λ (p : Phase). IsClient places most past p.seat []) ps (one_stands serves) held may
+  all_stand store serves ps held may =
+      all_zip (IsHeld places most past) (MayGo places most store serves) (λ (p : Phase). IsClient places most past p.seat []) ps (one_stands store serves) held may
 
 module _ (places : List Place) (most : ℕ) (told told1 : Option (List LinksEntry)) (log log1 : Option (List (List ℕ))) where
   -- a place could not be listened at
@@ -175,6 +168,7 @@ module _ (places : List Place) (most : ℕ) (told told1 : Option (List LinksEntr
               answers = λ k. own_of_all k (listenings places) o.moments [] first_lobby [] [] (refl, refl);
               ended = tt;
               measured = tt;
+              begun = tt;
               stand = tt;
             },
             none,
@@ -184,11 +178,11 @@ module _ (places : List Place) (most : ℕ) (told told1 : Option (List LinksEntr
     ),
   )
 
-  pub serves_all : (Made : ℕ → Type 0) (lobby : Lobby) (minutes : Minutes) (made : ℕ) (told2 told3 : Option (List LinksEntry)) (log2 : Option (List (List ℕ))) (serves : ℕ → Bool) (ps : List Phase) →
-      Made made → OpensDo places (length places) told told1 log log1 → RoundsDo places most first_lobby lobby minutes None made [] told1 told2 log1 log2 [] ps →
-      IsTable (listenings places) most serves lobby.next ps → told3 ≡ option_map (λ es. es ++ left_of (seats_of ps)) told2 →
+  pub serves_all : (Made : ℕ → Type 0) (store : List KeptValue) (lobby : Lobby) (minutes : Minutes) (made : ℕ) (told2 told3 : Option (List LinksEntry)) (log2 : Option (List (List ℕ))) (serves : ℕ → Bool) (ps : List Phase) →
+      Made made → OpensDo places (length places) told told1 log log1 → RoundsDo places most store first_lobby lobby minutes None made [] told1 told2 log1 log2 [] ps →
+      IsTable (listenings places) most store serves lobby.next ps → told3 ≡ option_map (λ es. es ++ left_of (seats_of ps)) told2 →
       Serves places most Made told told3 log log2
-  serves_all Made lobby minutes made told2 told3 log2 serves ps so_many o r table left = (
+  serves_all Made store lobby minutes made told2 told3 log2 serves ps so_many o r table left = (
     opened_from 0 o.moments ++ (flat_map round_entries r.rounds ++ left_of (seats_of ps)),
     (
       listen_lines places o.moments ++ all_lines places None [] r.rounds,
@@ -209,8 +203,9 @@ module _ (places : List Place) (most : ℕ) (told told1 : Option (List LinksEntr
               answers = λ k. own_of_all k (listenings places) o.moments r.rounds lobby (seats_of ps) (seats_of ps) r.in_turn;
               ended = all_ended (listenings places) most (turns_of r.rounds) ps r.keeps.over;
               measured = r.keeps.measured;
+              begun = r.keeps.begun;
               stand = all_seats (λ (s : Seat). IsClient (listenings places) most (turns_of r.rounds) s []) ps
-                  (all_stand (listenings places) most (turns_of r.rounds) serves ps r.keeps.held table.each);
+                  (all_stand (listenings places) most (turns_of r.rounds) store serves ps r.keeps.held table.each);
             },
             subst Made (sym r.count) so_many,
           ),
@@ -219,11 +214,11 @@ module _ (places : List Place) (most : ℕ) (told told1 : Option (List LinksEntr
     ),
   )
 
-pub keeps_start : (places : List Listening) (most : ℕ) → Keeps places most 0 [] []
-keeps_start places most = record { early = tt; measured = tt; held = tt; over = tt }
+pub keeps_start : (places : List Listening) (most : ℕ) → Keeps places most [] 0 [] []
+keeps_start places most = record { early = tt; measured = tt; begun = tt; stored = λ place address at is rated. inl refl; held = tt; over = tt }
 
-pub table_start : (places : List Listening) (most : ℕ) (serves : ℕ → Bool) → ((session : ℕ) → serves session ≡ false) → IsTable places most serves 0 []
-table_start places most serves free = record { ordered = omega arith; each = tt; free = λ session h. free session }
+pub table_start : (places : List Listening) (most : ℕ) (serves : ℕ → Bool) → ((session : ℕ) → serves session ≡ false) → IsTable places most [] serves 0 []
+table_start places most serves free = record { ordered = omega arith; each = tt; free = λ session h. free session; fits = λ place address rings is. cc }
 
 pub whole_one : {A B : Type 0} (r : Result Unit ServeFault) → IfWhole r A → (A → B) → IfWhole r B
 whole_one (Ok u) a f = f a
@@ -238,11 +233,12 @@ whole_two (Err fault.Write) a b f = tt
 whole_two (Err fault.NoMemory) a b f = tt
 
 -- from an empty table on
-pub from_start : (places : List Listening) (most : ℕ) (Q : ℕ → Lobby → List TurnOf → List Phase → Type 0) (m : ℕ) (n : Lobby) (q : List Phase) → m ≡ most → n ≡ first_lobby → q ≡ [] →
-    ((past : List TurnOf) → Keeps places m n.next past q → Q m n past q) → Q most first_lobby [] []
-from_start places most Q m n q e f p d =
-    let x : (past : List TurnOf) → Keeps places most 0 past [] → Q most first_lobby past [] =
-    subst (λ y. (past : List TurnOf) → Keeps places most 0 past y → Q most first_lobby past y) p
-    (subst (λ (y : Lobby). (past : List TurnOf) → Keeps places most y.next past q → Q most y past q) f
-    (subst (λ y. (past : List TurnOf) → Keeps places y n.next past q → Q y n past q) e d)) in
+pub from_start : (places : List Listening) (most : ℕ) (Q : ℕ → Lobby → List TurnOf → List Phase → Type 0) (m : ℕ) (store : List KeptValue) (n : Lobby) (q : List Phase) →
+    m ≡ most → store ≡ [] → n ≡ first_lobby → q ≡ [] → ((past : List TurnOf) → Keeps places m store n.next past q → Q m n past q) → Q most first_lobby [] []
+from_start places most Q m store n q e k f p d =
+    let x : (past : List TurnOf) → Keeps places most [] 0 past [] → Q most first_lobby past [] =
+    subst (λ y. (past : List TurnOf) → Keeps places most [] 0 past y → Q most first_lobby past y) p
+    (subst (λ (y : Lobby). (past : List TurnOf) → Keeps places most [] y.next past q → Q most y past q) f
+    (subst (λ (y : List KeptValue). (past : List TurnOf) → Keeps places most y n.next past q → Q most n past q) k
+    (subst (λ y. (past : List TurnOf) → Keeps places y store n.next past q → Q y n past q) e d))) in
     x [] (keeps_start places most)

@@ -2,6 +2,7 @@ pub mod Broken
 pub mod Debt
 pub mod Door
 pub mod Failing
+pub mod Keeping
 pub mod Kept
 pub mod Laws
 pub mod Lending

@@ -188,13 +188,14 @@ pub record ReachKeeps (asset : Asset) (seat : Seat) (moment : ℕ) (store store_
   pub lent : (linked : Linked) → answer ≡ reached.Begun linked → has_rates asset ≡ true
       → kept_at store_after seat.place seat.client.address ≡ Some (Lent seat.session)
 
--- a relay that begins is of a client of the address that came, and what is kept of it was free; and a relay stays one
-abbrev pub BeginsBy : Asset → Seat → (store : List KeptValue) → (old new : Option LinkedValue) → Type 0
-BeginsBy asset seat store None None = Unit {0}
-BeginsBy asset seat store None (Some v) =
-    (v.met.address ≡ seat.client.address) × (has_rates asset ≡ true → IsFree (kept_at store seat.place seat.client.address))
-BeginsBy asset seat store (Some u) None = ⊥
-BeginsBy asset seat store (Some u) (Some v) = Unit {0}
+-- a relay that begins stands, is of a client of the address that came, and what is kept of it was free; and a relay stays one
+abbrev pub BeginsBy : Asset → Seat → (store : List KeptValue) → (stays_on : Bool) → (old new : Option LinkedValue) → Type 0
+BeginsBy asset seat store stays_on None None = Unit {0}
+BeginsBy asset seat store stays_on None (Some v) =
+    (stays_on ≡ true) × ((v.met.address ≡ seat.client.address)
+    × (has_rates asset ≡ true → IsFree (kept_at store seat.place seat.client.address)))
+BeginsBy asset seat store stays_on (Some u) None = ⊥
+BeginsBy asset seat store stays_on (Some u) (Some v) = Unit {0}
 
 -- the lane of a relay is one of the asset, also behind its end
 abbrev pub HasLane : Asset → Option LinkedValue → Type 0
@@ -202,12 +203,12 @@ HasLane asset None = Unit {0}
 HasLane asset (Some v) = IsLaneOf asset v.now.lane
 
 -- what is kept behind a turn
-pub record TurnKeeps (asset : Asset) (seat : Seat) (moment : ℕ) (store store_after : List KeptValue) (old new : Option LinkedValue) : Type 0
-  where
-    pub lends : Lends seat.session moment store store_after
-    pub lent : HasLent asset store seat old → HasLent asset store_after seat new
-    pub begins : BeginsBy asset seat store old new
-    pub lane : HasLane asset new
+pub record TurnKeeps (asset : Asset) (seat : Seat) (moment : ℕ) (store store_after : List KeptValue) (stays_on : Bool)
+    (old new : Option LinkedValue) : Type 0 where
+  pub lends : Lends seat.session moment store store_after
+  pub lent : HasLent asset store seat old → HasLent asset store_after seat new
+  pub begins : BeginsBy asset seat store stays_on old new
+  pub lane : HasLane asset new
 
 -- what is kept of a client behind the end of a session: at an asset with rates the rings of its relay, or nothing where they count no more
 abbrev pub IsGivenBack : Asset → (moment : ℕ) → Option LinkedValue → (old new : Option KeptRings) → Type 0
@@ -216,7 +217,7 @@ IsGivenBack asset moment (Some v) old new =
     (has_rates asset ≡ false → new ≡ old)
     × (has_rates asset ≡ true → (rings : List RingValue) × (AreRingsOf asset rings
     × (((before : RateMoments) (js : List Judged) → KnowsRules before v.now.lane.rules js → KnowRings rings (used_at before js))
-    × ((new ≡ Some (Has rings)) ⊎ ((are_over moment rings ≡ true) × (new ≡ None))))))
+    × (new ≡ (if are_over moment rings then None else Some (Has rings))))))
 
 -- what a relay begins with, in the turn in which it does
 abbrev pub begun_by : (before : RateMoments) → (old new : Option LinkedValue) → Option RateMoments

@@ -1,7 +1,7 @@
 //! A session of a service, and its turns.
 //! A client is looked at once, for a round, before its controller is asked, since the system tells an end a round after the
 //! client was taken.
-ghost use Rattle.std.specs.Prelude.{◌≡◌, ◌<◌, ◌∷◌, [], IfOk, IfSome, IsErr, Err, List, false, None, Ok, OnErr, OnOk, Option, Some, length, true};
+ghost use Rattle.std.specs.Prelude.{◌≡◌, ◌<◌, ◌∷◌, [], IfOk, IfSome, IsErr, Err, List, false, None, Ok, OnErr, OnOk, Option, Some, is_some, length, not, true};
 ghost use Rattle.cf_audit.specs.Line.{what_value};
 ghost use Rattle.cf_lane.specs.Caller.{RateMoments};
 ghost use Rattle.cf_lane.specs.Handled.{MayHaveMore, WritesLog};
@@ -461,8 +461,8 @@ impl Served {
         ensures may { IfOk result (λ end. end ≡ None → MayTurn (listening_of terms.now) terms.now.most (Phase.linked (phase_of self.new))) }
         ensures owes { IfOk result (λ end. end ≡ None
             → Owes terms.now.moment (Phase.linked (phase_of self.old)) (Phase.linked (phase_of self.new))) }
-        ensures keeps { OnOk result (TurnKeeps terms.now.asset.now (seat_at self.old.number terms.now.place self.old.client)
-            terms.now.moment keeping.old keeping.new (Phase.linked (phase_of self.old)) (Phase.linked (phase_of self.new))) }
+        ensures keeps { IfOk result (λ end. TurnKeeps terms.now.asset.now (seat_at self.old.number terms.now.place self.old.client)
+            terms.now.moment keeping.old keeping.new (not (is_some end)) (Phase.linked (phase_of self.old)) (Phase.linked (phase_of self.new))) }
         ensures same { self.new ≡ record self.old { linked = self.new.linked } }
         ensures whole { OnOk result (DeskValue.whole (D.value desk.new) ≡ true) }
         ensures log { WritesLog (D.value desk.old) (D.value desk.new) }

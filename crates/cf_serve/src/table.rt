@@ -108,8 +108,8 @@ fn turn_one<L: Service, D: Desk>(
         → MissesSeat (listening_of terms.now) again before terms.now.most terms.now.moment es own (L.told links.old) (L.told links.new)
         (DeskValue.lines (D.value desk.old)) (DeskValue.lines (D.value desk.new)) (DeskValue.line_part (D.value desk.new))
         (Phase.seat (phase_of served.old)) (debt_at (Phase.linked (phase_of served.old))) (Phase.linked (phase_of served.old))) }
-    ensures keeps { OnOk result (TurnKeeps terms.now.asset.now (seat_at served.old.number terms.now.place served.old.client)
-        terms.now.moment keeping.old keeping.new (Phase.linked (phase_of served.old)) (Phase.linked (phase_of served.new))) }
+    ensures keeps { IfOk result (λ stays. TurnKeeps terms.now.asset.now (seat_at served.old.number terms.now.place served.old.client)
+        terms.now.moment keeping.old keeping.new stays (Phase.linked (phase_of served.old)) (Phase.linked (phase_of served.new))) }
     ensures may { IfOk result (λ stays. stays ≡ true
         → MayTurn (listening_of terms.now) terms.now.most (Phase.linked (phase_of served.new))) }
     ensures same { served.new ≡ record served.old { linked = served.new.linked } }
