@@ -1,10 +1,10 @@
 -- What counts no more may be forgotten: rings that are over say that nothing of what was used counts, then and later.
-use Rattle.cf_lane.specs.Caller.{RateMoments, none_before}
+use Rattle.cf_lane.specs.Caller.{RateMoments}
 use Rattle.cf_lane.specs.Over.{are_over, is_over}
-use Rattle.cf_lane.specs.Rates.{and_rated, rated, rated_from}
+use Rattle.cf_lane.specs.Rates.{and_rated, rated_from}
 use Rattle.cf_lane.specs.Ring.{IsRingOf, RingValue, ring_rate}
 use Rattle.cf_lane.specs.Rings.{AreRingsOf, KnowRings}
-use Rattle.cf_policy.specs.Within.{HasRateWithin, IsAssetWithin, IsRateWithin, IsRuleWithin}
+use Rattle.cf_policy.specs.Within.{HasRateWithin, IsAssetWithin, IsRuleWithin}
 use Rattle.cf_policy.specs.declared.policy.Action.{Action}
 use Rattle.cf_policy.specs.declared.policy.Action.TheVariants.{Allow, Refuse}
 use Rattle.cf_policy.specs.declared.policy.Asset.{Asset}
@@ -13,13 +13,13 @@ use Rattle.cf_policy.specs.declared.policy.Rule.{Rule}
 use Rattle.cf_serve.specs.Kept.{IsForgotten, IsOverAt}
 use Rattle.cf_serve.specs.Lending.{Has, IsDropped, IsFree, KeptRings, Lent, Stored}
 use Rattle.cf_serve.specs.Rounds.{TurnOf}
-use Rattle.std.proofs.Common.{Bool, List, None, Option, Some, [], ap, arith, cond, count_by, false, inl, inr, map, min, nat_eq, nat_le, nat_lt, refl, slice_get, subst, suc, sym, true, zero, ℕ, ◌&&◌, ◌*◌, ◌++◌, ◌+◌, ◌-◌, ◌∙◌, ◌∷◌, ◌≡◌, ◌≤◌, ◌⊎◌}
+use Rattle.std.proofs.Common.{Bool, List, None, Option, Some, [], ap, arith, cond, count_by, false, inl, inr, map, min, nat_eq, nat_le, nat_lt, refl, slice_get, subst, suc, sym, true, zero, ℕ, ◌*◌, ◌++◌, ◌+◌, ◌-◌, ◌∙◌, ◌∷◌, ◌≡◌, ◌≤◌, ◌⊎◌}
 use Rattle.std.proofs.Math.Path.{fun_ext}
-use Rattle.std.proofs.lemmas.Bool.{and_parts, cases_Bool}
+use Rattle.std.proofs.lemmas.Bool.{and_parts}
 use Rattle.std.proofs.lemmas.Bool.Decides.{nat_tests}
 use Rattle.std.proofs.lemmas.List.Elements.{All-head, All-tail}
 use Rattle.std.proofs.lemmas.List.Sums.{sum_by-cons}
-use Rattle.std.specs.List.{All, list_all}
+use Rattle.std.specs.List.{All}
 use Rattle.std.specs.Prelude.{if◌then◌else◌}
 
 -- ---- a rate lets something through

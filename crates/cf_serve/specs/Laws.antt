@@ -1,5 +1,5 @@
--- Laws of a service. The main definitions are `EachIsAlone`, `IsolatesSessions`, `StrangersAreRefused` and `FloodsAreBounded`. This
--- project's own.
+-- Laws of a service. The main definitions are `EachIsAlone`, `IsolatesSessions`, `StrangersAreRefused`, `FloodsAreBounded` and
+-- `RatesLastOverSessions`. This project's own.
 use Rattle.cf_lane.specs.Caller.{RateMoments}
 use Rattle.cf_links.specs.Links.{LinksEntry, answers_of}
 use Rattle.cf_outside.specs.Pair.{Entry}
@@ -17,6 +17,16 @@ use Rattle.cf_serve.specs.Debt.{refused_in, second_of}
 use Rattle.cf_serve.specs.Rounds.{TurnOf, ends_in, lines_in, turns_of}
 use Rattle.cf_serve.specs.Served.{IsServed}
 use Rattle.cf_serve.specs.Session.{IsSession, Listening}
+use Rattle.cf_lane.specs.Caller.{none_before}
+use Rattle.cf_lane.specs.Judged.{Judged}
+use Rattle.cf_lane.specs.Rates.{KeepsRates}
+use Rattle.cf_policy.specs.Verdict.{is_empty}
+use Rattle.cf_relay.specs.Turn.{AreItemsOf}
+use Rattle.std.specs.List.{flat_map}
+use Rattle.std.specs.Prelude.{Some, if◌then◌else◌, is_some, slice_get, ◌&&◌, ◌==◌}
+use Rattle.cf_serve.specs.Kept.{before_in, begins_in}
+use Rattle.cf_serve.specs.Phase.{listenings}
+use Rattle.cf_serve.specs.Rounds.{answers_in, is_client}
 use Rattle.cf_serve.specs.declared.table.Place.{Place}
 use Rattle.cf_serve.specs.declared.end.SessionEnd.{SessionEnd}
 use Rattle.cf_serve.specs.declared.end.SessionEnd.TheVariants as end
@@ -78,3 +88,43 @@ FloodsAreBounded =
     (places : List Place) (most : ℕ) (entries : List LinksEntry) (lines : List (List ℕ)) (served : IsServed places most entries lines)
     (before turns behind : List TurnOf) (session first count limit : ℕ) → turns_of served.rounds ≡ before ++ (turns ++ behind)
     → LieIn first count turns → RefuseAtMost limit turns → refused_in session turns ≤ count * 100 + limit
+
+-- a turn behind others in which a session begins: its relay begins there, and had not before
+abbrev pub begins_at : (past : List TurnOf) → TurnOf → Bool
+begins_at past t = is_some t.begun && is_empty (begins_in t.seat.session past)
+
+-- the number of the session, where one of the client of this listening place and address begins
+abbrev pub began_at : (place address : ℕ) → (past : List TurnOf) → TurnOf → List ℕ
+began_at place address past t = if is_client place address t.seat && begins_at past t then t.seat.session ∷ [] else []
+
+-- the sessions of a client that begin in turns behind others, in that order
+abbrev pub sessions_of : (place address : ℕ) → (past : List TurnOf) → List TurnOf → List ℕ
+sessions_of place address past [] = []
+sessions_of place address past (t ∷ ts) = began_at place address past t ++ sessions_of place address (past ++ t ∷ []) ts
+
+-- the turns up to the one in which a session begins
+abbrev pub turns_to : (session : ℕ) → List TurnOf → List TurnOf
+turns_to session [] = []
+turns_to session (t ∷ ts) = t ∷ (if t.seat.session == session && is_some t.begun then [] else turns_to session ts)
+
+-- the items of a session: those of its own answers, after what it began with. No clock went back behind its beginning: none of them is at a
+-- moment before that of a round up to the one in which it began
+pub record IsSessionOf (asset : Asset) (turns : List TurnOf) (session : ℕ) (js : List Judged) : Type 0 where
+  pub items : AreItemsOf asset (before_in session turns) (answers_in session turns) js
+  pub forward : AllByRecursion (λ (j : Judged). AllByRecursion (λ (t : TurnOf). t.moment ≤ j.moment) (turns_to session turns)) js
+
+-- those of each of these sessions
+abbrev pub AreSessionsOf : Asset → List TurnOf → (sessions : List ℕ) → List (List Judged) → Type 0
+AreSessionsOf asset turns [] [] = Unit {0}
+AreSessionsOf asset turns [] (js ∷ more) = ⊥
+AreSessionsOf asset turns (session ∷ later) [] = ⊥
+AreSessionsOf asset turns (session ∷ later) (js ∷ more) = IsSessionOf asset turns session js × AreSessionsOf asset turns later more
+
+-- over all sessions of a client address at an asset, one after the other, no rule lets more commands through than its rate: a new connection
+-- begins with what the earlier ones had used
+abbrev pub RatesLastOverSessions : Type 0
+RatesLastOverSessions =
+    (places : List Place) (most : ℕ) (entries : List LinksEntry) (lines : List (List ℕ)) (served : IsServed places most entries lines)
+    (place address : ℕ) (at : Listening) (sessions : List (List Judged)) → slice_get (listenings places) place ≡ Some at
+    → AreSessionsOf at.asset (turns_of served.rounds) (sessions_of place address [] (turns_of served.rounds)) sessions
+    → KeepsRates at.asset none_before (flat_map (λ js. js) sessions)
