@@ -25,7 +25,7 @@ use Rattle.std.specs.Prelude.{if◌then◌else◌}
 -- ---- a rate lets something through
 
 some_of : (a : Action) (o : Option Rate) (rate : Rate) → o ≡ Some rate → HasRateWithin a o → 1 ≤ rate.most
-some_of Allow (Some own) rate e h = subst (λ (r : Rate). 1 ≤ r.most) (cc e) h.some
+some_of Allow (Some own) rate e h = let same : own ≡ rate = cc e in subst (λ (r : Rate). 1 ≤ r.most) same h.some
 some_of Allow None rate e h = cc e
 some_of Refuse (Some own) rate e h = absurd h
 some_of Refuse None rate e h = cc e
@@ -33,7 +33,7 @@ some_of Refuse None rate e h = cc e
 rated_here : (n place number : ℕ) (r : Rule) (o : Option Rate) (rate : Rate) (later : List (ℕ × Rate)) → r.rate ≡ o → HasRateWithin r.action r.rate →
     ((p : ℕ) → slice_get later p ≡ Some (number, rate) → 1 ≤ rate.most) → slice_get (and_rated n o later) place ≡ Some (number, rate) → 1 ≤ rate.most
 rated_here n place number r None rate later e h rest at = rest place at
-rated_here n zero number r (Some own) rate later e h rest at = let same : own ≡ rate = cc at in some_of r.action r.rate rate (e ∙ ap Some same) h
+rated_here n zero number r (Some own) rate later e h rest at = let pair : (n, own) ≡ (number, rate) = cc at in let same : own ≡ rate = ap (λ (p : ℕ × Rate). p.1) pair in some_of r.action r.rate rate (e ∙ ap Some same) h
 rated_here n (suc place) number r (Some own) rate later e h rest at = rest place at
 
 rated_some : (n place number : ℕ) (rules : List Rule) (rate : Rate) → All IsRuleWithin rules → slice_get (rated_from n rules) place ≡ Some (number, rate) → 1 ≤ rate.most
@@ -62,7 +62,7 @@ ring_over rate moment kept all some is over =
 ring_at : (rings : List RingValue) (place number : ℕ) (rate : Rate) → slice_get (map ring_rate rings) place ≡ Some (number, rate) →
     (r : RingValue) × (slice_get rings place ≡ Some r) × (r.rate ≡ rate)
 ring_at [] place number rate at = cc at
-ring_at (r ∷ rings) zero number rate at = (r, refl, cc at)
+ring_at (r ∷ rings) zero number rate at = let pair : ring_rate r ≡ (number, rate) = cc at in (r, refl, ap (λ (p : ℕ × Rate). p.1) pair)
 ring_at (r ∷ rings) (suc place) number rate at = ring_at rings place number rate at
 
 over_there : (moment : ℕ) (rings : List RingValue) (place : ℕ) (r : RingValue) → are_over moment rings ≡ true → slice_get rings place ≡ Some r → is_over r.rate moment r.moments ≡ true
