@@ -1,9 +1,10 @@
 -- With what the sessions of a client begin and what they leave, behind one turn more.
-use Rattle.std.proofs.Common.{Bool, List, None, Option, Some, absurd, ap, inl, inr, refl, subst, sym, true, false, ℕ, ◌++◌, ◌∙◌, ◌∷◌, ◌≡◌, ◌⊎◌, []}
+use Rattle.std.proofs.Common.{Bool, List, None, Option, Some, ap, inl, inr, refl, subst, sym, true, false, ℕ, ◌++◌, ◌∙◌, ◌∷◌, ◌≡◌, ◌⊎◌, []}
 use Rattle.std.proofs.Common.{if◌then◌else◌}
 use Rattle.std.specs.List.{list_any}
 use Rattle.std.specs.Prelude.{is_some, option_to_list, slice_get, ◌&&◌, ◌+◌, ◌||◌}
 use Rattle.std.proofs.lemmas.List.{append-nil, append_assoc}
+use Rattle.std.proofs.lemmas.Option.{same_Some}
 use Rattle.cf_lane.specs.Caller.{RateMoments, none_before}
 use Rattle.cf_lane.specs.Rates.{and_rated, rated, rated_from}
 use Rattle.cf_lane.specs.Ring.{RingValue}
@@ -12,9 +13,11 @@ use Rattle.cf_outside.specs.Pair.{Entry}
 use Rattle.cf_policy.specs.declared.Asset.{Asset}
 use Rattle.cf_policy.specs.declared.Rate.{Rate}
 use Rattle.cf_policy.specs.declared.Rule.{Rule}
-use Rattle.cf_serve.specs.Kept.{AreBegun, Begins, IsBegun, IsForgotten, IsOverAt, before_of, left_behind, left_from, left_to}
-use Rattle.cf_serve.specs.Lending.{Has, IsFree, KeptRings, KeptValue, Lent, Stored, rings_in}
-use Rattle.cf_serve.specs.Phase.{BeginsBy, BeginsWith, LinkedValue, StandsAs, begun_by}
+use Rattle.cf_relay.specs.Answers.{history_of}
+use Rattle.cf_view.specs.declared.Endpoint.{Endpoint}
+use Rattle.cf_serve.specs.Kept.{AreBegun, Begins, IsBegun, IsForgotten, IsOverAt, Leaves, before_of, left_behind, left_from, left_to}
+use Rattle.cf_serve.specs.Lending.{Has, IsFree, KeptRings, KeptValue, Lent, Stored, kept_at, rings_in}
+use Rattle.cf_serve.specs.Phase.{BeginsBy, BeginsWith, LeavesOf, LinkedValue, StandsAs, TurnLeaves, begun_by}
 use Rattle.cf_serve.specs.Rounds.{Seat, TurnOf, has_rates, is_client}
 use Rattle.cf_serve.specs.Session.{Listening}
 use Rattle.cf_serve.specs.Table.{BegunAs}
@@ -82,10 +85,15 @@ no_rated number (r ∷ rules) not =
     let x = rated_one r.rate (list_any (λ (q : Rule). is_some q.rate) rules) not in
     ap (λ (o : Option Rate). and_rated number o (rated_from (number + 1) rules)) x.0 ∙ no_rated (number + 1) rules x.1
 
+no_rules : List (ℕ × Rate)
+no_rules = []
+
+none_there : (place number : ℕ) (rate : Rate) {A : Type 0} → slice_get no_rules place ≡ Some (number, rate) → A
+none_there place number rate is = cc is
+
 pub over_unrated : (asset : Asset) (used : RateMoments) (moment : ℕ) → has_rates asset ≡ false → IsOverAt asset used moment
 over_unrated asset used moment not place number rate is =
-    let n : slice_get (rated asset.rules) place ≡ None = ap (λ (xs : List (ℕ × Rate)). slice_get xs place) (no_rated 0 asset.rules not) in
-    let e : None ≡ Some (number, rate) = sym n ∙ is in cc
+    none_there place number rate (ap (λ (xs : List (ℕ × Rate)). slice_get xs place) (sym (no_rated 0 asset.rules not)) ∙ is)
 
 -- ---- with what it begins
 
@@ -158,3 +166,32 @@ module _ (bs : List RateMoments) (b : RateMoments) where
   not_begun asset seat store stays_on None (Some v) h by none = let e : b ∷ [] ≡ [] = sym (ap (λ (xs : List RateMoments). xs ++ b ∷ []) h) ∙ none in cc
   not_begun asset seat store stays_on (Some u) None h by none = absurd by
   not_begun asset seat store stays_on (Some u) (Some v) h by none = let e : h.0 ∷ [] ≡ [] = sym (append-nil bs ∙ h.1) ∙ none in cc
+
+  -- one that begins in a turn
+  pub begun_some : (old new : Option LinkedValue) → BegunAs old bs → (b' : RateMoments) → begun_by (before_now old new) old new ≡ Some b' → b' ≡ b
+  begun_some None None h b' is = cc is
+  begun_some None (Some v) h b' is = sym (same_Some _ _ is) ∙ ap (λ (xs : List RateMoments). before_of (xs ++ b ∷ [])) h
+  begun_some (Some u) new h b' is = cc is
+
+pub begun_free : (asset : Asset) (seat : Seat) (store : List KeptValue) (stays_on : Bool) (before b : RateMoments) (old new : Option LinkedValue) → BeginsBy asset seat store stays_on old new →
+    begun_by before old new ≡ Some b → has_rates asset ≡ true → IsFree (kept_at store seat.place seat.client.address)
+begun_free asset seat store stays_on before b None None by is = cc is
+begun_free asset seat store stays_on before b None (Some v) by is = by.1.1
+begun_free asset seat store stays_on before b (Some u) new by is = cc is
+
+pub begun_first : (at : Listening) (now before b : RateMoments) (most : ℕ) (es : List Entry) (own : List (List ℕ)) (old new : Option LinkedValue) → StandsAs at before most es own old →
+    begun_by now old new ≡ Some b → es ≡ []
+begun_first at now before b most es own None new h is = h.0
+begun_first at now before b most es own (Some u) new h is = cc is
+
+-- of what is no relay behind a turn nothing was taken
+pub nothing_taken : (at : Listening) (before : RateMoments) (most : ℕ) (client : Endpoint) (es : List Entry) (own : List (List ℕ)) (new : Option LinkedValue) (end : Option SessionEnd) →
+    TurnLeaves at before most client es own new end → new ≡ None → history_of es ≡ []
+nothing_taken at before most client es own None None h none = ap history_of h.0
+nothing_taken at before most client es own None (Some e) h none = h.1
+nothing_taken at before most client es own (Some v) end h none = cc none
+
+pub leaves_as : (at : Listening) (before found : RateMoments) (es : List Entry) (new : Option LinkedValue) (left : RateMoments) (bs : List RateMoments) → LeavesOf at before found es new left →
+    BegunAs new bs → ((v : LinkedValue) → new ≡ Some v → bs ≡ before ∷ []) → Leaves at.asset found bs es left
+leaves_as at before found es None left bs l h once = subst (λ (xs : List RateMoments). Leaves at.asset found xs es left) (sym h) l
+leaves_as at before found es (Some v) left bs (js, (items, (rules, is))) h once = subst (λ (xs : List RateMoments). Leaves at.asset found xs es left) (sym (once v refl)) (js, (items, is))

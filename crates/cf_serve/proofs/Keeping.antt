@@ -156,12 +156,12 @@ module _ (places : List Listening) (most : ℕ) (store : List KeptValue) (next :
   -- it stays
   pub keeps_stay : IsMeasured places past t → IsBegun places past t → (store' : List KeptValue) → IsStored places store' (past ++ t ∷ []) → BegunAs new (begins_in t.seat.session (past ++ t ∷ [])) →
       debt_at new ≡ debt_with (debt_at linked) t.moment t.refused → t.end ≡ None → Leaves places most past t new None → Keeps places most store' next (past ++ t ∷ []) (before ++ it new ∷ after)
-  keeps_stay measured begun store' stored as owes stands leaves = record {
+  keeps_stay measured begun store' stored once owes stands leaves = record {
     early = early;
     measured = measured_more places [] past t keeps.measured measured;
     begun = begun_more places [] past t keeps.begun begun;
     stored = stored;
-    held = all_with (IsHeld places most (past ++ t ∷ [])) before (it new) after (held_own places most past t new stands none (debt_now owes) as leaves) others_held;
+    held = all_with (IsHeld places most (past ++ t ∷ [])) before (it new) after (held_own places most past t new stands none (debt_now owes) once leaves) others_held;
     over = over_all (before ++ it new ∷ after)
         (λ u h. all_with (IsNot u) before (it new) after (all_one (IsNot u) before (it linked) after h) (all_others (IsNot u) before (it linked) after h))
         (subst (IfOver places most (past ++ t ∷ []) (before ++ it new ∷ after) t) (sym stands) tt);

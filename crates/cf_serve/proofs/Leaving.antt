@@ -1,7 +1,7 @@
 -- A turn, from what the relay did in it and the last line, to what it leaves of the session.
 use Rattle.cf_lane.specs.Caller.{RateMoments, caller_at}
 use Rattle.cf_lane.specs.Ring.{RingValue}
-use Rattle.std.proofs.Common.{Bool, Err, List, None, Ok, Result, Some, ap, refl, subst, sym, true, false, ℕ, []}
+use Rattle.std.proofs.Common.{Bool, Err, List, None, Ok, Option, Result, Some, ap, refl, subst, sym, true, false, ℕ, []}
 use Rattle.std.proofs.Common.{◌++◌, ◌<◌, ◌∙◌, ◌∷◌, ◌≡◌}
 use Rattle.std.specs.Prelude.{IfErr, IsTrue, OnOk, ◌↔◌}
 use Rattle.std.proofs.lemmas.Option.{same_Some}

@@ -1,5 +1,5 @@
 -- What a round is to one session, by whether its client came again, whether it was ready and what its turn did.
-use Rattle.std.proofs.Common.{List, None, Option, Some, absurd, ap, arith, inl, inr, refl, subst, sym, true, false, ℕ, ◌++◌, ◌-◌, ◌∙◌, ◌∷◌, ◌≡◌, map, []}
+use Rattle.std.proofs.Common.{List, None, Option, Some, ap, arith, inl, inr, refl, subst, sym, true, false, ℕ, ◌++◌, ◌-◌, ◌∙◌, ◌∷◌, ◌≡◌, map, []}
 use Rattle.std.specs.Prelude.{Bool, is_some, not, option_map}
 use Rattle.std.proofs.lemmas.List.{append-nil}
 use Rattle.cf_lane.specs.Caller.{RateMoments}

@@ -1,5 +1,5 @@
 -- What is kept of clients, behind a turn of a session and behind its end.
-use Rattle.std.proofs.Common.{Bool, List, None, Option, Some, absurd, ap, arith, inl, inr, refl, subst, sym, true, false, ℕ, ◌++◌, ◌∙◌, ◌∷◌, ◌≡◌, ◌⊎◌, []}
+use Rattle.std.proofs.Common.{Bool, List, None, Option, Some, ap, arith, inl, inr, refl, subst, sym, true, false, ℕ, ◌++◌, ◌∙◌, ◌∷◌, ◌≡◌, ◌⊎◌, []}
 use Rattle.std.proofs.Common.{if◌then◌else◌}
 use Rattle.std.specs.Prelude.{slice_get, ◌&&◌, ◌==◌}
 use Rattle.std.proofs.lemmas.Bool.{eq-eqb}
@@ -82,6 +82,11 @@ pub fits_on : (places : List Listening) (session moment : ℕ) (store store' : L
 fits_on places session moment store store' lends fits place address rings is = fits place address rings (has_one session moment rings _ _ is (lends place address))
 
 -- nothing is lent and nothing dropped
+pub stored_idle : (places : List Listening) (store : List KeptValue) (past : List TurnOf) (t : TurnOf) → t.end ≡ None → IsStored places store past → IsStored places store (past ++ t ∷ [])
+stored_idle places store past t none stored p a at is rated =
+    subst (λ (left : RateMoments). Stored at.asset (past ++ t ∷ []) left (kept_at store p a)) (sym (left_stay p a past t none))
+    (stored_more at.asset (left_to p a past) past (t ∷ []) (kept_at store p a) (stored p a at is rated))
+
 pub lends_none : (session moment : ℕ) (store : List KeptValue) → Lends session moment store store
 lends_none session moment store p a = inl refl
 

@@ -15,7 +15,7 @@ use Rattle.cf_serve.proofs.Relayed.{stands_session}
 use Rattle.cf_serve.specs.Lending.{KeptValue}
 use Rattle.cf_serve.specs.Phase.{Phase, listenings}
 use Rattle.cf_serve.specs.Door.{first_lobby}
-use Rattle.cf_serve.specs.Rounds.{AreRounds, AreTurns, Arrival, IsTurn, Round, Seat, TurnOf, answers_in, arrival_entries, left_by}
+use Rattle.cf_serve.specs.Rounds.{AreRounds, AreTurns, Arrival, Round, Seat, TurnOf, answers_in, arrival_entries, left_by}
 use Rattle.cf_serve.specs.Rounds.{round_entries, turn_entries, turns_of}
 use Rattle.cf_serve.specs.Minute.{all_lines}
 use Rattle.cf_serve.specs.declared.door.Closing.{Closing}
@@ -30,6 +30,14 @@ use Rattle.cf_serve.specs.declared.minute.Minutes.{Minutes}
 use Rattle.cf_serve.specs.declared.table.Place.{Place}
 
 -- ---- a session's answers, out of those of all
+
+-- a session that is not ready has no answers
+abbrev pub IsQuiet : TurnOf → Type 0
+IsQuiet t = t.ready ≡ false → t.answers ≡ []
+
+pub all_quiet : (m : ℕ) (ts : List TurnOf) → AreTurns m ts → AllByRecursion IsQuiet ts
+all_quiet m [] are = tt
+all_quiet m (t ∷ ts) (is, are) = (λ not. (is.1 not).0, all_quiet m ts are)
 
 module _ (k : ℕ) where
   of_left : (s : ℕ) (o : Option SessionEnd) → answers_of k (left_by s o) ≡ []
@@ -55,18 +63,18 @@ module _ (k : ℕ) where
       ∙ ap (λ xs. answers_of k (map (Of t.seat.session) t.answers) ++ xs) (of_left t.seat.session t.end) ∙ append-nil (answers_of k (map (Of t.seat.session) t.answers))
       ∙ of_own t.seat.session (t.seat.session == k) t.answers refl
 
-  of_turn : (m : ℕ) (t : TurnOf) (ready : Bool) → t.ready ≡ ready → IsTurn m t → answers_of k (turn_entries t) ≡ own_of t
-  of_turn m t true is idle =
+  of_turn : (t : TurnOf) (ready : Bool) → t.ready ≡ ready → IsQuiet t → answers_of k (turn_entries t) ≡ own_of t
+  of_turn t true is idle =
       ap (λ (b : Bool). answers_of k (if b then Ready t.seat.session ∷ (map (Of t.seat.session) t.answers ++ left_by t.seat.session t.end) else left_by t.seat.session t.end)) is ∙ of_ready t
-  of_turn m t false is idle =
+  of_turn t false is idle =
       ap (λ (b : Bool). answers_of k (if b then Ready t.seat.session ∷ (map (Of t.seat.session) t.answers ++ left_by t.seat.session t.end) else left_by t.seat.session t.end)) is
-      ∙ of_left t.seat.session t.end ∙ sym (nothing (t.seat.session == k) t.answers (idle.1 is).0)
+      ∙ of_left t.seat.session t.end ∙ sym (nothing (t.seat.session == k) t.answers (idle is))
 
-  of_turns : (m : ℕ) (ts : List TurnOf) → AreTurns m ts → answers_of k (flat_map turn_entries ts) ≡ answers_in k ts
-  of_turns m [] are = refl
-  of_turns m (t ∷ ts) (is, are) =
-      answers_more k (turn_entries t) (flat_map turn_entries ts) ∙ ap (λ xs. xs ++ answers_of k (flat_map turn_entries ts)) (of_turn m t t.ready refl is)
-      ∙ ap (λ xs. own_of t ++ xs) (of_turns m ts are)
+  of_turns : (ts : List TurnOf) → AllByRecursion IsQuiet ts → answers_of k (flat_map turn_entries ts) ≡ answers_in k ts
+  of_turns [] are = refl
+  of_turns (t ∷ ts) (is, are) =
+      answers_more k (turn_entries t) (flat_map turn_entries ts) ∙ ap (λ xs. xs ++ answers_of k (flat_map turn_entries ts)) (of_turn t t.ready refl is)
+      ∙ ap (λ xs. own_of t ++ xs) (of_turns ts are)
 
   -- a client that was taken, or closed
   of_one : (closed : Option Closing) (c : Arrival) (cs : List LinksEntry) → answers_of k ((Came c.seat.session c.seat.place c.seat.client ∷ left_by c.seat.session closed) ++ cs) ≡ answers_of k cs
@@ -77,17 +85,17 @@ module _ (k : ℕ) where
   of_arrivals [] = refl
   of_arrivals (c ∷ cs) = of_one c.closed c (flat_map arrival_entries cs) ∙ of_arrivals cs
 
-  of_round : (r : Round) → AreTurns r.moment r.turns → answers_of k (round_entries r) ≡ answers_in k r.turns
+  of_round : (r : Round) → AllByRecursion IsQuiet r.turns → answers_of k (round_entries r) ≡ answers_in k r.turns
   of_round r are =
       answers_more k (flat_map arrival_entries r.arrivals) (flat_map turn_entries r.turns)
-      ∙ ap (λ xs. xs ++ answers_of k (flat_map turn_entries r.turns)) (of_arrivals r.arrivals) ∙ of_turns r.moment r.turns are
+      ∙ ap (λ xs. xs ++ answers_of k (flat_map turn_entries r.turns)) (of_arrivals r.arrivals) ∙ of_turns r.turns are
 
   of_rounds : (places : List Listening) (lobby : Lobby) (standing : List Seat) (rs : List Round) (n : Lobby) (after : List Seat) → AreRounds places lobby standing rs n after →
       answers_of k (flat_map round_entries rs) ≡ answers_in k (turns_of rs)
   of_rounds places lobby standing [] n after are = refl
   of_rounds places lobby standing (r ∷ rs) n after (m, (s, (one, later))) =
       answers_more k (round_entries r) (flat_map round_entries rs)
-      ∙ ap (λ xs. xs ++ answers_of k (flat_map round_entries rs)) (of_round r one.each)
+      ∙ ap (λ xs. xs ++ answers_of k (flat_map round_entries rs)) (of_round r (all_quiet r.moment r.turns one.each))
       ∙ ap (λ xs. answers_in k r.turns ++ xs) (of_rounds places m s rs n after later)
       ∙ sym (flat_map-append own_of r.turns (turns_of rs))
 
@@ -105,7 +113,7 @@ module _ (k : ℕ) where
       ∙ answers_more k es (left_of ss) ∙ ap (λ xs. answers_of k es ++ xs) (of_all_left ss) ∙ append-nil (answers_of k es)
 
   pub own_of_broken : (places : List Listening) (ms : List ℕ) (rs : List Round) (n : Lobby) (standing ss : List Seat) (r : Round) → AreRounds places first_lobby [] rs n standing →
-      AreTurns r.moment r.turns → answers_of k (opened_from 0 ms ++ (flat_map round_entries (rs ++ r ∷ []) ++ left_of ss)) ≡ answers_in k (turns_of (rs ++ r ∷ []))
+      AllByRecursion IsQuiet r.turns → answers_of k (opened_from 0 ms ++ (flat_map round_entries (rs ++ r ∷ []) ++ left_of ss)) ≡ answers_in k (turns_of (rs ++ r ∷ []))
   own_of_broken places ms rs n standing ss r are turns =
       own_of_whole ms (flat_map round_entries (rs ++ r ∷ [])) ss ∙ ap (answers_of k) (flat_one round_entries rs r)
       ∙ answers_more k (flat_map round_entries rs) (round_entries r)

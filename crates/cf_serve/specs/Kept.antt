@@ -71,7 +71,8 @@ pub record IsBegun (places : List Listening) (past : List TurnOf) (t : TurnOf) :
   pub first : (b : RateMoments) → t.begun ≡ Some b → answers_in t.seat.session past ≡ []
   pub met : (b : RateMoments) → t.begun ≡ Some b → (client_of t.answers).address ≡ t.seat.client.address
   -- nothing is taken of a session that has not begun
-  pub takes : begins_in t.seat.session (past ++ t ∷ []) ≡ [] → history_of (answers_in t.seat.session (past ++ t ∷ [])) ≡ []
+  pub takes : (at : Listening) → slice_get places t.seat.place ≡ Some at → begins_in t.seat.session (past ++ t ∷ []) ≡ []
+      → history_of (answers_in t.seat.session (past ++ t ∷ [])) ≡ []
   pub leaves : (e : SessionEnd) → t.end ≡ Some e → (at : Listening) → slice_get places t.seat.place ≡ Some at
       → Leaves at.asset (left_to t.seat.place t.seat.client.address past) (begins_in t.seat.session (past ++ t ∷ []))
       (answers_in t.seat.session (past ++ t ∷ [])) t.left

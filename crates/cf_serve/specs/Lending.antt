@@ -5,7 +5,7 @@ use Rattle.cf_lane.specs.Over.{are_over}
 use Rattle.cf_lane.specs.Ring.{RingValue}
 use Rattle.cf_lane.specs.Rings.{AreRingsOf, KnowRings}
 use Rattle.cf_policy.specs.declared.Asset.{Asset}
-use Rattle.std.specs.Prelude.{List, None, Option, Some, [], if◌then◌else◌, length, slice_get, true, ℕ, ◌&&◌, ◌<◌, ◌==◌, ◌∷◌, ◌≡◌, ◌⊎◌}
+use Rattle.std.specs.Prelude.{List, None, Option, Some, [], false, if◌then◌else◌, length, slice_get, true, ℕ, ◌&&◌, ◌<◌, ◌==◌, ◌∷◌, ◌≡◌, ◌⊎◌}
 use Rattle.cf_serve.specs.Kept.{IsForgotten, left_to}
 use Rattle.cf_serve.specs.Rounds.{TurnOf, has_rates}
 use Rattle.cf_serve.specs.Session.{Listening}

@@ -94,6 +94,7 @@ fn turn_one<L: Service, D: Desk>(
         (AreRingsOf terms.now.asset.now) }
     requires whole { DeskValue.whole (D.value desk.old) ≡ true }
     requires buffer { length buf.old ≡ MOST_BYTES }
+    ensures over { IfOk result (λ stays. again ≡ true → stays ≡ false) }
     ensures place { IfOk result (λ stays. KeepsPlace served.old.number (L.place links.old) (L.place links.new) stays) }
     ensures served { OnErr result (L.place links.new ≡ L.place links.old) }
     ensures round { LinksPlace.round_faults (L.place links.new) ≡ LinksPlace.round_faults (L.place links.old) }
