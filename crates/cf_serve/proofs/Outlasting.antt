@@ -11,7 +11,7 @@ use Rattle.cf_policy.specs.declared.policy.Rule.{Rule}
 use Rattle.cf_relay.specs.Answers.{client_of, history_of}
 use Rattle.cf_relay.specs.Turn.{AreItemsOf}
 use Rattle.cf_serve.proofs.Forgetting.{over_later}
-use Rattle.cf_serve.proofs.Standing.{Among, AreStood, IsStood, among_back, among_front, among_more, its_other, its_own, not_before, not_then, part_behind}
+use Rattle.cf_serve.proofs.Standing.{Among, AreStood, IsStood, among_back, among_front, among_more, its_other, its_own, no_back, no_front, not_before, not_then, own_number, part_behind, same_number}
 use Rattle.cf_serve.specs.Kept.{AreBegun, Begins, IsBegun, IsForgotten, Leaves, before_in, before_of, begins_in, left_behind, left_from, left_to}
 use Rattle.cf_serve.specs.Laws.{AreSessionsOf, IsSessionOf, begins_at, began_at, sessions_of, turns_to}
 use Rattle.cf_serve.specs.Rounds.{TurnOf, answers_in, ends_in, has_rates, is_client}
@@ -143,20 +143,6 @@ keeps_unrated : (asset : Asset) (before : RateMoments) (js : List Judged) → ha
 keeps_unrated asset before js none earlier later j place number rate is at used = let no : slice_get (rated asset.rules) place ≡ None = ap (λ ps. slice_get ps place) (unrated 0 asset.rules none) in cc (sym no ∙ at)
 
 -- ---- where a session begins
-
-same_number : (a b : ℕ) → (a == b) ≡ true → a ≡ b
-same_number a b h = grind (arith, nat_tests)
-
-own_number : (a : ℕ) → (a == a) ≡ true
-own_number a = grind (arith, nat_tests)
-
-no_front : {X : Type 0} (xs ys : List X) → xs ++ ys ≡ [] → xs ≡ []
-no_front [] ys e = refl
-no_front (x ∷ xs) ys e = cc e
-
-no_back : {X : Type 0} (xs ys : List X) → xs ++ ys ≡ [] → ys ≡ []
-no_back [] ys e = e
-no_back (x ∷ xs) ys e = cc e
 
 none_here : (own : Bool) (o : Option RateMoments) → (own ≡ true → is_some o ≡ true → ⊥) → (if own then option_to_list o else []) ≡ []
 none_here true (Some b) h = absurd (h refl refl)

@@ -1,5 +1,5 @@
 -- Round by round: the sessions that stand have rising numbers, and each turn is of one of them.
-use Rattle.cf_serve.proofs.Standing.{Among, AreStood, IsStood, among_back, among_either, among_front, among_more, its_other, its_own, not_before, not_then}
+use Rattle.cf_serve.proofs.Standing.{Among, AreStood, IsStood, among_back, among_either, among_front, among_more, its_other, its_own, not_before, not_then, own_number, same_number}
 use Rattle.cf_serve.specs.Door.{first_lobby, lobby_closed}
 use Rattle.cf_serve.specs.Rounds.{AreArrivals, AreRounds, AreTurns, Arrival, IsAgain, IsAgainOf, IsArrival, IsRound, IsTurn, Round, Seat, TurnOf, ends_in, has_later}
 use Rattle.cf_serve.specs.Rounds.{has_rates, is_same_client, lobby_behind, lobby_with, must_end, stays, taken_by, taken_of, turns_of}
@@ -88,12 +88,6 @@ taken_rising places moment from lobby standing (a ∷ more) (is, come) =
     (taken_rising places moment (a.seat.place + 1) (lobby_with lobby moment a) (standing ++ taken_by a) more come)
 
 -- ---- the sessions that stand behind turns
-
-same_number : (a b : ℕ) → (a == b) ≡ true → a ≡ b
-same_number a b h = grind (arith, nat_tests)
-
-own_number : (a : ℕ) → (a == a) ≡ true
-own_number a = grind (arith, nat_tests)
 
 other_number : (a b : ℕ) → (a ≡ b → ⊥) → (a == b) ≡ false
 other_number a b h = elim (cases_Bool (a == b)) [

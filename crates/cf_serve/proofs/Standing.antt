@@ -1,7 +1,8 @@
 -- Turns one after the other: each is of a session that has not ended, and a session that begins does so alone of its client.
 use Rattle.cf_serve.specs.Rounds.{TurnOf, ends_in, has_rates, is_same_client, part}
 use Rattle.cf_serve.specs.Session.{Listening}
-use Rattle.std.proofs.Common.{Bool, List, Some, [], ap, false, inl, inr, is_some, refl, slice_get, subst, sym, true, ℕ, ◌++◌, ◌∙◌, ◌∷◌, ◌≡◌, ◌⊎◌}
+use Rattle.std.proofs.Common.{Bool, List, Some, [], ap, arith, false, inl, inr, is_some, refl, slice_get, subst, sym, true, ℕ, ◌++◌, ◌∙◌, ◌∷◌, ◌≡◌, ◌⊎◌}
+use Rattle.std.proofs.lemmas.Bool.Decides.{nat_tests}
 use Rattle.std.proofs.lemmas.Grind.{flat_map-append}
 use Rattle.std.proofs.lemmas.List.{append-nil}
 use Rattle.std.specs.List.{AllByRecursion}
@@ -42,6 +43,14 @@ among_more x xs y m = elim (among_either x xs (y ∷ []) m) [
   | inr back ↦ elim back [ inl same ↦ inr same | inr none ↦ absurd none ]
 ]
 
+-- ---- numbers
+
+pub same_number : (a b : ℕ) → (a == b) ≡ true → a ≡ b
+same_number a b h = grind (arith, nat_tests)
+
+pub own_number : (a : ℕ) → (a == a) ≡ true
+own_number a = grind (arith, nat_tests)
+
 -- ---- what a session has of the turns
 
 module _ {A : Type 0} (of : TurnOf → List A) where
@@ -57,11 +66,11 @@ module _ {A : Type 0} (of : TurnOf → List A) where
   pub its_other : (k : ℕ) (past : List TurnOf) (t : TurnOf) → (t.seat.session == k) ≡ false → part of k (past ++ t ∷ []) ≡ part of k past
   its_other k past t e = part_behind k past (t ∷ []) ∙ ap (λ xs. part of k past ++ xs) (one k t false e) ∙ append-nil (part of k past)
 
-no_front : {X : Type 0} (xs ys : List X) → xs ++ ys ≡ [] → xs ≡ []
+pub no_front : {X : Type 0} (xs ys : List X) → xs ++ ys ≡ [] → xs ≡ []
 no_front [] ys e = refl
 no_front (x ∷ xs) ys e = cc e
 
-no_back : {X : Type 0} (xs ys : List X) → xs ++ ys ≡ [] → ys ≡ []
+pub no_back : {X : Type 0} (xs ys : List X) → xs ++ ys ≡ [] → ys ≡ []
 no_back [] ys e = e
 no_back (x ∷ xs) ys e = cc e
 
