@@ -115,8 +115,10 @@ dropped_one : (moment place address : ℕ) (store : List KeptValue) → IsFoundS
     ⊎ (IsDropped moment (kept_at store place address) × (kept_at (filter (still moment) store) place address ≡ None))
 dropped_one moment place address store (inl same) = inl (by_found store (filter (still moment) store) place address same)
 dropped_one moment place address store (inr gone) =
-    inr (subst (IsDropped moment) (sym (is_found store place address ∙ ap kept_in gone.1)) (is_dropped moment gone.0.kept gone.2),
-    is_found (filter (still moment) store) place address ∙ ap kept_in gone.3)
+    inr (
+      subst (IsDropped moment) (sym (is_found store place address ∙ ap kept_in gone.1)) (is_dropped moment gone.0.kept gone.2),
+      is_found (filter (still moment) store) place address ∙ ap kept_in gone.3,
+    )
 
 pub drops_over : (moment : ℕ) (store : List KeptValue) → AreSingle store → Drops moment store (filter (λ k. counts_still moment k.kept) store)
 drops_over moment store single place address =

@@ -25,8 +25,7 @@ pub invariant_of-self : goal.invariant_of-self
 invariant_of-self c =
     let items = c.self.inside.kept.items in
     let place : position (takes_entry c.args.place c.args.address) c.args.self.now ≡ Some c.in_ok-index.index = search rules in
-    let first = first_at (takes_entry c.args.place c.args.address) items c.in_ok-index.index (ap (position (takes_entry c.args.place c.args.address)) c.self.view_is ∙ place) in
-    (
+    let first = first_at (takes_entry c.args.place c.args.address) items c.in_ok-index.index (ap (position (takes_entry c.args.place c.args.address)) c.self.view_is ∙ place) in (
       subst AreSingle (sym c.remove.ensures.items) (single_without items c.in_ok-index.index first.0 first.1.here c.self.invariant.0),
       search rules,
       omega (arith, c.self.invariant.2, c.remove.ensures.capacity),
