@@ -280,9 +280,12 @@ fn push_address(out: &mut Page, address: u32) {
 
 /// Whether some command of the protocol has the act.
 fn is_of_command(protocol: Protocol, act: &Act) -> bool {
-    kinds(protocol, act.code)
-        .iter()
-        .any(|kind| is_of_kind(kind, act))
+    for kind in kinds(protocol, act.code) {
+        if is_of_kind(kind, act) {
+            return true;
+        }
+    }
+    false
 }
 
 fn is_of_kind(kind: &Kind, act: &Act) -> bool {

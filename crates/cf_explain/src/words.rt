@@ -32,24 +32,31 @@ const CAPTURE_LIMIT: usize = 64;
 /// The most places of a service.
 const PLACE_LIMIT: usize = 256;
 
+/// Each command, and behind it what help calls its words, with a space between two.
+const FORMS: &str = "\
+sift POLICY ASSET CLIENT STREAM OUT REPLIES LOG
+check POLICY
+compare POLICY OTHER
+learn POLICY CAPTURE OUT
+draft POLICY OUT CAPTURE..
+migrate POLICY OUT
+judge POLICY CAPTURE
+review POLICY CAPTURE.. LOG
+packets CAPTURE
+run POLICY CAPTURE OUT LOG
+relay POLICY ASSET PORT IDLES LOG
+serve POLICY SECONDS LOG NAME=A.B.C.D:PORT..
+world SEED SESSIONS POLICY CAPTURE OUT LOG";
+
 /// What help calls the words after a command, with a space between two, if it is one; of one at most there may be more.
 fn form_of(command: &str) -> Option<&'static str> {
-    match command {
-        "sift" => Some("POLICY ASSET CLIENT STREAM OUT REPLIES LOG"),
-        "check" => Some("POLICY"),
-        "compare" => Some("POLICY OTHER"),
-        "learn" => Some("POLICY CAPTURE OUT"),
-        "draft" => Some("POLICY OUT CAPTURE.."),
-        "migrate" => Some("POLICY OUT"),
-        "judge" => Some("POLICY CAPTURE"),
-        "review" => Some("POLICY CAPTURE.. LOG"),
-        "packets" => Some("CAPTURE"),
-        "run" => Some("POLICY CAPTURE OUT LOG"),
-        "relay" => Some("POLICY ASSET PORT IDLES LOG"),
-        "serve" => Some("POLICY SECONDS LOG NAME=A.B.C.D:PORT.."),
-        "world" => Some("SEED SESSIONS POLICY CAPTURE OUT LOG"),
-        _ => None,
+    for line in FORMS.lines() {
+        let (name, form) = line.split_once(' ').unwrap_or((line, ""));
+        if name == command {
+            return Some(form);
+        }
     }
+    None
 }
 
 /// How many words a form has.
@@ -352,8 +359,12 @@ fn first_again(places: &[String]) -> Option<&str> {
 
 /// Whether one of the places has this asset or endpoint.
 fn some_has(places: &[String], part: Option<&str>) -> bool {
-    places.iter().any(|place| name_of(place.as_str()) == part
-        || endpoint_of(place.as_str()) == part)
+    for place in places {
+        if name_of(place.as_str()) == part || endpoint_of(place.as_str()) == part {
+            return true;
+        }
+    }
+    false
 }
 
 /// The name of a place's asset.
@@ -364,10 +375,7 @@ fn name_of(word: &str) -> Option<&str> {
 
 /// The first file before that of an index that has the same name.
 fn twin_of(form: &str, words: &[String], index: usize) -> Option<usize> {
-    let word = words.get(index)?;
-    let earlier = words
-        .iter()
-        .position(|other| other.as_str() == word.as_str())?;
+    let earlier = first_equal(words, words.get(index)?.as_str())?;
     let count = words.len();
     if earlier < index
         && is_file(name_at(form, count, index))
@@ -377,6 +385,16 @@ fn twin_of(form: &str, words: &[String], index: usize) -> Option<usize> {
     } else {
         None
     }
+}
+
+/// The index of the first word that is this one.
+fn first_equal(words: &[String], word: &str) -> Option<usize> {
+    for (index, other) in words.iter().enumerate() {
+        if other.as_str() == word {
+            return Some(index);
+        }
+    }
+    None
 }
 
 fn is_file(name: &str) -> bool {
