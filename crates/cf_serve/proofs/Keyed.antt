@@ -1,10 +1,9 @@
 -- What is kept of each client, behind each call.
 use Rattle.cf_lane.specs.Over.{are_over}
-use Rattle.cf_lane.specs.Ring.{RingValue}
 use Rattle.cf_serve.proofs.Entries.{IsFoundStill, counted_kept, counted_more_no, counted_more_yes, counted_without, found_at, found_more_no, found_more_yes, found_nowhere, found_still, found_without, none_counted, none_without}
 use Rattle.cf_serve.specs.Keeping.{AreSingle, counts_still, takes_entry}
 use Rattle.cf_serve.specs.Lending.{Drops, Has, IsDropped, IsToLend, KeepsOthers, KeptRings, KeptValue, Lent, MayLend, kept_at, most_kept, rings_in}
-use Rattle.std.proofs.Common.{Bool, List, None, Option, Some, [], ap, arith, cond, count_by, false, inl, inr, not, option_map, refl, is_some, length, slice_get, subst, sym, true, ℕ, ◌&&◌, ◌++◌, ◌+◌, ◌∙◌, ◌∷◌, ◌<◌, ◌≡◌, ◌≤◌, ◌⊎◌}
+use Rattle.std.proofs.Common.{Bool, List, None, Option, Some, [], ap, arith, cond, count_by, false, inl, inr, not, option_map, refl, is_some, length, slice_get, subst, sym, true, ℕ, ◌&&◌, ◌++◌, ◌∙◌, ◌∷◌, ◌<◌, ◌≡◌, ◌⊎◌}
 use Rattle.std.proofs.lemmas.Bool.{cases_Bool}
 use Rattle.std.proofs.lemmas.Bool.Decides.{nat_tests}
 use Rattle.std.specs.List.{filter, find, position, remove}
@@ -115,8 +114,10 @@ dropped_one : (moment place address : ℕ) (store : List KeptValue) → IsFoundS
     ⊎ (IsDropped moment (kept_at store place address) × (kept_at (filter (still moment) store) place address ≡ None))
 dropped_one moment place address store (inl same) = inl (by_found store (filter (still moment) store) place address same)
 dropped_one moment place address store (inr gone) =
-    inr (subst (IsDropped moment) (sym (is_found store place address ∙ ap kept_in gone.1)) (is_dropped moment gone.0.kept gone.2),
-    is_found (filter (still moment) store) place address ∙ ap kept_in gone.3)
+    inr (
+      subst (IsDropped moment) (sym (is_found store place address ∙ ap kept_in gone.1)) (is_dropped moment gone.0.kept gone.2),
+      is_found (filter (still moment) store) place address ∙ ap kept_in gone.3,
+    )
 
 pub drops_over : (moment : ℕ) (store : List KeptValue) → AreSingle store → Drops moment store (filter (λ k. counts_still moment k.kept) store)
 drops_over moment store single place address =

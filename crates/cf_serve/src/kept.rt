@@ -120,9 +120,7 @@ impl Keeping {
     fn place_of(&self, place: usize, address: u32) -> Option<usize>
         ensures { result ≡ position (takes_entry place address) self.now }
     {
-        self.kept
-            .iter()
-            .position(|kept| kept.is_of(place, address))
+        self.kept.iter().position(|kept| kept.is_of(place, address))
     }
 
     /// Drops what counts no more at a moment.

@@ -9,8 +9,7 @@ pub invariant_of-self : goal.invariant_of-self
 invariant_of-self c =
     let items = c.self.inside.kept.items in
     let more : c.push.new.self.items ≡ items ++ c.args.entry ∷ [] = search rules in
-    let free = subst (λ (ks : List KeptValue). kept_at ks c.args.entry.place c.args.entry.address ≡ None) (sym c.self.view_is) c.requires.free in
-    (
+    let free = subst (λ (ks : List KeptValue). kept_at ks c.args.entry.place c.args.entry.address ≡ None) (sym c.self.view_is) c.requires.free in (
       subst AreSingle (sym more) (single_more items c.args.entry c.self.invariant.0 free),
       omega (arith, ap length more, length-append items (c.args.entry ∷ []), ap length c.self.view_is, c.requires.room),
       omega (arith, c.self.invariant.2, c.push.ensures.capacity),
