@@ -85,7 +85,7 @@ no_rated number (r ∷ rules) not =
     let x = rated_one r.rate (list_any (λ (q : Rule). is_some q.rate) rules) not in
     ap (λ (o : Option Rate). and_rated number o (rated_from (number + 1) rules)) x.0 ∙ no_rated (number + 1) rules x.1
 
-no_rules : List (ℕ × Rate)
+abbrev no_rules : List (ℕ × Rate)
 no_rules = []
 
 none_there : (place number : ℕ) (rate : Rate) {A : Type 0} → slice_get no_rules place ≡ Some (number, rate) → A

@@ -2,17 +2,24 @@
 use Rattle.cf_lane.specs.Caller.{RateMoments, caller_at}
 use Rattle.cf_lane.specs.Ring.{RingValue}
 use Rattle.std.proofs.Common.{Err, List, None, Ok, Option, Result, Some, ap, refl, subst, sym, ℕ, ◌++◌, ◌<◌, ◌∙◌, ◌∷◌, ◌≡◌, []}
-use Rattle.std.specs.Prelude.{IfOk}
+use Rattle.std.specs.Prelude.{IfOk, OnErr}
+use Rattle.std.proofs.Common.{arith, if◌then◌else◌}
 use Rattle.std.proofs.lemmas.List.{append_assoc}
 use Rattle.cf_links.specs.Links.{LinksEntry, Of, SessionTold, with_answers, with_entry}
 use Rattle.cf_outside.specs.Pair.{Entry, met_at}
+use Rattle.cf_lane.specs.Handled.{IsLaneOf, LaneValue, debt}
+use Rattle.cf_policy.specs.declared.Asset.{Asset}
 use Rattle.cf_relay.proofs.Starting.{empty_judged, relayed_met}
+use Rattle.cf_relay.specs.Relaying.{IsSound, RelayingValue, begun_value}
 use Rattle.cf_relay.specs.declared.directions.Directions.TheVariants as both
 use Rattle.cf_serve.proofs.Rounding.{more_none}
 use Rattle.cf_view.specs.declared.Endpoint.{Endpoint}
 use Rattle.cf_view.specs.declared.WriteFault.{WriteFault}
 use Rattle.cf_lane.specs.Rings.{IsLeft}
-use Rattle.cf_serve.specs.Phase.{BeginsWith, LinkedValue, ReachDoes, ReachLeaves, StandsAs, TurnDoes, linked_value}
+use Rattle.cf_serve.specs.Failing.{MissesReach}
+use Rattle.cf_serve.specs.Lending.{KeptRings, KeptValue, kept_at, rings_in}
+use Rattle.cf_serve.specs.Rounds.{has_rates}
+use Rattle.cf_serve.specs.Phase.{BeginsWith, LinkedValue, ReachDoes, ReachLeaves, StandsAs, TurnDoes, linked_value, rings_for}
 use Rattle.cf_serve.specs.Session.{EndsSo, Listening, lost_line}
 use Rattle.cf_serve.specs.declared.end.SessionEnd.{SessionEnd}
 use Rattle.cf_serve.specs.declared.end.SessionEnd.TheVariants as end
@@ -32,6 +39,66 @@ pub told_more : (session : ℕ) (list : Option (List LinksEntry)) (x : Entry) (x
     with_answers (with_entry (told_as session list) x) xs ≡ with_answers (told_as session list) (x ∷ xs)
 told_more session None x xs = refl
 told_more session (Some es) x xs = ap (λ ys. told_as session (Some ys)) (append_assoc es (Of session x ∷ []) _)
+
+pub told_same : (told : SessionTold) → told ≡ with_answers told []
+told_same told = told_none told.session told.list
+
+-- a lane that was just made, in a relay that begins
+pub fresh_sound : (asset : Asset) (most m : ℕ) (lane : LaneValue) (v : RelayingValue) → 0 < most → IsLaneOf asset lane → (lane.admitted ≡ 0) × (lane.refused ≡ 0) × (debt lane ≡ 0) → v ≡ begun_value lane m →
+    IsSound asset most v
+fresh_sound asset most m lane v few of_asset counts is = subst (IsSound asset most) (sym is) (record {
+  of_asset = of_asset;
+  debt = omega (arith, counts.2);
+  short = record { client = omega arith; controller = omega arith; to_client = omega arith; to_controller = omega arith };
+  to_client = omega arith;
+  to_controller = omega arith;
+  client_rest = omega arith;
+  controller_rest = omega arith;
+  counts = omega (arith, counts.0, counts.1);
+  few = few;
+})
+
+-- of one that was turned away, whatever was left and whatever was told
+module _ (at : Listening) (most : ℕ) (client : Endpoint) (earlier : List Entry) (log log' : Option (List (List ℕ))) where
+  pub refused_any : (r : Result Reached WriteFault) → IfOk r (λ v. (left : Option (List RingValue)) (told : SessionTold) → ReachDoes at left most client earlier told told log log' v) →
+      (left : Option (List RingValue)) (told : SessionTold) → IfOk r (λ v. ReachDoes at left most client earlier told told log log' v)
+  refused_any (Ok v) does left told = does left told
+  refused_any (Err e) does left told = tt
+
+  pub refused_missed : (part : List ℕ) (r : Result Reached WriteFault) → OnErr r ((told : SessionTold) → MissesReach at most client earlier told told log log' part) →
+      (told : SessionTold) → OnErr r (MissesReach at most client earlier told told log log' part)
+  refused_missed part (Ok v) does told = tt
+  refused_missed part (Err e) does told = does told
+
+-- what was left is the same, where the same is kept
+pub rings_same : (at : Listening) (most : ℕ) (client : Endpoint) (store store' : List KeptValue) (place : ℕ) → kept_at store' place client.address ≡ kept_at store place client.address →
+    (earlier : List Entry) (told told' : SessionTold) (log log' : Option (List (List ℕ))) (r : Result Reached WriteFault) →
+    IfOk r (λ v. ReachDoes at (rings_for at.asset store' place client.address) most client earlier told told' log log' v) →
+    IfOk r (λ v. ReachDoes at (rings_for at.asset store place client.address) most client earlier told told' log log' v)
+rings_same at most client store store' place same earlier told told' log log' r does =
+    subst (λ (k : Option KeptRings). IfOk r (λ v. ReachDoes at (if has_rates at.asset then rings_in k else None) most client earlier told told' log log' v)) same does
+
+-- whatever was left, whoever came and whatever was told
+module _ (at : Listening) (most : ℕ) (earlier : List Entry) (log log' : Option (List (List ℕ))) where
+  pub reached_any : (r : Result Reached WriteFault) → IfOk r (λ v. (left : Option (List RingValue)) (client : Endpoint) (told : SessionTold) → ReachDoes at left most client earlier told told log log' v) →
+      (left : Option (List RingValue)) (client : Endpoint) (told told' : SessionTold) → told' ≡ told → IfOk r (λ v. ReachDoes at left most client earlier told told' log log' v)
+  reached_any (Ok v) does left client told told' same = subst (λ (t : SessionTold). ReachDoes at left most client earlier told t log log' v) (sym same) (does left client told)
+  reached_any (Err e) does left client told told' same = tt
+
+  pub missed_any : {A : Type 0} (r : Result A WriteFault) (part : List ℕ) → OnErr r ((client : Endpoint) (told : SessionTold) → MissesReach at most client earlier told told log log' part) →
+      (client : Endpoint) (told told' : SessionTold) → told' ≡ told → OnErr r (MissesReach at most client earlier told told' log log' part)
+  missed_any (Ok v) part does client told told' same = tt
+  missed_any (Err e) part does client told told' same = subst (λ (t : SessionTold). MissesReach at most client earlier told t log log' part) (sym same) (does client told)
+
+  pub reached_told : (r : Result Reached WriteFault) (left : Option (List RingValue)) (client : Endpoint) → IfOk r (λ v. (told : SessionTold) → ReachDoes at left most client earlier told told log log' v) →
+      (told : SessionTold) → IfOk r (λ v. ReachDoes at left most client earlier told told log log' v)
+  reached_told (Ok v) left client does told = does told
+  reached_told (Err e) left client does told = tt
+
+  pub missed_told : {A : Type 0} (r : Result A WriteFault) (part : List ℕ) (client : Endpoint) → OnErr r ((told : SessionTold) → MissesReach at most client earlier told told log log' part) →
+      (told : SessionTold) → OnErr r (MissesReach at most client earlier told told log log' part)
+  missed_told (Ok v) part client does told = tt
+  missed_told (Err e) part client does told = does told
 
 module _ (at : Listening) (most : ℕ) (client : Endpoint) where
   -- the clock failed before the first moment

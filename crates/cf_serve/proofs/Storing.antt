@@ -140,12 +140,12 @@ module _ (places : List Listening) (within : AreWithin places) (past : List Turn
       stored_ends p a at' is rated = stored_by p a at' is rated (is_client p a z) refl
 
 -- the rings of an entry that has some, and the number of a session that has one
-rings_of : Option KeptRings → List RingValue
+abbrev rings_of : Option KeptRings → List RingValue
 rings_of None = []
 rings_of (Some (Has rings)) = rings
 rings_of (Some (Lent n)) = []
 
-lent_number : Option KeptRings → ℕ
+abbrev lent_number : Option KeptRings → ℕ
 lent_number None = 0
 lent_number (Some (Has rings)) = 0
 lent_number (Some (Lent n)) = n

@@ -14,7 +14,11 @@ use cf_view::Endpoint;
 pub(crate) fn has_rates(asset: &Asset) -> bool
     ensures { result ≡ has_rates asset.now }
 {
-    asset.rules.as_slice().iter().any(|rule| rule.rate.is_some())
+    asset
+        .rules
+        .as_slice()
+        .iter()
+        .any(|rule| rule.rate.is_some())
 }
 
 /// Whether a session of a client may begin: what is kept of it is not lent, and there is room for it.
@@ -58,6 +62,12 @@ pub(crate) fn keep_rings(served: Served, asset: &Asset, moment: u64, keeping: &m
     };
     if has_rates(asset) {
         let rings = linked.relaying.into_rings();
-        keeping.give_back(served.number, served.place, served.client.address, rings, moment);
+        keeping.give_back(
+            served.number,
+            served.place,
+            served.client.address,
+            rings,
+            moment,
+        );
     }
 }

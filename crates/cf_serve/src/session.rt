@@ -4,12 +4,12 @@
 ghost use Rattle.std.specs.Prelude.{◌≡◌, ◌<◌, ◌∷◌, [], IfOk, IfSome, IsErr, Err, List, false, None, Ok, OnErr, OnOk, Option, Some, is_some, length, not, true};
 ghost use Rattle.cf_audit.specs.Line.{what_value};
 ghost use Rattle.cf_lane.specs.Caller.{RateMoments};
-ghost use Rattle.cf_lane.specs.Handled.{MayHaveMore, WritesLog};
+ghost use Rattle.cf_lane.specs.Handled.{IsLaneOf, LaneValue, MayHaveMore, WritesLog, debt};
 ghost use Rattle.cf_lane.specs.Log.{with_lines};
 ghost use Rattle.cf_lane.specs.Ring.{RingValue};
 ghost use Rattle.cf_lane.specs.Rings.{AreRingsOf, IsLeft};
 ghost use Rattle.cf_links.specs.LinkValue.{told_of};
-ghost use Rattle.cf_links.specs.Links.{LinksPlace, SessionTold};
+ghost use Rattle.cf_links.specs.Links.{LinksPlace, SessionTold, with_entry};
 ghost use Rattle.cf_outside.specs.Desk.{DeskValue};
 ghost use Rattle.cf_outside.specs.Faults.{HasCause, Rose};
 ghost use Rattle.cf_outq.specs.SendQueue.{empty};
@@ -82,6 +82,7 @@ struct Parts {
 /// How a session ends by what its relay answered; `closed` says whether both its sides are.
 fn end_by(answer: Result<(), Stop>, closed: bool) -> Result<Option<SessionEnd>, WriteFault>
     ensures end { IfOk result (λ end. end ≡ end_of answer closed) }
+    ensures again { IfOk result (λ end. end ≡ Some SessionEnd.Again → ⊥) }
     ensures fine { OnOk result (answer ≡ Err Stop.Write → ⊥) }
     ensures write { OnErr result (answer ≡ Err Stop.Write) }
 {
@@ -133,6 +134,9 @@ fn make_parts(
     requires within { IsAssetWithin asset.now }
     requires left { IfSome left (AreRingsOf asset.now) }
     ensures lane { IfOk result (λ parts. (before : RateMoments) → IsLeft left before → IsNewLane asset.now before met (Parts.lane parts)) }
+    ensures of_asset { IfOk result (λ parts. IsLaneOf asset.now (Parts.lane parts)) }
+    ensures counts { IfOk result (λ parts. (LaneValue.admitted (Parts.lane parts) ≡ 0) × (LaneValue.refused (Parts.lane parts) ≡ 0)
+        × (debt (Parts.lane parts) ≡ 0)) }
     ensures to_client { IfOk result (λ parts. Parts.to_client parts ≡ empty) }
     ensures to_controller { IfOk result (λ parts. Parts.to_controller parts ≡ empty) }
 {
@@ -175,6 +179,7 @@ fn open_relay<D: Desk>(
     ensures free { IfOk result (λ reached. BeginsFree client reached) }
     ensures keeps { IfOk result (λ reached. ReachKeeps terms.now.asset.now (seat_at session terms.now.place client) terms.now.moment
         keeping.old keeping.new reached) }
+    ensures again { IfOk result (λ reached. reached ≡ Reached.Ended SessionEnd.Again → ⊥) }
     ensures met { (result ≡ Ok (Reached.Ended SessionEnd.Unreached) → ⊥) × (result ≡ Ok (Reached.Ended SessionEnd.Gone) → ⊥) }
     ensures whole { OnOk result (DeskValue.whole (D.value desk.new) ≡ true) }
     ensures log { WritesLog (D.value desk.old) (D.value desk.new) }
@@ -222,6 +227,47 @@ fn lose<D: Desk>(met: Endpoint, terms: &Terms<'_>, desk: &mut D) -> Result<Reach
     Ok(Reached::Ended(SessionEnd::Lost))
 }
 
+/// The end of a session for whose client nothing more can be kept, or whose client's rings are lost.
+fn refuse<D: Desk>(client: Endpoint, terms: &Terms<'_>, desk: &mut D) -> Result<Reached, WriteFault>
+    requires within { IsAssetWithin terms.now.asset.now }
+    requires whole { DeskValue.whole (D.value desk.old) ≡ true }
+    ensures end { IfOk result (λ reached. reached ≡ Reached.Ended SessionEnd.NoMemory) }
+    ensures does { IfOk result (λ reached. (left : Option (List RingValue)) (told : SessionTold)
+        → ReachDoes (listening_of terms.now) left terms.now.most client [] told told
+        (DeskValue.lines (D.value desk.old)) (DeskValue.lines (D.value desk.new)) reached) }
+    ensures breaks { OnErr result ((told : SessionTold) → MissesReach (listening_of terms.now) terms.now.most client [] told told
+        (DeskValue.lines (D.value desk.old)) (DeskValue.lines (D.value desk.new)) (DeskValue.line_part (D.value desk.new))) }
+    ensures whole { OnOk result (DeskValue.whole (D.value desk.new) ≡ true) }
+    ensures log { WritesLog (D.value desk.old) (D.value desk.new) }
+    ensures cause { HasCause (DeskValue.faults (D.value desk.old)) (DeskValue.faults (D.value desk.new)) (IsErr result) }
+{
+    log_line(terms.asset, client, terms.moment, What::NoMemory, desk)?;
+    Ok(Reached::Ended(SessionEnd::NoMemory))
+}
+
+/// The first moment of a session, where the client that was met has the address that came.
+fn first_moment<L: Links>(
+    session: u64,
+    client: Endpoint,
+    met: Endpoint,
+    links: &mut L,
+) -> Option<u64>
+    requires serves { LinksPlace.serves (L.place links.old) session ≡ true }
+    ensures place { L.place links.new ≡ L.place links.old }
+    ensures moment { IfSome result (λ moment. told_of L.Links session links.new
+        ≡ with_entry (told_of L.Links session links.old) (Moment moment)) }
+    ensures address { is_some result ≡ true → met.address ≡ client.address }
+    ensures none { result ≡ None → told_of L.Links session links.new ≡ told_of L.Links session links.old }
+{
+    if met.address != client.address {
+        return None;
+    }
+    match links.moment(session) {
+        MomentAnswer::Told(moment) => Some(moment),
+        MomentAnswer::Failed => None,
+    }
+}
+
 /// Begins the relay of a session whose controller was reached, at its first moment. What is kept is of the address that came: a client of
 /// another one is not served.
 fn begin<L: Links, D: Desk>(
@@ -254,19 +300,15 @@ fn begin<L: Links, D: Desk>(
     ensures free { IfOk result (λ reached. BeginsFree client reached) }
     ensures keeps { IfOk result (λ reached. ReachKeeps terms.now.asset.now (seat_at session terms.now.place client) terms.now.moment
         keeping.old keeping.new reached) }
+    ensures again { IfOk result (λ reached. reached ≡ Reached.Ended SessionEnd.Again → ⊥) }
     ensures met { (result ≡ Ok (Reached.Ended SessionEnd.Unreached) → ⊥) × (result ≡ Ok (Reached.Ended SessionEnd.Gone) → ⊥) }
     ensures whole { OnOk result (DeskValue.whole (D.value desk.new) ≡ true) }
     ensures log { WritesLog (D.value desk.old) (D.value desk.new) }
     ensures cause { HasCause (DeskValue.faults (D.value desk.old)) (DeskValue.faults (D.value desk.new)) (IsErr result) }
 {
-    if met.address != client.address {
-        return lose(met, terms, desk);
-    }
-    match links.moment(session) {
-        MomentAnswer::Told(moment) => {
-            open_relay(alloc, session, client, met, moment, terms, keeping, desk)
-        }
-        MomentAnswer::Failed => lose(met, terms, desk),
+    match first_moment(session, client, met, links) {
+        Some(moment) => open_relay(alloc, session, client, met, moment, terms, keeping, desk),
+        None => lose(met, terms, desk),
     }
 }
 
@@ -297,6 +339,7 @@ fn reach<L: Links, D: Desk>(
     ensures free { IfOk result (λ reached. BeginsFree client reached) }
     ensures keeps { IfOk result (λ reached. ReachKeeps terms.now.asset.now (seat_at session terms.now.place client) terms.now.moment
         keeping.old keeping.new reached) }
+    ensures again { IfOk result (λ reached. reached ≡ Reached.Ended SessionEnd.Again → ⊥) }
     ensures unreached { result ≡ Ok (Reached.Ended SessionEnd.Unreached) → Rose (L.faults links.old) (L.faults links.new) }
     ensures gone { result ≡ Ok (Reached.Ended SessionEnd.Gone) → L.faults links.new ≡ L.faults links.old }
     ensures whole { OnOk result (DeskValue.whole (D.value desk.new) ≡ true) }
@@ -304,8 +347,7 @@ fn reach<L: Links, D: Desk>(
     ensures cause { HasCause (DeskValue.faults (D.value desk.old)) (DeskValue.faults (D.value desk.new)) (IsErr result) }
 {
     if !may_begin(client, terms, keeping) {
-        log_line(terms.asset, client, terms.moment, What::NoMemory, desk)?;
-        return Ok(Reached::Ended(SessionEnd::NoMemory));
+        return refuse(client, terms, desk);
     }
     match links.meet(session, terms.port, terms.asset.endpoint) {
         ReachAnswer::Met(met) => begin(alloc, session, client, met, terms, keeping, links, desk),
@@ -348,6 +390,7 @@ impl Linked {
             (DeskValue.lines (D.value desk.old)) (DeskValue.lines (D.value desk.new)) (DeskValue.line_part (D.value desk.new))
             (Some (linked_value self.old))) }
         ensures may { IfOk result (λ end. end ≡ None → MayTurn (listening_of terms.now) terms.now.most (Some (linked_value self.new))) }
+        ensures again { IfOk result (λ end. end ≡ Some SessionEnd.Again → ⊥) }
         ensures lane { OnOk result (HasLane terms.now.asset.now (Some (linked_value self.new))) }
         ensures owes { IfOk result (λ end. end ≡ None
             → Owes terms.now.moment (Some (linked_value self.old)) (Some (linked_value self.new))) }
@@ -424,8 +467,8 @@ impl Served {
         ensures log { WritesLog (D.value desk.old) (D.value desk.new) }
         ensures cause { HasCause (DeskValue.faults (D.value desk.old)) (DeskValue.faults (D.value desk.new)) (IsErr result) }
     {
-        let counts = self.counts();
-        let what = last_what(SessionEnd::Again, counts.admitted, counts.refused);
+        let tally = self.counts();
+        let what = last_what(SessionEnd::Again, tally.admitted, tally.refused);
         log_line(terms.asset, self.client, terms.moment, what, desk)
     }
 
@@ -461,6 +504,7 @@ impl Served {
         ensures may { IfOk result (λ end. end ≡ None → MayTurn (listening_of terms.now) terms.now.most (Phase.linked (phase_of self.new))) }
         ensures owes { IfOk result (λ end. end ≡ None
             → Owes terms.now.moment (Phase.linked (phase_of self.old)) (Phase.linked (phase_of self.new))) }
+        ensures again { IfOk result (λ end. end ≡ Some SessionEnd.Again → ⊥) }
         ensures keeps { IfOk result (λ end. TurnKeeps terms.now.asset.now (seat_at self.old.number terms.now.place self.old.client)
             terms.now.moment keeping.old keeping.new (not (is_some end)) (Phase.linked (phase_of self.old)) (Phase.linked (phase_of self.new))) }
         ensures same { self.new ≡ record self.old { linked = self.new.linked } }

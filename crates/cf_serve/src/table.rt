@@ -19,7 +19,8 @@ ghost use Rattle.cf_serve.specs.Failing.{MissesArrival, MissesLine, MissesRound,
 ghost use Rattle.cf_serve.specs.Served.{HasMade, left_of};
 ghost use Rattle.cf_serve.specs.Door.{first_lobby};
 ghost use Rattle.cf_serve.specs.Minute.{last_behind, lines_at, no_minutes, stands_lines, tally_at};
-ghost use Rattle.cf_serve.specs.Rounds.{TurnOf, closing_of, count_of, has_later, has_place, has_rates};
+ghost use Rattle.cf_serve.specs.Rounds.{TurnOf, closing_of, count_of, has_later, has_place, has_rates, must_end};
+ghost use Rattle.cf_serve.specs.declared.session.Served.{Served as ServedOf};
 ghost use Rattle.cf_serve.specs.Table.{AreCalm, Arrive, IfWhole, IsMinuteOf, IsTable, Keeps, MayLeave, RoundDoes, RoundsDo, SeatsStep, StepDoes};
 ghost use Rattle.cf_serve.specs.Table.{TurnsDo, new_phase};
 ghost use Rattle.cf_serve.specs.Table.{seats_of};
@@ -190,18 +191,24 @@ impl Table {
         ensures { result ≡ has_later (seats_of (map phase_of self.now.sessions.items)) (seat_at number place client) }
     {
         self.sessions.iter().any(|other| {
-            other.place == place
-                && other.client.address == client.address
-                && number < other.number
+            other.place == place && other.client.address == client.address && number < other.number
         })
     }
 
-    /// Whether the client of a session of an asset came again, and the asset has rates.
-    fn came_again(&self, served: &Served, asset: &Asset) -> bool
-        ensures { result ≡ (self.now.has_new && (has_rates asset.now
-            && has_later (seats_of (map phase_of self.now.sessions.items)) (Phase.seat (phase_of served.now)))) }
+    /// Whether the client of the session of a place came again, and its asset has rates.
+    fn must_end(&self, index: usize, places: &[Place<'_>]) -> bool
+        requires index { index < length self.now.sessions.items }
+        requires placed { AllByRecursion (λ (p : Phase). p.seat.place < length (listenings places.now)) (map phase_of self.now.sessions.items) }
+        requires within { AllByRecursion (λ place. IsAssetWithin (PlaceOf.asset place).now) places.now }
+        requires calm { self.now.has_new ≡ false → AreCalm (listenings places.now) (seats_of (map phase_of self.now.sessions.items)) }
+        ensures { (served : ServedOf) → slice_get self.now.sessions.items index ≡ Some served
+            → result ≡ must_end (listenings places.now) (seats_of (map phase_of self.now.sessions.items)) (Phase.seat (phase_of served)) }
     {
-        self.has_new && has_rates(asset) && self.has_later(served.place, served.client, served.number)
+        let served = &self.sessions[index];
+        let place = place_of(places, served.place);
+        self.has_new
+            && has_rates(place.asset)
+            && self.has_later(served.place, served.client, served.number)
     }
 
     /// Gives the session of a place its turn; it is taken out where it ends. Answers whether it stays.
@@ -209,6 +216,7 @@ impl Table {
         &mut self,
         alloc: Global,
         index: usize,
+        again: bool,
         places: &[Place<'_>],
         moment: u64,
         most: u64,
@@ -220,7 +228,8 @@ impl Table {
         requires few { length places.now ≤ 256 }
         requires table { IsTable (listenings places.now) most self.old.keeping (LinksPlace.serves (L.place links.old)) self.old.lobby.next
             (map phase_of self.old.sessions.items) }
-        requires calm { self.old.has_new ≡ false → AreCalm (listenings places.now) (seats_of (map phase_of self.old.sessions.items)) }
+        requires again { (served : ServedOf) → slice_get self.old.sessions.items index ≡ Some served
+            → again ≡ must_end (listenings places.now) (seats_of (map phase_of self.old.sessions.items)) (Phase.seat (phase_of served)) }
         requires within { AllByRecursion (λ place. IsAssetWithin (PlaceOf.asset place).now) places.now }
         requires most { 0 < most }
         requires whole { DeskValue.whole (D.value desk.old) ≡ true }
@@ -252,9 +261,9 @@ impl Table {
         ensures cause { HasCause (DeskValue.faults (D.value desk.old)) (DeskValue.faults (D.value desk.new)) (IsErr result) }
         ensures buffer { length buf.new ≡ MOST_BYTES }
     {
-        let number = self.sessions[index].place;
+        let served = &mut self.sessions[index];
+        let number = served.place;
         let place = place_of(places, number);
-        let again = self.came_again(&self.sessions[index], place.asset);
         let terms = Terms {
             asset: place.asset,
             place: number,
@@ -262,7 +271,6 @@ impl Table {
             moment,
             most,
         };
-        let served = &mut self.sessions[index];
         let keeping = &mut self.keeping;
         let before = served.counts();
         let stays = turn_one(served, alloc, &terms, again, buf, keeping, links, desk)?;
@@ -358,7 +366,10 @@ impl Table {
         let mut buf = [0u8; MOST_BYTES];
         let mut index = self.next_at(0, links);
         while index < self.sessions.len() {
-            let stays = self.turn_at(alloc, index, places, moment, most, &mut buf, links, desk)?;
+            let again = self.must_end(index, places);
+            let stays = self.turn_at(
+                alloc, index, again, places, moment, most, &mut buf, links, desk,
+            )?;
             index = self.next_at(place_behind(index, stays), links);
         }
         self.has_new = false;
