@@ -29,6 +29,11 @@ may_leave places most store next serves ps t = record {
   served = all_map (MayGo places most store serves) (λ (p : Phase). serves p.seat.session ≡ true) ps (λ p m. m.served) t.each;
 }
 
+-- the same is kept
+pub kept_on : (places : List Listening) (most : ℕ) (store store' : List KeptValue) (next : ℕ) (past : List TurnOf) (ps : List Phase) → store' ≡ store → Keeps places most store next past ps →
+    Keeps places most store' next past ps
+kept_on places most store store' next past ps same keeps = subst (λ (k : List KeptValue). Keeps places most k next past ps) (sym same) keeps
+
 -- two lists that begin alike
 pub same_front : {X : Type 0} (xs ys zs ws : List X) → xs ++ ys ≡ zs ++ ws → length xs ≡ length zs → xs ≡ zs
 same_front xs ys zs ws e l =

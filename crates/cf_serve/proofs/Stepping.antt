@@ -15,7 +15,7 @@ use Rattle.cf_serve.proofs.Beginning.{now_is, now_of, now_stands}
 use Rattle.cf_serve.proofs.Keeping.{keeps_end, keeps_stay, part_own}
 use Rattle.cf_serve.proofs.Numbers.{all_map, all_one, all_others, all_with, all_zip, below, number_within, others, with_it, without_it}
 use Rattle.cf_serve.proofs.Placing.{PhasesAt}
-use Rattle.cf_serve.proofs.Storing.{AreWithin, stored_ends, stored_stays}
+use Rattle.cf_serve.proofs.Storing.{AreWithin, fits_ends, fits_on, lent_ends, lent_on, stored_ends, stored_stays}
 use Rattle.cf_serve.proofs.Tallying.{tallied_more}
 use Rattle.cf_serve.specs.Debt.{Admits, IsMeasured, Refuses, debt_of, debt_with, must_rest}
 use Rattle.cf_serve.specs.Kept.{Begins, IsBegun, Leaves, before_in, before_of, begins_in, left_to}
@@ -81,7 +81,7 @@ module _ {xs : List Served} {index : ℕ} {x : Served} (s : PhasesAt xs index x)
   may_others = all_others (MayGo places most store serves) s.before (phase_of x) s.after each
 
   -- what is kept for the others stays so
-  abbrev Lasts : List KeptValue → Type 0
+  abbrev pub Lasts : List KeptValue → Type 0
   Lasts store' = (q : Seat) (o : Option LinkedValue) → (x.number == q.session) ≡ false → (at : Listening) → slice_get places q.place ≡ Some at → HasLent at.asset store q o → HasLent at.asset store' q o
 
   -- it is gone, and the links have it no longer
@@ -360,3 +360,34 @@ module _ {xs : List Served} {index : ℕ} {x : Served} (s : PhasesAt xs index x)
 pub on_err : {A E : Type 0} (r : Result A E) (P : Type 0) → P → OnErr r P
 on_err (Ok a) P p = tt
 on_err (Err e) P p = p
+
+-- a session that ended was taken out, and gave back what it had
+module _ {xs : List Served} {index : ℕ} {x : Served} (s : PhasesAt xs index x) {places : List Listening} {most next : ℕ} {serves : ℕ → Bool} {store : List KeptValue}
+    (table : IsTable places most store serves next (map phase_of xs)) {at : Listening} (is_at : slice_get places x.place ≡ Some at) {moment : ℕ} {stays_on : Bool} {store' : List KeptValue} (y : Served)
+    (k : TurnKeeps at.asset (phase_of x).seat moment store store' stays_on (phase_of x).linked (phase_of y).linked) where
+  -- what it is lent
+  pub its_lent : HasLent at.asset store' (phase_of x).seat (phase_of y).linked
+  its_lent = k.lent ((may_go s table).lent at is_at)
+
+  pub its_lent_at : (other : Listening) → slice_get places x.place ≡ Some other → HasLent other.asset store' (phase_of x).seat (phase_of y).linked
+  its_lent_at = at_place places x.place at is_at (λ (o : Listening). HasLent o.asset store' (phase_of x).seat (phase_of y).linked) its_lent
+
+  pub fits_now : Fits places store'
+  fits_now = fits_on places x.number moment store store' k.lends table.fits
+
+  pub lasts_now : Lasts s table store'
+  lasts_now q o other at' is' h = lent_on at'.asset x.number moment store store' k.lends q o h
+
+  module _ (r : Served) (gone : r ≡ record x { linked = y.linked }) (store'' : List KeptValue) (others_r : KeepsOthers r.place r.client.address store' store'')
+      (back_r : IsGivenBack at.asset moment (phase_of r).linked (kept_at store' r.place r.client.address) (kept_at store'' r.place r.client.address)) where
+    pub others_now : KeepsOthers x.place x.client.address store' store''
+    others_now = subst (λ (z : Served). KeepsOthers z.place z.client.address store' store'') gone others_r
+
+    pub back_now : IsGivenBack at.asset moment (phase_of y).linked (kept_at store' x.place x.client.address) (kept_at store'' x.place x.client.address)
+    back_now = subst (λ (z : Served). IsGivenBack at.asset moment (phase_of z).linked (kept_at store' z.place z.client.address) (kept_at store'' z.place z.client.address)) gone back_r
+
+    pub fits_then : Fits places store''
+    fits_then = fits_ends places (phase_of x).seat at is_at moment store' store'' others_now (phase_of y).linked back_now fits_now
+
+    pub lasts_then : Lasts s table store''
+    lasts_then q o other at' is' h = lent_ends places (phase_of x).seat at is_at moment store' store'' others_now (phase_of y).linked back_now its_lent q o other at' is' (lasts_now q o other at' is' h)

@@ -1,7 +1,8 @@
 -- What is kept of clients, behind a turn of a session and behind its end.
-use Rattle.std.proofs.Common.{Bool, List, None, Option, Some, ap, arith, inl, inr, refl, subst, sym, true, false, ℕ, ◌++◌, ◌∙◌, ◌∷◌, ◌≡◌, ◌⊎◌, []}
+use Rattle.std.proofs.Common.{Bool, List, None, Option, Some, ap, arith, inl, inr, refl, subst, suc, sym, true, false, zero, ℕ, ◌++◌, ◌∙◌, ◌∷◌, ◌≡◌, ◌⊎◌, []}
 use Rattle.std.proofs.Common.{if◌then◌else◌}
-use Rattle.std.specs.Prelude.{slice_get, ◌&&◌, ◌==◌}
+use Rattle.std.specs.List.{AllByRecursion}
+use Rattle.std.specs.Prelude.{IfSome, slice_get, ◌&&◌, ◌==◌}
 use Rattle.std.proofs.lemmas.Bool.{eq-eqb}
 use Rattle.std.proofs.lemmas.Bool.Decides.{nat_tests}
 use Rattle.std.proofs.lemmas.Option.{same_Some}
@@ -15,11 +16,12 @@ use Rattle.cf_policy.specs.declared.Asset.{Asset}
 use Rattle.cf_serve.proofs.Beginning.{forgotten_last, left_other, left_own, left_stay, stored_more}
 use Rattle.cf_serve.proofs.Forgetting.{over_at}
 use Rattle.cf_serve.specs.Kept.{left_to}
-use Rattle.cf_serve.specs.Lending.{Fits, Has, IsDropped, IsFree, IsStored, KeepsOthers, KeptRings, KeptValue, Lends, Lent, Stored, kept_at}
-use Rattle.cf_serve.specs.Phase.{HasLent, IsGivenBack, LeavesOf, LinkedValue}
+use Rattle.cf_serve.specs.Lending.{Fits, Has, IsDropped, IsFree, IsStored, KeepsOthers, KeptRings, KeptValue, Lends, Lent, Stored, kept_at, rings_in}
+use Rattle.cf_serve.specs.Phase.{HasLent, IsGivenBack, LeavesOf, LinkedValue, listening_at, listenings, rings_for}
 use Rattle.cf_serve.specs.Rounds.{Seat, TurnOf, has_rates, is_client}
 use Rattle.cf_serve.specs.Session.{Listening}
 use Rattle.cf_serve.specs.declared.end.SessionEnd.{SessionEnd}
+use Rattle.cf_serve.specs.declared.table.Place.{Place}
 
 -- the assets of the places
 abbrev pub AreWithin : List Listening → Type 0
@@ -187,7 +189,7 @@ module _ (places : List Listening) (z : Seat) (at : Listening) (is_at : slice_ge
     -- its own entry is of no other session
     own_lent : (n : ℕ) → (z.session == n) ≡ false → (x : Option LinkedValue) → x ≡ o → HasLent at.asset store z x → has_rates at.asset ≡ true →
         kept_at store z.place z.client.address ≡ Some (Lent n) → kept_at store' z.place z.client.address ≡ Some (Lent n)
-    own_lent n other None is lent rated its = subst (λ (x : Option LinkedValue). IsGivenBack at.asset moment x _ _) (sym is) back ∙ its
+    own_lent n other None is lent rated its = subst (λ (x : Option LinkedValue). IsGivenBack at.asset moment x (kept_at store z.place z.client.address) (kept_at store' z.place z.client.address)) (sym is) back ∙ its
     own_lent n other (Some v) is lent rated its =
         let e : z.session ≡ n = ap lent_number (sym (lent rated) ∙ its) in
         let f : (n == n) ≡ false = subst (λ (x : ℕ). (x == n) ≡ false) e other in
@@ -207,3 +209,19 @@ module _ (places : List Listening) (z : Seat) (at : Listening) (is_at : slice_ge
         HasLent at'.asset store q x → HasLent at'.asset store' q x
     lent_ends lent q None other at' is' h = tt
     lent_ends lent q (Some v) other at' is' h = λ rated. lent_by lent q other at' is' rated (h rated) (is_client q.place q.client.address z) refl
+
+pub within_all : (ps : List Place) → AllByRecursion (λ (p : Place). IsAssetWithin p.asset.now) ps → AreWithin (listenings ps)
+within_all [] h place at is = cc is
+within_all (p ∷ ps) (w, h) zero at is = subst (λ (a : Listening). IsAssetWithin a.asset) (same_Some (listening_at p) at is) w
+within_all (p ∷ ps) (w, h) (suc place) at is = within_all ps h place at is
+
+-- the rings that are there for a session fit
+fits_by_kept : (asset : Asset) (b : Bool) (k : Option KeptRings) → ((rings : List RingValue) → k ≡ Some (Has rings) → AreRingsOf asset rings) → IfSome (if b then rings_in k else None) (AreRingsOf asset)
+fits_by_kept asset false k fit = tt
+fits_by_kept asset true None fit = tt
+fits_by_kept asset true (Some (Has rings)) fit = fit rings refl
+fits_by_kept asset true (Some (Lent n)) fit = tt
+
+pub fits_for : (places : List Listening) (store : List KeptValue) → Fits places store → (place address : ℕ) (at : Listening) → slice_get places place ≡ Some at →
+    IfSome (rings_for at.asset store place address) (AreRingsOf at.asset)
+fits_for places store fits place address at is = fits_by_kept at.asset (has_rates at.asset) (kept_at store place address) (λ rings h. fits place address rings h at is)

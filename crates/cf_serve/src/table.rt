@@ -425,7 +425,7 @@ impl Table {
         requires within { AllByRecursion (λ place. IsAssetWithin (PlaceOf.asset place).now) places.now }
         requires whole { DeskValue.whole (D.value desk.old) ≡ true }
         ensures table { (most : ℕ) → IsTable (listenings places.now) most self.old.keeping (LinksPlace.serves (L.place links.old)) self.old.lobby.next
-            (map phase_of self.old.sessions.items) → IsTable (listenings places.now) most self.old.keeping (LinksPlace.serves (L.place links.new))
+            (map phase_of self.old.sessions.items) → IsTable (listenings places.now) most self.new.keeping (LinksPlace.serves (L.place links.new))
             self.new.lobby.next (map phase_of self.new.sessions.items) }
         ensures free { (session : ℕ) → self.new.lobby.next ≤ session → LinksPlace.serves (L.place links.new) session ≡ false }
         ensures round { LinksPlace.round_faults (L.place links.new) ≡ LinksPlace.round_faults (L.place links.old) }
@@ -500,7 +500,7 @@ impl Table {
         requires within { AllByRecursion (λ place. IsAssetWithin (PlaceOf.asset place).now) places.now }
         requires whole { DeskValue.whole (D.value desk.old) ≡ true }
         ensures table { (most : ℕ) → IsTable (listenings places.now) most self.old.keeping (LinksPlace.serves (L.place links.old)) self.old.lobby.next
-            (map phase_of self.old.sessions.items) → IsTable (listenings places.now) most self.old.keeping (LinksPlace.serves (L.place links.new))
+            (map phase_of self.old.sessions.items) → IsTable (listenings places.now) most self.new.keeping (LinksPlace.serves (L.place links.new))
             self.new.lobby.next (map phase_of self.new.sessions.items) }
         ensures round { LinksPlace.round_faults (L.place links.new) ≡ LinksPlace.round_faults (L.place links.old) }
         ensures does { OnOk result ((most : ℕ) → Arrive (listenings places.now) most moment 0 (length places.now) self.old.lobby

@@ -1,4 +1,4 @@
-use Rattle.std.proofs.Common.{refl, ◌∙◌, []}
+use Rattle.std.proofs.Common.{refl, ◌∙◌, ◌∷◌, []}
 use Rattle.cf_audit.specs.Line.{Gone, Unreached}
 use Rattle.cf_lane.specs.Log.{line_about}
 use Rattle.cf_outside.specs.Pair.{met_at}
@@ -50,3 +50,21 @@ returns-in_err-log_line-in-Failed-clause-breaks g c = on_err c.from_residual-in_
     (c.in-Failed.ensures.entry ∙ told_none c.args.session (g.L.Links.told c.args.links.now)) refl
     (line_about c.args.terms.now.asset.now c.args.client c.args.terms.now.moment Unreached) c.in_err-log_line-in-Failed.ensures.fails
     end.Unreached (λ before. (refl, (c.args.terms.now.moment, refl))))
+
+pub returns-in_ok-log_line-in-Gone-clause-does : goal.returns-in_ok-log_line-in-Gone-clause-does
+returns-in_ok-log_line-in-Gone-clause-does g c = record {
+  answers = [];
+  lines = line_about c.args.terms.now.asset.now c.args.client c.args.terms.now.moment Gone ∷ [];
+  tells = c.in-Gone.ensures.entry ∙ told_none c.args.session (g.L.Links.told c.args.links.now);
+  added = c.in_ok-log_line-in-Gone.ensures.lines;
+  leaves = (λ before. (refl, (c.args.terms.now.moment, refl)), refl);
+}
+
+pub returns-in_ok-log_line-in-Failed-clause-does : goal.returns-in_ok-log_line-in-Failed-clause-does
+returns-in_ok-log_line-in-Failed-clause-does g c = record {
+  answers = [];
+  lines = line_about c.args.terms.now.asset.now c.args.client c.args.terms.now.moment Unreached ∷ [];
+  tells = c.in-Failed.ensures.entry ∙ told_none c.args.session (g.L.Links.told c.args.links.now);
+  added = c.in_ok-log_line-in-Failed.ensures.lines;
+  leaves = (λ before. (refl, (c.args.terms.now.moment, refl)), refl);
+}

@@ -1,7 +1,7 @@
 use Rattle.std.proofs.Common.{refl, subst, sym, ◌∙◌, ◌∷◌, ◌≡◌, []}
 use Rattle.cf_lane.specs.Handled.{MayHaveMore}
 use Rattle.cf_lane.specs.Log.{with_lines}
-use Rattle.cf_serve.proofs.Leaving.{ending, said, standing, unlogged}
+use Rattle.cf_serve.proofs.Leaving.{ending, lane_by, said, standing, unlogged}
 use Rattle.cf_serve.proofs.Logging.{turn_writes, writes_both}
 use Rattle.cf_serve.proofs.Missing.{last_missed, last_put}
 use Rattle.cf_serve.proofs.Stepping.{on_err}
@@ -43,3 +43,6 @@ returns-clause-does g c = λ left client.
 pub returns-clause-log : goal.returns-clause-log
 returns-clause-log g c =
     writes_both _ _ _ (turn_writes _ _ _ _ _ _ _ _ c.turn-answer.result c.turn-answer.ensures.goes c.turn-answer.ensures.stops) c.in_ok-log_line.ensures.log
+
+pub returns-clause-lane : goal.returns-clause-lane
+returns-clause-lane g c = lane_by c.args.terms.now.asset.now c.args.terms.now.most c.args.self.now.met c.args.self.now.debt _ c.turn-answer.result c.in_ok-end.ensures.fine c.turn-answer.ensures.sound c.turn-answer.ensures.lane
