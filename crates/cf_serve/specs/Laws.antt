@@ -107,8 +107,8 @@ abbrev pub turns_to : (session : ℕ) → List TurnOf → List TurnOf
 turns_to session [] = []
 turns_to session (t ∷ ts) = t ∷ (if t.seat.session == session && is_some t.begun then [] else turns_to session ts)
 
--- the items of a session: those of its own answers, after what it began with. No clock went back behind its beginning: none of them is at a
--- moment before that of a round up to the one in which it began
+-- the items of a session: those of its own answers, after what it began with. Its clock does not go back behind where it began: none of
+-- them is at a moment before that of a round up to that one
 pub record IsSessionOf (asset : Asset) (turns : List TurnOf) (session : ℕ) (js : List Judged) : Type 0 where
   pub items : AreItemsOf asset (before_in session turns) (answers_in session turns) js
   pub forward : AllByRecursion (λ (j : Judged). AllByRecursion (λ (t : TurnOf). t.moment ≤ j.moment) (turns_to session turns)) js

@@ -1,6 +1,6 @@
-use Rattle.std.proofs.Common.{List, None, Option, Some, ap, arith, get_or, length, option_map, refl, rules, slice_get, subst, sym, ◌∙◌, ◌≡◌}
+use Rattle.std.proofs.Common.{List, None, Some, ap, arith, get_or, option_map, refl, rules, subst, sym, ◌∙◌, ◌≡◌}
 use Rattle.std.proofs.lemmas.Option.{get_or_from_slice_get}
-use Rattle.std.specs.List.{position, remove}
+use Rattle.std.specs.List.{position}
 use Rattle.cf_policy.proofs.FirstPlace.{first_at}
 use Rattle.cf_serve.specs.Keeping.{AreSingle, held_value, takes_entry}
 use Rattle.cf_serve.specs.Lending.{KeepsOthers, KeptValue, kept_at}
@@ -38,7 +38,9 @@ returns-clause-held c =
     let first = first_at (takes_entry c.args.place c.args.address) now c.in_ok-index.index place in
     let value : c.remove.result ≡ first.0 =
     c.remove.ensures.value ∙ ap (λ (ks : List KeptValue). get_or ks c.in_ok-index.index c.remove.result) c.self.view_is ∙ get_or_from_slice_get now c.in_ok-index.index first.0 c.remove.result first.1.here in
-    ap Some (c.into_held.ensures ∙ ap (λ (k : KeptValue). k.kept) value) ∙ sym (kept_there now c.in_ok-index.index first.0 c.args.place c.args.address place first.1.here)
+    let answer : Some (held_value c.into_held.result) ≡ Some first.0.kept = ap Some (c.into_held.ensures ∙ ap (λ (k : KeptValue). k.kept) value) in
+    let there : Some first.0.kept ≡ kept_at now c.args.place c.args.address = sym (kept_there now c.in_ok-index.index first.0 c.args.place c.args.address place first.1.here) in
+    answer ∙ there
 
 pub returns-clause-gone : goal.returns-clause-gone
 returns-clause-gone c =
