@@ -1,11 +1,11 @@
 -- Laws over every run and every capture: HasLaws.
 use Rattle.cf_decode.specs.Commands.{AdmitsWhatIsAllowed}
+use Rattle.cf_decode.specs.Told.{RefusedAreTold, ShownAreTold}
 use Rattle.cf_isolation.specs.Isolated.{CapturesAreIsolated, CapturesHoldSessions, CapturesHoldToTheNext}
 use Rattle.cf_isolation.specs.Lives.{AlikeInLines, AlikeInRecords, EachHasALife, EachHasRecords, EachLogged}
 use Rattle.cf_isolation.specs.Logged.{LogsAreIsolated, LogsHoldSessions, LogsHoldToTheNext}
 use Rattle.cf_isolation.specs.ReadBack.{RunsAreReadBack}
 use Rattle.cf_pcapng.specs.Calls.{GiveBlocks, HaveOneListOfBlocks}
-use Rattle.cf_refusals.specs.Told.{RefusedAreTold, ShownAreTold}
 use Rattle.cf_review.specs.First.{BytesComeInOrder, JudgeTellsTheFirst}
 use Rattle.cf_review.specs.Fronts.{RecordsComeFirst}
 use Rattle.cf_review.specs.SynFlows.{SynFlowsAreWatched}

@@ -1,11 +1,10 @@
 //! Laws over every run and every capture.
 ghost use Rattle.cf_box.specs.Laws.{HasLaws};
 
-use cf_decode::admits_what_is_allowed;
+use cf_decode::{admits_what_is_allowed, refused_commands_are_told, shown_commands_are_told};
 use cf_isolation::{captures_hold_sessions, logs_hold_sessions, runs_are_read_back};
 use cf_pcapng::{calls_give_blocks, files_have_one_list_of_blocks};
 use cf_records::octets_have_one_list_of_records;
-use cf_refusals::{refused_commands_are_told, shown_commands_are_told};
 use cf_review::{
     bytes_come_in_order, judge_tells_the_first, records_come_first, syn_flows_are_watched,
 };

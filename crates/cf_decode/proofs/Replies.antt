@@ -1,50 +1,38 @@
 -- What an item is that is refused, what decides, and what replies to it: one protocol after the other.
 use Rattle.std.proofs.Common.{◌≡◌, ℕ, Bool, true, false, not, ◌||◌, nat_eq, nat_lt, List, [], ◌∷◌, ◌++◌, length, if◌then◌else◌, slice_index, Option, Some, None, Result, Ok, Err, refl, sym, ap, ◌∙◌, subst, inl, inr, arith}
-use Rattle.std.specs.List.{flat_map}
-use Rattle.std.proofs.lemmas.Bool.{cases_Bool, cond_both}
+use Rattle.cf_decode.proofs.Common.{Ack, Adu, Apdu, ApduValue, Asset, Control, Fate, Frame, FrameValue, HasItemFate, HasOwnDecider, Info, Item, Judged, Refusal, Says, SegmentAnswer, Side, Took, UnitValue, Why, answer_now, append-nil, completed, cond_both, events_of, fate_of_acts, fate_of_fragment, fate_of_frame, fate_of_segment, flat_map, fragment_frames, is_data, stray_of}
+use Rattle.std.proofs.lemmas.Bool.{cases_Bool, true≢false}
 use Rattle.std.proofs.lemmas.Bool.Decides.{nat_tests}
-use Rattle.std.proofs.lemmas.List.{append-nil}
-use Rattle.cf_apci.specs.Apdu.{Ack, ApduValue, Control, Info}
-use Rattle.cf_asdu.specs.Acts as commands
 use Rattle.cf_asdu.specs.Asdu.{first_refusal, station_of}
 use Rattle.cf_asdu.specs.Mirror.{mirrored}
 use Rattle.cf_asdu.specs.declared.asdu.AsduRefusal.{AsduRefusal}
 use Rattle.cf_audit.specs.declared.line.CutReason.{CutReason}
-use Rattle.cf_audit.specs.declared.line.Why.{Why}
-use Rattle.cf_audit.specs.declared.line.Why.TheVariants as why
-use Rattle.cf_dnplink.specs.LinkFrame.{FrameValue}
-use Rattle.cf_dnpobj.specs.Acts as fragments
 use Rattle.cf_dnpobj.specs.Fragment.{FragmentValue, read_octets, wants_reply}
 use Rattle.cf_dnpobj.specs.Reply.{reply}
 use Rattle.cf_dnpobj.specs.declared.fragment.FragmentRefusal.{FragmentRefusal}
-use Rattle.cf_dnptrans.specs.Passing.{completed}
-use Rattle.cf_dnptrans.specs.declared.assembly.SegmentAnswer.{SegmentAnswer}
-use Rattle.cf_dnptrans.specs.declared.assembly.SegmentAnswer.TheVariants as answers
-use Rattle.cf_lane.specs.Acts.{fate_of_acts}
-use Rattle.cf_lane.specs.Dnp3.{answer_now, fate_of_fragment, fate_of_frame, fate_of_read, fate_of_segment, fate_of_whole, fragment_frames, fragment_in, fragment_reply, frame_output, is_data, stray_of, whole_now}
-use Rattle.cf_lane.specs.Fate.{HasItemFate, HasOwnDecider, HasUnitFate}
+use Rattle.cf_lane.specs.Dnp3.{fate_of_read, fate_of_whole, fragment_in, fragment_reply, frame_output, whole_now}
+use Rattle.cf_lane.specs.Fate.{HasUnitFate}
 use Rattle.cf_lane.specs.Iec104.{asdu_in, fate_by_form, fate_of_apdu, fate_of_asdu, fate_of_info, mirror_output, or_cut, stamped}
-use Rattle.cf_lane.specs.Item.{Item, Took}
-use Rattle.cf_lane.specs.Judged.{Judged, has_ended}
+use Rattle.cf_lane.specs.Judged.{has_ended}
 use Rattle.cf_lane.specs.Modbus.{HasCommandFate, adu_reply, of_its_acts, of_no_form, of_other_station}
-use Rattle.cf_lane.specs.Numbers.{ack_cut, events_of, info_cut}
+use Rattle.cf_lane.specs.Numbers.{ack_cut, info_cut}
 use Rattle.cf_lane.specs.Output.{item_output}
-use Rattle.cf_lane.specs.Rates.{Says}
-use Rattle.cf_lane.specs.Unit.{Adu, Apdu, Frame, UnitValue, apdu_spelling}
-use Rattle.cf_lane.specs.declared.fate.Fate.{Fate}
-use Rattle.cf_lane.specs.declared.fate.Fate.TheVariants as fate
-use Rattle.cf_lane.specs.declared.fate.Refusal.{Refusal}
-use Rattle.cf_modbus.specs.Acts as requests
+use Rattle.cf_lane.specs.Unit.{apdu_spelling}
 use Rattle.cf_modbus.specs.Adu.{AduValue, spelling}
 use Rattle.cf_modbus.specs.Exception.{exception_of}
 use Rattle.cf_policy.specs.Verdict.{IsInside}
-use Rattle.cf_policy.specs.declared.Asset.{Asset}
 use Rattle.cf_renumber.specs.Counts.{mirror_stamp}
 use Rattle.cf_view.specs.declared.Act.{Act}
-use Rattle.cf_view.specs.declared.Side.{Side}
+use Rattle.cf_decode.specs.Told.{IsFragmentReply, IsReply, unless}
+use Rattle.cf_decode.proofs.Commands.{by_item}
+use Rattle.cf_decode.proofs.Deciding.{own_acts}
+use Rattle.cf_asdu.specs.Acts as commands
+use Rattle.cf_audit.specs.declared.line.Why.TheVariants as why
+use Rattle.cf_dnpobj.specs.Acts as fragments
+use Rattle.cf_dnptrans.specs.declared.assembly.SegmentAnswer.TheVariants as answers
+use Rattle.cf_lane.specs.declared.fate.Fate.TheVariants as fate
+use Rattle.cf_modbus.specs.Acts as requests
 use Rattle.cf_view.specs.declared.Side.TheVariants as side
-use Rattle.cf_refusals.specs.Told.{IsFragmentReply, IsReply, unless}
-use Rattle.cf_refusals.proofs.Deciding.{own_acts}
 
 -- ---- what decides
 
@@ -154,33 +142,9 @@ module _ (asset : Asset) (says : Says) (refusal : Refusal) where
   completed_one answers.Whole (Some octets) e = (octets, refl)
   completed_one _ _ e = cc
 
-  -- nothing of the controller's is refused
-  short_carried : (b : Bool) → Refuses (if b then fate.Stray why.Short else fate.Carried) → ⊥
-  short_carried true e = cc
-  short_carried false e = cc
-
-  whole_carried : (whole : List (List ℕ)) → Refuses (fate_of_whole asset says side.Controller whole) → ⊥
-  whole_carried [] e = cc
-  whole_carried (octets ∷ none) e = short_carried (nat_lt (length octets) 2) e
-
-  segment_carried : (answer : SegmentAnswer) (whole : List (List ℕ)) → Refuses (fate_of_segment asset says side.Controller answer whole) → ⊥
-  segment_carried answers.Whole whole e = whole_carried whole e
-  segment_carried _ whole e = cc
-
-  frame_carried : (earlier : List Judged) (x : FrameValue) (o : Option Why) → Refuses (fate_of_frame asset says side.Controller earlier x o) → ⊥
-  frame_carried earlier x (Some because) e = cc
-  frame_carried earlier x None e =
-      segment_carried (answer_now asset side.Controller earlier x) (whole_now asset side.Controller earlier x)
-      (carried_none (is_data x) (fate_of_segment asset says side.Controller (answer_now asset side.Controller earlier x) (whole_now asset side.Controller earlier x)) e).1
-
   cut_none : (o : Option CutReason) (f : Fate) → Refuses (or_cut o f) → Refuses f
   cut_none None f e = e
   cut_none (Some because) f e = cc
-
-  apdu_carried : (earlier : List Judged) (a : ApduValue) → Refuses (fate_of_apdu asset says side.Controller earlier a) → ⊥
-  apdu_carried earlier (Control octet) e = cc
-  apdu_carried earlier (Ack receive) e = cc (cut_none (ack_cut side.Controller earlier receive) fate.Carried e)
-  apdu_carried earlier (Info send receive asdu) e = cc (cut_none (info_cut side.Controller earlier send receive) fate.Carried e)
 
   -- ---- the reply to each
 
@@ -219,6 +183,5 @@ module _ (asset : Asset) (says : Says) (refusal : Refusal) where
     item_reply_is (Took side.Client (Adu a)) e h = adu_reply_is a
     item_reply_is (Took side.Client (Frame x)) e h = frame_reply_is x e (stray_of asset side.Client x) h
     item_reply_is (Took side.Client (Apdu a)) e h = apdu_reply_is a h
-    item_reply_is (Took side.Controller (Frame x)) e h = absurd (frame_carried earlier x (stray_of asset side.Controller x) h)
-    item_reply_is (Took side.Controller (Apdu a)) e h = absurd (apdu_carried earlier a h)
+    item_reply_is (Took side.Controller u) e h = absurd (true≢false (by_item asset says earlier (Took side.Controller u) (fate.Refused refusal) h).1)
     item_reply_is _ e h = cc

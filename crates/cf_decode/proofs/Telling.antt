@@ -1,29 +1,17 @@
 -- What is told of a refused command stands at its place.
-use Rattle.cf_lane.specs.Caller.{Caller, caller_at}
-use Rattle.std.proofs.Common.{◌≡◌, List, [], ◌∷◌, ◌++◌, refl, sym, ap, ◌∙◌, subst, append_assoc}
-use Rattle.std.proofs.lemmas.List.{append-nil}
+use Rattle.std.proofs.Common.{◌≡◌, List, [], ◌∷◌, ◌++◌, refl, ap, ◌∙◌, subst}
+use Rattle.cf_decode.proofs.Common.{Admission, Asset, HasItemFate, HasOwnDecider, Item, Judged, Refusal, Says, Took, says_at}
+use Rattle.cf_lane.specs.Caller.{caller_at}
 use Rattle.cf_lane.proofs.Earlier.{in_turn-append}
-use Rattle.cf_lane.specs.Fate.{HasFate, HasItemFate, HasOwnDecider, HaveFates}
-use Rattle.cf_lane.specs.Item.{Item, Took}
-use Rattle.cf_lane.specs.Judged.{Judged, place_of}
 use Rattle.cf_lane.specs.Log.{admission_lines, command_octets, is_some_bytes, item_lines, line_about, lines, refusal_line, unit_lines}
 use Rattle.cf_lane.specs.Output.{output}
-use Rattle.cf_lane.specs.Rates.{Says, says_at}
-use Rattle.cf_lane.specs.declared.fate.Fate.TheVariants as fate
-use Rattle.cf_lane.specs.declared.fate.Admission.{Admission}
-use Rattle.cf_lane.specs.declared.fate.Refusal.{Refusal}
-use Rattle.cf_policy.specs.declared.Asset.{Asset}
 use Rattle.cf_view.specs.declared.Endpoint.{Endpoint}
+use Rattle.cf_decode.specs.Told.{RefusedAreTold, ShownAreTold, received}
+use Rattle.cf_decode.proofs.Commands.{fate_behind}
+use Rattle.cf_decode.proofs.Deciding.{says_inside}
+use Rattle.cf_decode.proofs.Replies.{item_reply_is, own_item}
+use Rattle.cf_lane.specs.declared.fate.Fate.TheVariants as fate
 use Rattle.cf_view.specs.declared.Side.TheVariants as side
-use Rattle.cf_refusals.specs.Told.{RefusedAreTold, ShownAreTold, received}
-use Rattle.cf_refusals.proofs.Deciding.{says_inside}
-use Rattle.cf_refusals.proofs.Replies.{item_reply_is, own_item}
-
-fate_at : (asset : Asset) (client : Caller) (before earlier : List Judged) (j : Judged) (later : List Judged) → HaveFates asset client before (earlier ++ j ∷ later) →
-    HasFate asset client (before ++ earlier) (place_of j) j.fate
-fate_at asset client before [] j later h = subst (λ b. HasFate asset client b (place_of j) j.fate) (sym (append-nil before)) h.0
-fate_at asset client before (k ∷ earlier) j later h =
-    subst (λ b. HasFate asset client b (place_of j) j.fate) (append_assoc before (k ∷ []) earlier) (fate_at asset client (before ++ k ∷ []) earlier j later h.1)
 
 module _ (asset : Asset) (client : Endpoint) (earlier : List Judged) (j : Judged) (refusal : Refusal) (is : j.fate ≡ fate.Refused refusal) (says : Says) where
   -- its one line
@@ -45,7 +33,7 @@ module _ (asset : Asset) (client : Endpoint) (earlier : List Judged) (j : Judged
 pub are_shown : ShownAreTold
 are_shown asset past client history earlier later j admitted are is =
     let says = says_at asset (caller_at client.address past) earlier j.moment in
-    let has : HasItemFate asset says earlier j.item j.fate = fate_at asset (caller_at client.address past) [] earlier j later are.fates in
+    let has : HasItemFate asset says earlier j.item j.fate = fate_behind asset (caller_at client.address past) [] earlier later j are.fates in
     let line = one_shown asset client earlier j admitted is says j.item (subst (HasItemFate asset says earlier j.item) is has) in
     record {
       in_log = in_turn-append (λ before k. item_lines asset client before k k.item) [] earlier (j ∷ later)
@@ -55,7 +43,7 @@ are_shown asset past client history earlier later j admitted are is =
 pub are_told : RefusedAreTold
 are_told asset past client history earlier later j refusal are is =
     let says = says_at asset (caller_at client.address past) earlier j.moment in
-    let has : HasItemFate asset says earlier j.item j.fate = fate_at asset (caller_at client.address past) [] earlier j later are.fates in
+    let has : HasItemFate asset says earlier j.item j.fate = fate_behind asset (caller_at client.address past) [] earlier later j are.fates in
     let refused : HasItemFate asset says earlier j.item (fate.Refused refusal) = subst (HasItemFate asset says earlier j.item) is has in
     let line = one_line asset client earlier j refusal is says j.item refused in
     record {

@@ -1,23 +1,17 @@
 -- What decides of a refused command is a rule of the asset, or none.
-use Rattle.cf_lane.specs.Caller.{Caller}
-use Rattle.std.proofs.Common.{◌≡◌, ℕ, ◌<◌, Bool, true, false, List, [], ◌∷◌, length, Option, Some, None, refl, subst}
-use Rattle.std.specs.Prelude.{option_and_then, slice_get}
+use Rattle.std.proofs.Common.{◌≡◌, ℕ, ◌<◌, Bool, true, false, List, [], ◌∷◌, length, Option, Some, None, refl, subst, option_and_then, slice_get}
+use Rattle.cf_decode.proofs.Common.{Admission, Asset, Caller, HasOwnDecider, Judged, Refusal, Says, fate_of_acts, says_at}
 use Rattle.std.proofs.lemmas.Option.{slice_get_within}
-use Rattle.cf_lane.specs.Acts.{admission, by_refusal, fate_of_acts, first_refusal, refusal_or}
-use Rattle.cf_lane.specs.declared.fate.Admission.{Admission}
-use Rattle.cf_lane.specs.Fate.{HasOwnDecider}
-use Rattle.cf_lane.specs.Judged.{Judged}
-use Rattle.cf_lane.specs.Rates.{Says, is_spent, said, says_at, unless_spent, used_at}
-use Rattle.cf_lane.specs.declared.fate.Refusal.{Refusal}
+use Rattle.cf_lane.specs.Acts.{admission, by_refusal, first_refusal, refusal_or}
+use Rattle.cf_lane.specs.Rates.{is_spent, said, unless_spent, used_at}
 use Rattle.cf_policy.specs.Verdict.{IsInside, IsOneOf, by_rule, decided, default_reason, first_number, numbered, verdict_of}
 use Rattle.cf_policy.specs.declared.Action.{Action}
 use Rattle.cf_policy.specs.declared.Action.TheVariants.{Allow, Refuse}
-use Rattle.cf_policy.specs.declared.Asset.{Asset}
 use Rattle.cf_policy.specs.declared.Rule.{Rule}
 use Rattle.cf_policy.specs.declared.Verdict.{Verdict}
-use Rattle.cf_policy.specs.declared.Verdict.TheVariants as verdict
 use Rattle.cf_view.specs.declared.Act.{Act}
 use Rattle.cf_view.specs.declared.Reason.{Reason}
+use Rattle.cf_policy.specs.declared.Verdict.TheVariants as verdict
 
 inside_rule : (rules : List Rule) (n : ℕ) (r : Rule) (a : Action) → n < length rules → IsInside rules (by_rule n r a)
 inside_rule rules n r Allow h = h

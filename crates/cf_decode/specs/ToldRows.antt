@@ -1,4 +1,4 @@
--- Beside the proof: two sessions worked by hand, evaluated, a check of the definitions alone: `RowsHold`. The replies are those of Modbus
+-- Beside the proof: two sessions worked by hand, evaluated, a check of the definitions alone: `ToldRowsHold`. The replies are those of Modbus
 -- Application Protocol V1.1b3, section 7, IEEE 1815-2012, section 4.2, and IEC 60870-5-101, section 7.2.3; the lines those of docs/LOG.md.
 -- That the items of a session are judged so is what a lane proves of itself; here stands what the laws conclude of them.
 use Rattle.cf_apci.specs.Apdu.{Control, Info}
@@ -12,7 +12,7 @@ use Rattle.cf_lane.specs.declared.fate.Admission.{Admission}
 use Rattle.cf_lane.specs.declared.fate.Refusal.{Refusal}
 use Rattle.cf_policy.specs.declared.Asset.{Asset}
 use Rattle.cf_policy.specs.declared.Rule.{Rule}
-use Rattle.cf_refusals.specs.Told.{IsReply, IsShown, IsTold}
+use Rattle.cf_decode.specs.Told.{IsReply, IsShown, IsTold}
 use Rattle.cf_view.specs.declared.Act.{Act}
 use Rattle.cf_view.specs.declared.Endpoint.{Endpoint}
 use Rattle.cf_view.specs.declared.Reason.{Reason}
@@ -99,7 +99,7 @@ response =
 abbrev pub mirror : List ℕ
 mirror = 0x68 ∷ 0x0e ∷ 0 ∷ 0 ∷ 2 ∷ 0 ∷ 0x2d ∷ 1 ∷ 0x47 ∷ 0 ∷ 1 ∷ 0 ∷ 0xe9 ∷ 3 ∷ 0 ∷ 0x81 ∷ []
 
-pub record RowsHold : Type 0 where
+pub record ToldRowsHold : Type 0 where
   -- the one session: a refused write has its line and exception 2, an admitted one its line and nothing of the box
   pub one_log :
       lines pump one_client [] (refused 1000000 ∷ admitted ∷ [])

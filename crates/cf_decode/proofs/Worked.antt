@@ -1,23 +1,23 @@
--- The two sessions that are worked by hand.
+-- What is worked by hand: rows of the stream to a controller, and two sessions.
+use Rattle.std.proofs.Common.{List, [], ap, false, refl, subst, sym, ℕ, ◌∷◌, ◌≡◌, Bool, bytes_eq, not, slice_index, ◌||◌}
+use Rattle.cf_decode.proofs.Common.{fragment_frames}
 use Rattle.cf_asdu.specs.Acts.{acts}
 use Rattle.cf_dnplink.specs.Crc.{after_octet, rounds}
 use Rattle.cf_dnplink.specs.LinkFrame.{blocks_by}
 use Rattle.cf_dnplink.specs.UserOctets.{user_by}
 use Rattle.cf_dnpobj.specs.Fragment.{wants_reply}
 use Rattle.cf_dnpobj.specs.Reply.{reply}
-use Rattle.cf_lane.specs.Dnp3.{fragment_frames}
 use Rattle.cf_lane.specs.Log.{lines}
 use Rattle.cf_lane.specs.Rows.{direct_operate, dnp3_asset}
-use Rattle.cf_refusals.specs.Rows.{RowsHold, admitted, by_none, exception, one_client, operated, pump, refused}
-use Rattle.cf_refusals.specs.Told.{IsReply, unless}
-use Rattle.cf_view.specs.declared.Reason.TheVariants as reason
-use Rattle.cf_view.specs.declared.Side.TheVariants as side
+use Rattle.cf_decode.specs.Rows.{RowsHold}
+use Rattle.cf_decode.specs.ToldRows.{ToldRowsHold, admitted, by_none, exception, one_client, operated, pump, refused}
+use Rattle.cf_decode.specs.Told.{IsReply, unless}
 use Rattle.hex.specs.Hex.{encode_with}
-use Rattle.std.proofs.Common.{List, [], ap, false, refl, subst, sym, ℕ, ◌∷◌, ◌≡◌}
 use Rattle.std.proofs.lemmas.Bool.{false≢true}
 use Rattle.std.specs.Fmt.{digits}
 use Rattle.std.specs.List.{concat}
-use Rattle.std.specs.Prelude.{Bool, bytes_eq, not, slice_index, ◌||◌}
+use Rattle.cf_view.specs.declared.Reason.TheVariants as reason
+use Rattle.cf_view.specs.declared.Side.TheVariants as side
 
 -- whether octets are these
 abbrev are : List ℕ → List ℕ → Bool
@@ -41,9 +41,9 @@ no_frame r =
     let same : direct_operate ≡ r.fragment = ap first_of r.is_whole in
     false≢true (sym (ap (are []) (subst (λ f. [] ≡ replied_to f) (sym same) r.is_reply)))
 
-pub rows_hold : RowsHold
+pub told_rows_hold : ToldRowsHold
 unfolding rounds after_octet blocks_by user_by acts digits encode_with
-rows_hold = record {
+told_rows_hold = record {
   one_log = refl;
   one_stream = refl;
   reply = refl;
@@ -63,4 +63,17 @@ rows_hold = record {
   of_a_controller = λ e. e;
   other_reason = λ t. false≢true (sym (ap are_its_lines t.in_log));
   other_act = λ t. false≢true (sym (ap are_its_lines t.in_log));
+}
+
+pub rows_hold : RowsHold
+unfolding rounds after_octet blocks_by user_by acts
+rows_hold = record {
+  sequences = refl;
+  of_all = refl;
+  of_two = refl;
+  unfinished_of_two = refl;
+  a_confirmation = refl;
+  a_write = refl;
+  an_admitted_command = refl;
+  a_refused_command = refl;
 }
