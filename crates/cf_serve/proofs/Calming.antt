@@ -2,17 +2,19 @@
 use Rattle.std.proofs.Common.{Bool, List, None, Option, Some, ap, arith, length, map, refl, subst, suc, sym, true, false, zero, ℕ, ◌++◌, ◌+◌, ◌≤◌, ◌∙◌, ◌∷◌, ◌≡◌, []}
 use Rattle.std.proofs.lemmas.Option.{same_Some}
 use Rattle.std.proofs.Common.{if◌then◌else◌}
-use Rattle.std.specs.List.{AllByRecursion}
+use Rattle.std.specs.List.{AllByRecursion, list_any}
 use Rattle.std.specs.Prelude.{nat_lt, slice_get, take, vec_len, ◌&&◌, ◌==◌, ◌||◌}
 use Rattle.std.proofs.lemmas.Bool.Decides.{nat_tests}
 use Rattle.std.proofs.lemmas.List.{append_assoc, length-append, length-map, map-append, take_all}
 use Rattle.std.proofs.Math.Seq.{take-append_seam}
 use Rattle.cf_view.specs.declared.Endpoint.{Endpoint}
 use Rattle.cf_serve.proofs.Numbers.{all_join, all_map}
+use Rattle.cf_serve.proofs.Placing.{all_at}
 use Rattle.cf_serve.specs.Phase.{Phase, phase_of}
-use Rattle.cf_serve.specs.Rounds.{Seat, has_later, has_rates, is_same_client, must_end}
+use Rattle.cf_serve.specs.Rounds.{Seat, has_later, has_rates, is_later, is_same_client, must_end}
 use Rattle.cf_serve.specs.Session.{Listening}
 use Rattle.cf_serve.specs.Table.{AreCalm, SeatsStep, new_phase, seats_of}
+use Rattle.cf_serve.specs.declared.session.Served.{Served}
 use Rattle.cf_serve.specs.declared.table.Table.{Table}
 
 and_less : (a l l' : Bool) → (l ≡ false → l' ≡ false) → (a && l) ≡ false → (a && l') ≡ false
@@ -104,7 +106,7 @@ module _ (places : List Listening) where
   -- one more of an asset without rates
   module _ (n : Seat) (at : Listening) (is : slice_get places n.place ≡ Some at) (not : has_rates at.asset ≡ false) where
     must_not : (o : Option Listening) (l : Bool) → o ≡ Some at → (elim o as (λ x. Bool) [ None ↦ false | Some a ↦ has_rates a.asset && l ]) ≡ false
-    must_not None l e = cc e
+    must_not None l e = refl
     must_not (Some a) l e = ap (λ (b : Bool). b && l) (ap (λ (z : Listening). has_rates z.asset) (same_Some a at e) ∙ not)
 
     later_same : (ss : List Seat) (s : Seat) → (n.place == s.place) ≡ false → has_later (ss ++ n ∷ []) s ≡ has_later ss s
@@ -142,3 +144,23 @@ seats_within table index h =
     let same : length (map phase_of table.sessions.items) ≡ length table.sessions.items = length-map table.sessions.items phase_of in
     let seats : length (seats_of (map phase_of table.sessions.items)) ≡ length (map phase_of table.sessions.items) = length-map (map phase_of table.sessions.items) (λ (p : Phase). p.seat) in
     omega (arith, h, all, same, seats)
+
+-- ---- the session of a place
+
+seats_slice : (xs : List Served) (i : ℕ) (x : Served) → slice_get xs i ≡ Some x → slice_get (seats_of (map phase_of xs)) i ≡ Some (phase_of x).seat
+seats_slice [] i x is = cc is
+seats_slice (y ∷ xs) zero x is = ap (λ z. Some (phase_of z).seat) (same_Some y x is)
+seats_slice (y ∷ xs) (suc i) x is = seats_slice xs i x is
+
+later_is : (z : Seat) (xs : List Served) → list_any (λ (s : Served). is_later z (phase_of s).seat) xs ≡ has_later (seats_of (map phase_of xs)) z
+later_is z [] = refl
+later_is z (x ∷ xs) = ap (λ (b : Bool). is_later z (phase_of x).seat || b) (later_is z xs)
+
+pub came_is : (places : List Listening) (xs : List Served) (i : ℕ) (x : Served) (has_new : Bool) (at : Listening) → slice_get xs i ≡ Some x → slice_get places x.place ≡ Some at →
+    (has_new ≡ false → AreCalm places (seats_of (map phase_of xs))) →
+    ((has_new && has_rates at.asset) && list_any (λ (s : Served). is_later (phase_of x).seat (phase_of s).seat) xs) ≡ must_end places (seats_of (map phase_of xs)) (phase_of x).seat
+came_is places xs i x true at there is calm =
+    ap (λ (b : Bool). has_rates at.asset && b) (later_is (phase_of x).seat xs)
+    ∙ ap (λ (o : Option Listening). elim o as (λ y. Bool) [ None ↦ false | Some a ↦ has_rates a.asset && has_later (seats_of (map phase_of xs)) (phase_of x).seat ]) (sym is)
+came_is places xs i x false at there is calm =
+    sym (all_at (IsCalm places (seats_of (map phase_of xs))) (seats_of (map phase_of xs)) i (phase_of x).seat (seats_slice xs i x there) (calm refl))

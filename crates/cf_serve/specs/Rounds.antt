@@ -171,9 +171,12 @@ is_same_client seat other = is_client other.place other.client.address seat
 abbrev pub has_rates : Asset → Bool
 has_rates asset = list_any (λ r. is_some r.rate) asset.rules
 
--- among these sessions one of the same client came later
+-- another session of the same client came later, and so did one among these
+abbrev pub is_later : Seat → (other : Seat) → Bool
+is_later seat other = is_same_client other seat && nat_lt seat.session other.session
+
 abbrev pub has_later : List Seat → Seat → Bool
-has_later standing seat = list_any (λ s. is_same_client s seat && nat_lt seat.session s.session) standing
+has_later standing seat = list_any (is_later seat) standing
 
 -- the client of a session came again, at an asset that has rates: they are one client's, over all its sessions, one after the other
 abbrev pub must_end : List Listening → (standing : List Seat) → Seat → Bool

@@ -1,11 +1,11 @@
 //! What is kept of a client, as a session of it begins and as it ends. It is kept at assets that have rates.
-ghost use Rattle.std.specs.Prelude.{◌≡◌, false, true};
+ghost use Rattle.std.specs.Prelude.{◌≡◌, Some, true};
 ghost use Rattle.cf_serve.specs.Lending.{Drops, KeepsOthers, Lends, Lent, MayLend, kept_at};
-ghost use Rattle.cf_serve.specs.Phase.{HasLane, HasLent, IsGivenBack, Phase, phase_of, rings_for, seat_at};
+ghost use Rattle.cf_serve.specs.Phase.{HasLane, HasLent, IsGivenBack, Phase, linked_value, phase_of, rings_for};
 ghost use Rattle.cf_serve.specs.Rounds.{has_rates};
 
 use crate::kept::Keeping;
-use crate::session::{Served, Terms};
+use crate::session::{Linked, Served, Terms};
 use cf_lane::Rings;
 use cf_policy::Asset;
 use cf_view::Endpoint;
@@ -57,17 +57,31 @@ pub(crate) fn keep_rings(served: Served, asset: &Asset, moment: u64, keeping: &m
     ensures own { IsGivenBack asset.now moment (Phase.linked (phase_of served))
         (kept_at keeping.old served.place served.client.address) (kept_at keeping.new served.place served.client.address) }
 {
-    let Some(linked) = served.linked else {
-        return;
-    };
+    let (number, place, address) = (served.number, served.place, served.client.address);
+    match served.into_linked() {
+        Some(linked) => give_back(number, place, address, linked, asset, moment, keeping),
+        None => {}
+    }
+}
+
+/// Keeps what a relay leaves that ended.
+fn give_back(
+    number: u64,
+    place: usize,
+    address: u32,
+    linked: Linked,
+    asset: &Asset,
+    moment: u64,
+    keeping: &mut Keeping,
+)
+    requires lent { has_rates asset.now ≡ true → kept_at keeping.old place address ≡ Some (Lent number) }
+    requires lane { HasLane asset.now (Some (linked_value linked)) }
+    ensures others { KeepsOthers place address keeping.old keeping.new }
+    ensures own { IsGivenBack asset.now moment (Some (linked_value linked)) (kept_at keeping.old place address) (kept_at keeping.new place address) }
+{
     if has_rates(asset) {
-        let rings = linked.relaying.into_rings();
-        keeping.give_back(
-            served.number,
-            served.place,
-            served.client.address,
-            rings,
-            moment,
-        );
+        let relaying = linked.into_relaying();
+        let rings = relaying.into_rings();
+        keeping.give_back(number, place, address, rings, moment);
     }
 }

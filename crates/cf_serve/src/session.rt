@@ -1,7 +1,7 @@
 //! A session of a service, and its turns.
 //! A client is looked at once, for a round, before its controller is asked, since the system tells an end a round after the
 //! client was taken.
-ghost use Rattle.std.specs.Prelude.{◌≡◌, ◌<◌, ◌∷◌, [], IfOk, IfSome, IsErr, Err, List, false, None, Ok, OnErr, OnOk, Option, Some, is_some, length, not, true};
+ghost use Rattle.std.specs.Prelude.{◌≡◌, ◌<◌, ◌∷◌, [], IfOk, IfSome, IsErr, Err, List, false, None, Ok, OnErr, OnOk, Option, Some, is_some, length, not, option_map, true};
 ghost use Rattle.cf_audit.specs.Line.{what_value};
 ghost use Rattle.cf_lane.specs.Caller.{RateMoments};
 ghost use Rattle.cf_lane.specs.Handled.{IsLaneOf, LaneValue, MayHaveMore, WritesLog, debt};
@@ -20,10 +20,11 @@ ghost use Rattle.cf_relay.specs.Stands.{IsNewLane};
 ghost use Rattle.cf_serve.specs.Failing.{MissesReach, MissesTurn};
 ghost use Rattle.cf_serve.specs.Debt.{must_rest};
 ghost use Rattle.cf_serve.specs.Lending.{MayLend};
-ghost use Rattle.cf_serve.specs.Phase.{BeginsFree, HasLane, IsSoundBegun, MayTurn, Owes, Phase, ReachDoes, ReachKeeps, TurnDoes, TurnKeeps};
+ghost use Rattle.cf_serve.specs.Phase.{BeginsFree, HasLane, IsSoundBegun, LinkedValue, MayTurn, Owes, Phase, ReachDoes, ReachKeeps, TurnDoes, TurnKeeps};
 ghost use Rattle.cf_serve.specs.Phase.{again_line, counts_at, debt_at, end_of, last_value, linked_value, listening_of, phase_of, rings_for};
 ghost use Rattle.cf_serve.specs.Phase.{seat_at};
-ghost use Rattle.cf_serve.specs.Rounds.{has_rates};
+ghost use Rattle.cf_serve.specs.Rounds.{has_rates, is_later};
+ghost use Rattle.cf_relay.specs.Relaying.{relaying_value};
 ghost use Rattle.cf_view.specs.declared.Endpoint.{Endpoint as EndpointOf};
 
 use crate::debt::Debt;
@@ -364,6 +365,13 @@ fn reach<L: Links, D: Desk>(
 }
 
 impl Linked {
+    /// The relay.
+    pub(crate) fn into_relaying(self) -> Relaying
+        ensures { relaying_value result ≡ LinkedValue.now (linked_value self) }
+    {
+        self.relaying
+    }
+
     /// A turn of the relay, and the line of its end where it is the last.
     pub(crate) fn turn<L: Links, D: Desk>(
         &mut self,
@@ -424,6 +432,20 @@ impl Linked {
 }
 
 impl Served {
+    /// Its relay, if its controller was reached.
+    pub(crate) fn into_linked(self) -> Option<Linked>
+        ensures { option_map linked_value result ≡ Phase.linked (phase_of self) }
+    {
+        self.linked
+    }
+
+    /// Whether it is of this client, and came later than a number.
+    pub(crate) fn is_later(&self, place: usize, client: Endpoint, number: u64) -> bool
+        ensures { result ≡ is_later (seat_at number place client) (Phase.seat (phase_of self.now)) }
+    {
+        self.place == place && self.client.address == client.address && number < self.number
+    }
+
     /// Whether it has too many refused commands to pay for at a moment to have a turn.
     pub(crate) fn must_rest(&self, moment: u64) -> bool
         ensures { result ≡ must_rest (debt_at (Phase.linked (phase_of self.now))) moment }

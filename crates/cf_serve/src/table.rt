@@ -19,13 +19,13 @@ ghost use Rattle.cf_serve.specs.Failing.{MissesArrival, MissesLine, MissesRound,
 ghost use Rattle.cf_serve.specs.Served.{HasMade, left_of};
 ghost use Rattle.cf_serve.specs.Door.{first_lobby};
 ghost use Rattle.cf_serve.specs.Minute.{last_behind, lines_at, no_minutes, stands_lines, tally_at};
-ghost use Rattle.cf_serve.specs.Rounds.{TurnOf, closing_of, count_of, has_later, has_place, has_rates, must_end};
+ghost use Rattle.cf_serve.specs.Rounds.{TurnOf, closing_of, count_of, has_place, has_rates, is_later, must_end};
 ghost use Rattle.cf_serve.specs.declared.session.Served.{Served as ServedOf};
 ghost use Rattle.cf_serve.specs.Table.{AreCalm, Arrive, IfWhole, IsMinuteOf, IsTable, Keeps, MayLeave, RoundDoes, RoundsDo, SeatsStep, StepDoes};
 ghost use Rattle.cf_serve.specs.Table.{TurnsDo, new_phase};
 ghost use Rattle.cf_serve.specs.Table.{seats_of};
 ghost use Rattle.cf_serve.specs.declared.table.Place.{Place as PlaceOf};
-ghost use Rattle.std.specs.List.{AllByRecursion};
+ghost use Rattle.std.specs.List.{AllByRecursion, list_any};
 
 use crate::door::{Closing, Lobby, names_client};
 use crate::fault::ServeFault;
@@ -188,11 +188,21 @@ impl Table {
 
     /// Whether of those that stand one of this client came later than this number.
     fn has_later(&self, place: usize, client: Endpoint, number: u64) -> bool
-        ensures { result ≡ has_later (seats_of (map phase_of self.now.sessions.items)) (seat_at number place client) }
+        ensures { result ≡ list_any (λ (s : ServedOf). is_later (seat_at number place client) (Phase.seat (phase_of s))) self.now.sessions.items }
     {
-        self.sessions.iter().any(|other| {
-            other.place == place && other.client.address == client.address && number < other.number
-        })
+        self.sessions
+            .iter()
+            .any(|other| other.is_later(place, client, number))
+    }
+
+    /// Whether the client of a session came again, where a client of an asset with rates was taken since the last turns.
+    fn came_again(&self, served: &Served, asset: &Asset) -> bool
+        ensures { result ≡ ((self.now.has_new && has_rates asset.now)
+            && list_any (λ (s : ServedOf). is_later (Phase.seat (phase_of served.now)) (Phase.seat (phase_of s))) self.now.sessions.items) }
+    {
+        self.has_new
+            && has_rates(asset)
+            && self.has_later(served.place, served.client, served.number)
     }
 
     /// Whether the client of the session of a place came again, and its asset has rates.
@@ -206,9 +216,7 @@ impl Table {
     {
         let served = &self.sessions[index];
         let place = place_of(places, served.place);
-        self.has_new
-            && has_rates(place.asset)
-            && self.has_later(served.place, served.client, served.number)
+        self.came_again(served, place.asset)
     }
 
     /// Gives the session of a place its turn; it is taken out where it ends. Answers whether it stays.

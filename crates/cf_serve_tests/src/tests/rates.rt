@@ -1,8 +1,8 @@
 //! Rates over the connections of a client: sessions one after the other, and one that comes while an earlier one stands.
 //!
 //! A row has the last octets of the addresses of the clients that come, one in a round, and in which second of its own clock each sends
-//! its write; and whether the asset's rule has a rate. A session begins in the round in which its client comes, and has its turn in the
-//! next one. After `gives` stand the sessions whose write went to the controller, and the log behind the line of the place.
+//! its write; and whether the asset's rule has a rate. A session begins in the round in which its client comes, takes the write in the
+//! next one, and has its end in the one behind that. After `gives` stand the sessions whose write went to the controller, and the log behind the line of the place.
 ghost use Rattle.std.specs.Prelude.{◌≡◌, false, ℕ};
 ghost use Rattle.cf_links.specs.MemoryLinks.{serves_in};
 ghost use Rattle.cf_policy.specs.Within.{IsWithin};
@@ -55,48 +55,61 @@ points = [\"40..49\"]
 /// A write of 100 at point 40.
 const WRITE: &str = "000100000006010600280064";
 
-const ROWS: &str = "two of each client in ten seconds, however many connections they have
+const ROWS: &str = "two of each client in ten seconds, however many connections it has
 rated: 1
-hosts: 5 6 5 6 5 6
-seconds: 1 1 1 1 1 1
+hosts: 5 6 7 5 6 7 5 6 7
+seconds: 1 1 1 1 1 1 1 1 1
 gives
-sessions 0 1 2 3
+sessions 0 1 2 3 4 5
 1.000000 10.0.0.5:49152 pump open
-1.000000 10.0.0.5:49152 pump close admitted 1 refused 0
 1.000000 10.0.0.6:49152 pump open
+1.000000 10.0.0.5:49152 pump close admitted 1 refused 0
+1.000000 10.0.0.7:49152 pump open
 1.000000 10.0.0.6:49152 pump close admitted 1 refused 0
 1.000000 10.0.0.5:49152 pump open
-1.000000 10.0.0.5:49152 pump close admitted 1 refused 0
+1.000000 10.0.0.7:49152 pump close admitted 1 refused 0
 1.000000 10.0.0.6:49152 pump open
+1.000000 10.0.0.5:49152 pump close admitted 1 refused 0
+1.000000 10.0.0.7:49152 pump open
 1.000000 10.0.0.6:49152 pump close admitted 1 refused 0
 1.000000 10.0.0.5:49152 pump open
+1.000000 10.0.0.7:49152 pump close admitted 1 refused 0
 1.000000 10.0.0.5:49152 pump refuse set value code 6 group 0 point 40 value 100 replied 000100000006010600280064
-1.000000 10.0.0.5:49152 pump close admitted 0 refused 1
 1.000000 10.0.0.6:49152 pump open
+1.000000 10.0.0.5:49152 pump close admitted 0 refused 1
 1.000000 10.0.0.6:49152 pump refuse set value code 6 group 0 point 40 value 100 replied 000100000006010600280064
+1.000000 10.0.0.7:49152 pump open
 1.000000 10.0.0.6:49152 pump close admitted 0 refused 1
+1.000000 10.0.0.7:49152 pump refuse set value code 6 group 0 point 40 value 100 replied 000100000006010600280064
+1.000000 10.0.0.7:49152 pump close admitted 0 refused 1
 
 a third one once the first counts no more, and not before
 rated: 1
-hosts: 5 6 5 6 5 6
-seconds: 1 1 2 2 11 10
+hosts: 5 6 7 5 6 7 5 6 7
+seconds: 1 1 1 2 2 2 11 10 12
 gives
-sessions 0 1 2 3 4
+sessions 0 1 2 3 4 5 6 8
 1.000000 10.0.0.5:49152 pump open
-1.000000 10.0.0.5:49152 pump close admitted 1 refused 0
 1.000000 10.0.0.6:49152 pump open
+1.000000 10.0.0.5:49152 pump close admitted 1 refused 0
+1.000000 10.0.0.7:49152 pump open
 1.000000 10.0.0.6:49152 pump close admitted 1 refused 0
 2.000000 10.0.0.5:49152 pump open
-2.000000 10.0.0.5:49152 pump close admitted 1 refused 0
+1.000000 10.0.0.7:49152 pump close admitted 1 refused 0
 2.000000 10.0.0.6:49152 pump open
+2.000000 10.0.0.5:49152 pump close admitted 1 refused 0
+2.000000 10.0.0.7:49152 pump open
 2.000000 10.0.0.6:49152 pump close admitted 1 refused 0
 11.000000 10.0.0.5:49152 pump open
-11.000000 10.0.0.5:49152 pump close admitted 1 refused 0
+2.000000 10.0.0.7:49152 pump close admitted 1 refused 0
 10.000000 10.0.0.6:49152 pump open
+11.000000 10.0.0.5:49152 pump close admitted 1 refused 0
 10.000000 10.0.0.6:49152 pump refuse set value code 6 group 0 point 40 value 100 replied 000100000006010600280064
+12.000000 10.0.0.7:49152 pump open
 10.000000 10.0.0.6:49152 pump close admitted 0 refused 1
+12.000000 10.0.0.7:49152 pump close admitted 1 refused 0
 
-a client that comes again while its session stands: the earlier one ends
+a client that comes again while its session stands: the earlier one ends before its turn
 rated: 1
 hosts: 5 5 5
 seconds: 1 1 1
@@ -109,6 +122,27 @@ sessions 2
 1.000000 10.0.0.5:49152 pump open
 1.000000 10.0.0.5:49152 pump close admitted 1 refused 0
 
+what a session used that was ended so counts
+rated: 1
+hosts: 5 6 5 6 5 6
+seconds: 1 1 1 1 1 1
+gives
+sessions 0 1 2 3
+1.000000 10.0.0.5:49152 pump open
+1.000000 10.0.0.6:49152 pump open
+7.000000 10.0.0.5:49152 pump again admitted 1 refused 0
+1.000000 10.0.0.5:49152 pump open
+7.000000 10.0.0.6:49152 pump again admitted 1 refused 0
+1.000000 10.0.0.6:49152 pump open
+7.000000 10.0.0.5:49152 pump again admitted 1 refused 0
+1.000000 10.0.0.5:49152 pump open
+7.000000 10.0.0.6:49152 pump again admitted 1 refused 0
+1.000000 10.0.0.5:49152 pump refuse set value code 6 group 0 point 40 value 100 replied 000100000006010600280064
+1.000000 10.0.0.6:49152 pump open
+1.000000 10.0.0.5:49152 pump close admitted 0 refused 1
+1.000000 10.0.0.6:49152 pump refuse set value code 6 group 0 point 40 value 100 replied 000100000006010600280064
+1.000000 10.0.0.6:49152 pump close admitted 0 refused 1
+
 an asset without a rate: all of them stand
 rated: 0
 hosts: 5 5 5
@@ -116,10 +150,10 @@ seconds: 1 1 1
 gives
 sessions 0 1 2
 1.000000 10.0.0.5:49152 pump open
-1.000000 10.0.0.5:49152 pump close admitted 1 refused 0
 1.000000 10.0.0.5:49152 pump open
 1.000000 10.0.0.5:49152 pump close admitted 1 refused 0
 1.000000 10.0.0.5:49152 pump open
+1.000000 10.0.0.5:49152 pump close admitted 1 refused 0
 1.000000 10.0.0.5:49152 pump close admitted 1 refused 0";
 
 /// The clients of a row.

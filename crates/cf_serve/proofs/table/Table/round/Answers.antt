@@ -5,7 +5,7 @@ use Rattle.cf_serve.proofs.Rounding.{kept_on, may_leave}
 use Rattle.cf_serve.specs.Failing.{MissesRound}
 use Rattle.cf_serve.specs.Minute.{last_behind}
 use Rattle.cf_serve.specs.Phase.{listenings, phase_of}
-use Rattle.cf_serve.specs.Table.{IsTable, MayLeave, RoundDoes}
+use Rattle.cf_serve.specs.Table.{AreCalm, IsTable, MayLeave, RoundDoes, seats_of}
 use Rattle.cf_serve.specs.declared.door.Lobby.{Lobby}
 use Rattle.cf_serve.specs.declared.minute.Minutes.{Minutes}
 use Rattle.cf_serve.specs.declared.table.Table.{Table}
@@ -101,3 +101,7 @@ returns-in-Err-end_round-clause-breaks g c = λ is past keeps last its.
 
 pub turns-requires-clause-calm : goal.turns-requires-clause-calm
 turns-requires-clause-calm g c = c.arrivals.ensures.calm c.requires.calm
+
+pub returns-in-Ok-end_round-clause-calm : goal.returns-in-Ok-end_round-clause-calm
+returns-in-Ok-end_round-clause-calm g c =
+    subst (λ (t : Table). AreCalm (listenings c.args.places.now) (seats_of (map phase_of t.sessions.items))) (sym c.end_round.ensures.same) c.in-Ok-turns.ensures.calm

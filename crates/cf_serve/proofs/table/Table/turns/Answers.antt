@@ -1,4 +1,4 @@
-use Rattle.std.proofs.Common.{ap, arith, map, refl, sym, ◌∙◌, ◌++◌}
+use Rattle.std.proofs.Common.{ap, arith, false, map, refl, sym, ◌∙◌, ◌≡◌, ◌++◌}
 use Rattle.cf_links.specs.Links.{LinksPlace}
 use Rattle.cf_serve.proofs.Breaking.{turns_missed}
 use Rattle.cf_serve.proofs.Calming.{calm_step, done_all, done_none, done_on, done_step, seats_within}
@@ -8,7 +8,7 @@ use Rattle.cf_serve.proofs.Passing.{phases_within, turns_passed}
 use Rattle.cf_serve.proofs.Rounding.{turns_begin, turns_step, within_step}
 use Rattle.cf_serve.proofs.Stepping.{on_err}
 use Rattle.cf_serve.specs.Phase.{listenings, phase_of}
-use Rattle.cf_serve.specs.Table.{seats_of}
+use Rattle.cf_serve.specs.Table.{AreCalm, seats_of}
 use Rattle.cf_serve.specs.declared.door.Lobby.{Lobby}
 use Rattle.cf_serve.proofs.table.Table.turns.Goals as goal
 
@@ -48,14 +48,14 @@ loop-index-preserved g c =
     let old = seats_of (map phase_of c.loop-index.self.sessions.items) in
     let new = seats_of (map phase_of c.turn_at.new.self.sessions.items) in
     let table = rw (ap (λ (f : Lobby). f.next) (c.turn_at.ensures.lobby ∙ i.lobby)) at c.in_ok-stays.ensures.table in
-    let calm = λ not. calm_step places c.loop-index.index old new c.in_ok-stays.stays c.in_ok-stays.ensures.seats (i.calm (sym c.turn_at.ensures.has_new ∙ not)) in
+    let calm : c.turn_at.new.self.has_new ≡ false → AreCalm places new = λ not. calm_step places c.loop-index.index old new c.in_ok-stays.stays c.in_ok-stays.ensures.seats (i.calm (sym c.turn_at.ensures.has_new ∙ not)) in
     let at = c.place_behind.ensures in
     record {
       table = rw c.next_at-index-in-loop-index.ensures.place table;
       does = λ past keeps.
           turns_passed _ _ _ _ past _ _ _ _ _ _ _ _ _ c.requires.table.ordered table.ordered c.turn_at.new.self.has_new calm _ c.next_at-index-in-loop-index.ensures.told _ _
           c.next_at-index-in-loop-index.ensures.index (phases_within c.turn_at.new.self _ c.next_at-index-in-loop-index.ensures.within) c.next_at-index-in-loop-index.ensures.all
-          (turns_step _ _ _ _ past _ _ _ _ _ _ _ _ _ _ (i.does past keeps) c.requires.table.ordered (rw (ap (λ (f : Lobby). f.next) i.lobby) at i.table.ordered) c.loop-index.self.lobby.next _ _ _ _ _ c.in_ok-stays.stays _
+          (turns_step _ _ _ _ past _ _ _ _ _ _ _ _ _ _ (i.does past keeps) c.requires.table.ordered i.table.ordered c.loop-index.self.lobby.next _ _ _ _ _ c.in_ok-stays.stays _
           (ap (λ (f : Lobby). f.next) i.lobby) c.in_ok-stays.ensures.does c.place_behind.ensures);
       calm = calm;
       done = done_on places c.turn_at.new.self.has_new new _ _ calm c.next_at-index-in-loop-index.ensures.all
@@ -82,5 +82,5 @@ returns-in_err-stays-clause-breaks g c =
     let i = c.loop-index.invariant in
     on_err c.from_residual.result _ (λ past keeps.
     let b = i.does past keeps in
-    turns_missed _ _ _ _ past _ _ _ _ _ _ _ _ _ _ c.requires.table.ordered (rw (ap (λ (f : Lobby). f.next) i.lobby) at i.table.ordered) b _ _ _ _
+    turns_missed _ _ _ _ past _ _ _ _ _ _ _ _ _ _ c.requires.table.ordered i.table.ordered b _ _ _ _
     (c.in_err-stays.ensures.breaks (past ++ b.turns) (rw (ap (λ (f : Lobby). f.next) i.lobby) b.keeps)))
