@@ -40,11 +40,7 @@ impl Parts {
 }
 
 /// What is read of a recording: of its flows in their order, and then of their other stretches. Their assets are those of the policy.
-pub fn read_parts(
-    alloc: Global,
-    policy: &Policy,
-    recording: &Recording,
-) -> Result<Parts, NoMemory>
+pub fn read_parts(alloc: Global, policy: &Policy, recording: &Recording) -> Result<Parts, NoMemory>
     requires flows { All (IsForAsset policy.now.assets) (map flow_value recording.now.flows.items) }
     requires stretches { AreStretchesFor policy.now.assets (map stretch_value recording.now.stretches.items) }
     ensures { IfOk result (λ parts. AreReadAs policy.now.assets
@@ -54,8 +50,20 @@ pub fn read_parts(
     let assets = policy.assets.as_slice();
     let stamps = recording.stamps.as_slice();
     let mut parts = Parts::new(alloc);
-    add_flows(alloc, assets, recording.flows.as_slice(), stamps, &mut parts)?;
-    add_stretches(alloc, assets, recording.stretches.as_slice(), stamps, &mut parts)?;
+    add_flows(
+        alloc,
+        assets,
+        recording.flows.as_slice(),
+        stamps,
+        &mut parts,
+    )?;
+    add_stretches(
+        alloc,
+        assets,
+        recording.stretches.as_slice(),
+        stamps,
+        &mut parts,
+    )?;
     Ok(parts)
 }
 

@@ -3,9 +3,7 @@ ghost use Rattle.std.specs.Prelude.{◌≡◌, IfSome, map, option_map, string_b
 ghost use Rattle.cf_words.specs.Words.{HasFitWords, command_of, command_value};
 
 use crate::captures::{read_draft, read_review};
-use crate::files::{
-    read_check, read_compare, read_judge, read_learn, read_migrate, read_packets,
-};
+use crate::files::{read_check, read_compare, read_judge, read_learn, read_migrate, read_packets};
 use crate::relay::read_relay;
 use crate::run::read_run;
 use crate::sift::read_sift;

@@ -11,6 +11,6 @@ mod sift;
 pub mod status;
 mod world;
 
-pub use command::{Command, read_words};
 pub use captures::MOST_CAPTURES;
+pub use command::{Command, read_words};
 pub use names::{are_names, printed_number_in};
