@@ -4,8 +4,8 @@ use Rattle.cf_draft.specs.Parts.{AddsRead}
 use Rattle.cf_draft.proofs.Reading.{adds_both, read_alone}
 use Rattle.cf_draft.proofs.parts.read_parts.Goals as goal
 
-pub returns-in_ok-add_stretches : goal.returns-in_ok-add_stretches
-returns-in_ok-add_stretches c =
+pub returns : goal.returns
+returns c =
     let assets = c.args.policy.now.assets in
     let flows = map flow_value c.args.recording.now.flows.items in
     let others = map (λ s. s.flow) (map stretch_value c.args.recording.now.stretches.items) in
