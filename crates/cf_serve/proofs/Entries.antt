@@ -1,12 +1,11 @@
 -- Lists in which a test finds one element at most, and what it finds behind a change.
-use Rattle.cf_policy.proofs.FirstPlace.{first_at}
-use Rattle.std.proofs.Common.{Bool, List, None, Option, Some, [], ap, arith, cond, count_by, false, inl, inr, length, not, refl, slice_get, suc, sym, true, zero, ℕ, ◌++◌, ◌+◌, ◌∙◌, ◌∷◌, ◌≡◌, ◌≤◌, ◌⊎◌}
+use Rattle.std.proofs.Common.{Bool, List, None, Some, [], ap, arith, cond, count_by, false, inl, inr, length, refl, slice_get, suc, sym, true, zero, ℕ, ◌++◌, ◌+◌, ◌∙◌, ◌∷◌, ◌≡◌, ◌≤◌, ◌⊎◌}
 use Rattle.std.proofs.lemmas.Bool.{cases_Bool, cases_lt, cond-false, cond-true, le-ltb, lt-ltb}
 use Rattle.std.proofs.lemmas.List.Folds.{find_at}
 use Rattle.std.proofs.lemmas.List.Sums.{sum_by-append, sum_by-cons}
 use Rattle.std.proofs.lemmas.Option.{slice_get_past}
 use Rattle.std.specs.List.{filter, find, position, position_or_len, remove}
-use Rattle.std.specs.Prelude.{option_and_then, ◌<◌}
+use Rattle.std.specs.Prelude.{option_and_then}
 
 -- one where it passes
 abbrev one : Bool → ℕ

@@ -1,10 +1,9 @@
 -- What is kept of each client, behind each call.
 use Rattle.cf_lane.specs.Over.{are_over}
-use Rattle.cf_lane.specs.Ring.{RingValue}
 use Rattle.cf_serve.proofs.Entries.{IsFoundStill, counted_kept, counted_more_no, counted_more_yes, counted_without, found_at, found_more_no, found_more_yes, found_nowhere, found_still, found_without, none_counted, none_without}
 use Rattle.cf_serve.specs.Keeping.{AreSingle, counts_still, takes_entry}
 use Rattle.cf_serve.specs.Lending.{Drops, Has, IsDropped, IsToLend, KeepsOthers, KeptRings, KeptValue, Lent, MayLend, kept_at, most_kept, rings_in}
-use Rattle.std.proofs.Common.{Bool, List, None, Option, Some, [], ap, arith, cond, count_by, false, inl, inr, not, option_map, refl, is_some, length, slice_get, subst, sym, true, ℕ, ◌&&◌, ◌++◌, ◌+◌, ◌∙◌, ◌∷◌, ◌<◌, ◌≡◌, ◌≤◌, ◌⊎◌}
+use Rattle.std.proofs.Common.{Bool, List, None, Option, Some, [], ap, arith, cond, count_by, false, inl, inr, not, option_map, refl, is_some, length, slice_get, subst, sym, true, ℕ, ◌&&◌, ◌++◌, ◌∙◌, ◌∷◌, ◌<◌, ◌≡◌, ◌⊎◌}
 use Rattle.std.proofs.lemmas.Bool.{cases_Bool}
 use Rattle.std.proofs.lemmas.Bool.Decides.{nat_tests}
 use Rattle.std.specs.List.{filter, find, position, remove}

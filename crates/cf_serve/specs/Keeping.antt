@@ -4,7 +4,7 @@ use Rattle.cf_lane.specs.Over.{are_over}
 use Rattle.cf_serve.specs.Lending.{Has, KeptRings, KeptValue, Lent}
 use Rattle.cf_serve.specs.declared.kept.Held.{Held}
 use Rattle.cf_serve.specs.declared.kept.Held.TheVariants as held
-use Rattle.std.specs.Prelude.{Bool, List, count_by, not, true, ℕ, ◌&&◌, ◌==◌, ◌≡◌, ◌≤◌}
+use Rattle.std.specs.Prelude.{Bool, List, count_by, not, true, ℕ, ◌&&◌, ◌==◌, ◌≤◌}
 
 abbrev pub held_value : Held → KeptRings
 held_value (held.Here rings) = Has rings

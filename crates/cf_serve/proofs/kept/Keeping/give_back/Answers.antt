@@ -1,4 +1,4 @@
-use Rattle.std.proofs.Common.{None, Some, [], ap, false, rules, subst, sym, ◌++◌, ◌∙◌, ◌∷◌, ◌≡◌}
+use Rattle.std.proofs.Common.{None, Some, ap, false, rules, subst, sym, ◌∙◌, ◌≡◌}
 use Rattle.std.proofs.Common.{List}
 use Rattle.std.specs.Prelude.{if◌then◌else◌}
 use Rattle.cf_lane.specs.Over.{are_over}

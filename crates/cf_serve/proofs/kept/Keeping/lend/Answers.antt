@@ -1,4 +1,4 @@
-use Rattle.std.proofs.Common.{List, [], ap, subst, sym, ◌++◌, ◌∙◌, ◌∷◌}
+use Rattle.std.proofs.Common.{List, ap, subst, sym, ◌∙◌}
 use Rattle.cf_serve.specs.Lending.{KeepsOthers, KeptValue, Lent, kept_at}
 use Rattle.cf_serve.proofs.Keyed.{others_both, others_more, own_more}
 use Rattle.cf_serve.proofs.kept.Keeping.lend.Goals as goal

@@ -1,9 +1,9 @@
-use Rattle.std.proofs.Common.{List, None, Some, ap, get_or, is_some, refl, rules, subst, sym, ◌∙◌, ◌≡◌}
+use Rattle.std.proofs.Common.{List, None, Some, ap, get_or, is_some, rules, ◌∙◌, ◌≡◌}
 use Rattle.std.proofs.lemmas.Option.{get_or_from_slice_get}
 use Rattle.std.specs.List.{position}
 use Rattle.cf_policy.proofs.FirstPlace.{first_at}
 use Rattle.cf_serve.specs.Keeping.{takes_entry}
-use Rattle.cf_serve.specs.Lending.{KeptValue, kept_at, rings_in}
+use Rattle.cf_serve.specs.Lending.{KeptValue, rings_in}
 use Rattle.cf_serve.proofs.Keyed.{kept_nowhere, kept_there, may_here, may_new, may_then, none_dropped}
 use Rattle.cf_serve.proofs.kept.Keeping.may_lend.Goals as goal
 

@@ -1,6 +1,6 @@
-use Rattle.std.proofs.Common.{List, None, Option, Some, ap, arith, get_or, length, option_map, refl, rules, slice_get, subst, sym, ◌∙◌, ◌≡◌}
+use Rattle.std.proofs.Common.{List, None, Some, ap, arith, get_or, option_map, refl, rules, subst, sym, ◌∙◌, ◌≡◌}
 use Rattle.std.proofs.lemmas.Option.{get_or_from_slice_get}
-use Rattle.std.specs.List.{position, remove}
+use Rattle.std.specs.List.{position}
 use Rattle.cf_policy.proofs.FirstPlace.{first_at}
 use Rattle.cf_serve.specs.Keeping.{AreSingle, held_value, takes_entry}
 use Rattle.cf_serve.specs.Lending.{KeepsOthers, KeptValue, kept_at}
