@@ -8,7 +8,7 @@ use Rattle.std.proofs.lemmas.List.{append-nil, append_assoc, map-append}
 use Rattle.std.proofs.lemmas.Option.{same_Some}
 use Rattle.cf_lane.specs.Handled.{MayHaveMore}
 use Rattle.cf_lane.specs.Log.{line_about, with_lines}
-use Rattle.cf_links.specs.Links.{Came, Left, LinksEntry, LinksPlace, Woke}
+use Rattle.cf_links.specs.Links.{Came, Left, LinksEntry, LinksPlace}
 use Rattle.cf_links.specs.Service.{GetsSession, LosesSession}
 use Rattle.cf_relay.proofs.Lined.{lines_none}
 use Rattle.cf_view.specs.declared.Endpoint.{Endpoint}
@@ -29,7 +29,7 @@ use Rattle.cf_serve.specs.Session.{Listening}
 use Rattle.cf_serve.proofs.Owing.{debt_none}
 use Rattle.cf_serve.specs.Debt.{no_debt}
 use Rattle.cf_serve.specs.Lending.{KeptValue}
-use Rattle.cf_serve.specs.Table.{Arrive, IfOver, IsBetween, IsHeld, IsTable, Keeps, MayGo, RoundDoes, TurnsDo, new_phase, seats_of}
+use Rattle.cf_serve.specs.Table.{Arrive, IfOver, IsBetween, IsHeld, IsTable, Keeps, MayGo, new_phase, seats_of}
 use Rattle.cf_serve.specs.declared.end.SessionEnd.{SessionEnd}
 
 one_more : (low next : ℕ) (ps : List Phase) (p : Phase) → p.seat.session ≡ next → IsBetween low next ps → IsBetween low (next + 1) (ps ++ p ∷ [])

@@ -1,12 +1,12 @@
 -- With what the sessions of a client begin and what they leave, behind one turn more.
-use Rattle.std.proofs.Common.{Bool, List, None, Option, Some, ap, inl, inr, refl, subst, sym, true, false, ℕ, ◌++◌, ◌∙◌, ◌∷◌, ◌≡◌, ◌⊎◌, []}
+use Rattle.std.proofs.Common.{Bool, List, None, Option, Some, ap, inl, inr, refl, subst, sym, true, false, ℕ, ◌++◌, ◌∙◌, ◌∷◌, ◌≡◌, []}
 use Rattle.std.proofs.Common.{if◌then◌else◌}
 use Rattle.std.specs.List.{list_any}
 use Rattle.std.specs.Prelude.{is_some, option_to_list, slice_get, ◌&&◌, ◌+◌, ◌||◌}
 use Rattle.std.proofs.lemmas.List.{append-nil, append_assoc}
 use Rattle.std.proofs.lemmas.Option.{same_Some}
 use Rattle.cf_lane.specs.Caller.{RateMoments, none_before}
-use Rattle.cf_lane.specs.Rates.{and_rated, rated, rated_from}
+use Rattle.cf_lane.specs.Rates.{and_rated, rated_from}
 use Rattle.cf_lane.specs.Ring.{RingValue}
 use Rattle.cf_lane.specs.Rings.{IsLeft}
 use Rattle.cf_outside.specs.Pair.{Entry}

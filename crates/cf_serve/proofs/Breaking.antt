@@ -17,7 +17,7 @@ use Rattle.cf_serve.proofs.Placing.{PhasesAt}
 use Rattle.cf_serve.proofs.Rounding.{flat_one, later_by, more_twice, must_same, same_back, same_front}
 use Rattle.cf_serve.proofs.Stepping.{at_place, keeps_it, may_go, may_others, ordered, own_debt, with_y}
 use Rattle.cf_serve.proofs.Whole.{IsQuiet, all_ended, all_quiet, all_seats, all_stand, one_stands, own_of_broken}
-use Rattle.cf_serve.specs.Broken.{Breaks, BreaksOff, FailsIn, FailsSo, IsFailedClient, TurnFails}
+use Rattle.cf_serve.specs.Broken.{Breaks, BreaksOff, FailsIn, FailsSo, IsFailedClient}
 use Rattle.cf_serve.specs.Failing.{MissesRounds, MissesSeat, MissesStep, MissesTurns, TakesNone}
 use Rattle.cf_serve.specs.Debt.{debt_of, must_rest}
 use Rattle.cf_serve.specs.Door.{first_lobby}

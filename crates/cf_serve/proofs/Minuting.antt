@@ -3,7 +3,7 @@ use Rattle.std.proofs.Common.{List, None, Option, ap, arith, inl, inr, length, r
 use Rattle.std.proofs.Common.{Bool, if◌then◌else◌}
 use Rattle.std.specs.Prelude.{option_map}
 use Rattle.std.specs.List.{AllByRecursion}
-use Rattle.std.proofs.lemmas.List.{append-nil, append_assoc}
+use Rattle.std.proofs.lemmas.List.{append-nil}
 use Rattle.cf_lane.specs.Log.{with_lines}
 use Rattle.cf_links.specs.Links.{LinksEntry, Woke}
 use Rattle.cf_serve.proofs.Rounding.{more_twice}
@@ -11,10 +11,10 @@ use Rattle.cf_serve.proofs.Tallying.{lines_same, tallied_none}
 use Rattle.cf_serve.proofs.Whole.{all_ended, all_seats, all_stand}
 use Rattle.cf_serve.specs.Broken.{TurnFails}
 use Rattle.cf_serve.specs.Failing.{MissesArrival, MissesLine, MissesRound, MissesTurns}
-use Rattle.cf_serve.specs.Minute.{IsTallied, commands_of, is_over, last_behind, lines_at, no_minutes, stands_lines, tally_at}
+use Rattle.cf_serve.specs.Minute.{IsTallied, commands_of, is_over, last_behind, lines_at, no_minutes, tally_at}
 use Rattle.cf_serve.specs.Phase.{Phase, listenings}
 use Rattle.cf_serve.specs.Lending.{KeptValue}
-use Rattle.cf_serve.specs.Rounds.{IsAgainOf, IsRound, Round, Seat, TurnOf, lobby_behind, stays}
+use Rattle.cf_serve.specs.Rounds.{IsAgainOf, IsRound, Round, Seat, TurnOf, stays}
 use Rattle.cf_serve.specs.Served.{IfEnded, IsClient}
 use Rattle.cf_serve.specs.Table.{Arrive, IsMinuteOf, IsTable, Keeps, RoundDoes, TurnsDo, seats_of}
 use Rattle.cf_serve.specs.declared.door.Lobby.{Lobby}

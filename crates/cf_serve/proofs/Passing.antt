@@ -19,7 +19,6 @@ use Rattle.cf_serve.proofs.Tallying.{tallied_idle}
 use Rattle.cf_serve.specs.Debt.{Admits, IsMeasured, Refuses}
 use Rattle.cf_serve.specs.Kept.{IsBegun, before_in, before_of, begins_in}
 use Rattle.cf_serve.specs.Lending.{KeptValue}
-use Rattle.cf_serve.specs.Minute.{IsTallied}
 use Rattle.cf_serve.specs.Phase.{LinkedValue, Phase, StandsAs, phase_of}
 use Rattle.cf_serve.specs.Rounds.{IsAgain, Seat, TurnOf, answers_in, lines_in, must_end}
 use Rattle.cf_serve.specs.Session.{Listening}

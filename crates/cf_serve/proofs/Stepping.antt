@@ -21,14 +21,13 @@ use Rattle.cf_serve.specs.Debt.{Admits, IsMeasured, Refuses, debt_of, debt_with,
 use Rattle.cf_serve.specs.Kept.{Begins, IsBegun, Leaves, before_in, before_of, begins_in, left_to}
 use Rattle.cf_serve.specs.Lending.{Fits, IsStored, KeepsOthers, KeptValue, kept_at}
 use Rattle.cf_serve.specs.Minute.{IsTallied, tally_at, tally_with}
-use Rattle.cf_serve.specs.Phase.{BeginsWith, HasLent, IsGivenBack, KeepsPlace, LeavesOf, LinkedValue, MayTurn, Phase, SeatDoes, StandsAs, TurnKeeps, TurnLeaves}
-use Rattle.cf_serve.specs.Phase.{begun_by, counts_at, debt_at, phase_of, rings_for}
+use Rattle.cf_serve.specs.Phase.{BeginsWith, HasLent, IsGivenBack, KeepsPlace, LinkedValue, MayTurn, Phase, SeatDoes, StandsAs, TurnKeeps, TurnLeaves}
+use Rattle.cf_serve.specs.Phase.{counts_at, debt_at, phase_of, rings_for}
 use Rattle.cf_serve.specs.Rounds.{IsAgain, IsAgainOf, Seat, TurnOf, answers_in, has_later, has_rates, lines_in, must_end, stays}
 use Rattle.cf_serve.specs.Session.{Listening}
 use Rattle.cf_serve.specs.Table.{AreCalm, BegunAs, IsBetween, IsTable, Keeps, MayGo, MayLeave, SeatsStep, StepDoes, seats_of}
 use Rattle.cf_serve.specs.declared.debt.Debt.{Debt}
 use Rattle.cf_serve.specs.declared.end.SessionEnd.{SessionEnd}
-use Rattle.cf_serve.specs.declared.end.SessionEnd.TheVariants as end
 use Rattle.cf_serve.specs.declared.minute.Tally.{Tally}
 use Rattle.cf_serve.specs.declared.session.Served.{Served}
 

@@ -5,7 +5,6 @@ use Rattle.std.specs.Prelude.{Err, Ok, Result, option_map, ◌==◌}
 use Rattle.std.specs.List.{AllByRecursion, flat_map}
 use Rattle.std.proofs.lemmas.Grind.{flat_map-append}
 use Rattle.std.proofs.lemmas.List.{append-nil, append_assoc}
-use Rattle.std.proofs.lemmas.Option.{same_Some}
 use Rattle.cf_links.proofs.Projection.{answers_more}
 use Rattle.cf_links.specs.Links.{Came, LinksEntry, Of, Ready, answers_of}
 use Rattle.cf_outside.specs.Pair.{Entry}

@@ -13,8 +13,8 @@ use Rattle.cf_policy.specs.declared.Asset.{Asset}
 use Rattle.cf_policy.specs.declared.Rate.{Rate}
 use Rattle.cf_relay.specs.Answers.{client_of, history_of}
 use Rattle.cf_relay.specs.Turn.{AreItemsOf}
-use Rattle.std.specs.Prelude.{List, None, Option, Some, [], if◌then◌else◌, is_some, option_to_list, slice_get, true, ℕ, ◌&&◌, ◌++◌, ◌∷◌}
-use Rattle.std.specs.Prelude.{◌≡◌, ◌≢◌, ◌⊎◌}
+use Rattle.std.specs.Prelude.{List, Some, [], if◌then◌else◌, is_some, option_to_list, slice_get, true, ℕ, ◌&&◌, ◌++◌, ◌∷◌}
+use Rattle.std.specs.Prelude.{◌≡◌, ◌⊎◌}
 use Rattle.cf_serve.specs.Rounds.{TurnOf, answers_in, is_client, part}
 use Rattle.cf_serve.specs.Session.{Listening}
 use Rattle.cf_serve.specs.declared.end.SessionEnd.{SessionEnd}

@@ -1,4 +1,4 @@
-use Rattle.std.proofs.Common.{refl, ◌∷◌, []}
+use Rattle.std.proofs.Common.{◌∷◌, []}
 use Rattle.cf_links.specs.LinkValue.{told_of}
 use Rattle.cf_outside.specs.Pair.{Moment, met_at}
 use Rattle.cf_serve.proofs.Missing.{then_missed}

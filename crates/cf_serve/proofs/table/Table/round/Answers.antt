@@ -1,4 +1,4 @@
-use Rattle.std.proofs.Common.{Bool, Option, length, map, refl, subst, sym, ℕ, []}
+use Rattle.std.proofs.Common.{Bool, length, map, refl, subst, sym, ℕ, []}
 use Rattle.cf_links.specs.Links.{LinksPlace}
 use Rattle.cf_serve.proofs.Minuting.{round_is, round_missed, round_missed_early, round_missed_late}
 use Rattle.cf_serve.proofs.Rounding.{kept_on, may_leave}

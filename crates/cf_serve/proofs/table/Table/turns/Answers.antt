@@ -5,7 +5,7 @@ use Rattle.cf_serve.proofs.Calming.{calm_step, done_all, done_none, done_on, don
 use Rattle.cf_serve.proofs.Logging.{writes_both, writes_none}
 use Rattle.cf_serve.proofs.Numbers.{all_map}
 use Rattle.cf_serve.proofs.Passing.{phases_within, turns_passed}
-use Rattle.cf_serve.proofs.Rounding.{turns_begin, turns_step, within_step}
+use Rattle.cf_serve.proofs.Rounding.{turns_begin, turns_step}
 use Rattle.cf_serve.proofs.Stepping.{on_err}
 use Rattle.cf_serve.specs.Phase.{listenings, phase_of}
 use Rattle.cf_serve.specs.Table.{AreCalm, seats_of}
