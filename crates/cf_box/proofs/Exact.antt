@@ -56,7 +56,7 @@ does_pass before after (Compare policy second) d m =
       asset = λ file name e f. cc f;
     }
 does_pass before after (Draft policy out captures) d m =
-    let l : Drafts policy captures before m.holds.draft = m.holds.drafts in policy_passes (Draft policy out captures) before policy l.known refl refl refl l.recorded.has_policy
+    let l : Drafts policy captures before m.holds.draft = m.holds.drafts in policy_passes (Draft policy out captures) before policy l.known refl refl refl l.has_read.has_policy
 does_pass before after (Judge policy capture) d m = policy_passes (Judge policy capture) before policy m.keeps.0 refl refl refl m.keeps.2.has_policy
 does_pass before after (Migrate policy out) d m = policy_passes (Migrate policy out) before policy m.keeps.meaning refl refl refl m.keeps.has
 does_pass before after (Learn policy capture out) d m =
