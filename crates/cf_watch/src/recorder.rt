@@ -180,11 +180,7 @@ impl Recorder {
 }
 
 /// What is kept of all records, as a recording.
-fn recording_of(
-    alloc: Global,
-    mut watch: Watch,
-    stamps: Vec<u64>,
-) -> Result<Recording, NoMemory>
+fn recording_of(alloc: Global, mut watch: Watch, stamps: Vec<u64>) -> Result<Recording, NoMemory>
     requires { length watch.flows.items ≡ length watch.trails.items }
     ensures flows { IfOk result (λ r. r.flows ≡ watch.flows) }
     ensures stamps { IfOk result (λ r. r.stamps ≡ stamps) }
