@@ -9,7 +9,7 @@ use Rattle.cf_records.specs.Capture.{AtPlace, Cut, Large, Record, Refused, TooLo
 use Rattle.cf_view.specs.declared.LinkSet.TheVariants as set
 use Rattle.cf_watch.specs.FlowValue.{FlowValue, StretchValue}
 use Rattle.cf_watch.specs.Recorded.{HasRecording, HaveRecords, IsCaptureOf, IsReadTo, IsRecordingOf, IsWhole, UnreadAs}
-use Rattle.cf_watch.specs.Recorder.{IsRecorderOf}
+use Rattle.cf_watch.specs.Recorder.{HasRecorded, IsRecorderOf}
 use Rattle.cf_watch.specs.declared.Recorder.{Recorder}
 use Rattle.cf_watch.specs.declared.WatchFault.{WatchFault}
 use Rattle.cf_watch.specs.declared.WatchFault.TheVariants as fault
@@ -92,6 +92,10 @@ TakesAll assets content captures old new = (records : List Record) × HaveRecord
 -- of a capture
 abbrev pub TakesOne : List Asset → Content → (old new : Recorder) → Type 0
 TakesOne assets file old new = (records : List Record) × IsCaptureOf file records × TakesBehind assets old new records
+
+-- so some were taken
+pub recorded_behind : (assets : List Asset) (file : Content) (old new : Recorder) → HasRecorded assets old → TakesOne assets file old new → HasRecorded assets new
+recorded_behind assets file old new before taken = (before.0 ++ taken.0, taken.2 before.0 before.1)
 
 takes_none : (assets : List Asset) (content : List ℕ → Content) (old : Recorder) → TakesAll assets content [] old old
 takes_none assets content old = ([], refl, λ earlier is. subst (λ rs. IsRecorderOf assets rs old) (sym (append-nil earlier)) is)

@@ -44,6 +44,7 @@ pub(crate) fn read_recording<F: Files>(
 }
 
 /// Takes the records of captures behind those before.
+#[tactic(auto, using(crate::proofs::OneRecording::recorded_behind))]
 fn read_each<F: Files>(
     alloc: Global,
     policy: &Policy,

@@ -11,12 +11,6 @@ returns-in_default-clause-more g t c = word_none string_bytes c.args.captures.no
 pub returns-in_default-clause-only : goal.returns-in_default-clause-only
 returns-in_default-clause-only g t c = reads_none (map string_bytes c.args.captures.now) (files_value g.F.Files c.args.files.now)
 
-pub read_each-requires : goal.read_each-requires
-read_each-requires g t c =
-    let before = c.requires.recorded in
-    let taken = c.in-Ok.ensures.more in
-    record { within = c.requires.within; recorded = (before.0 ++ taken.0, taken.2 before.0 before.1) }
-
 pub returns-in-Ok-clause-more : goal.returns-in-Ok-clause-more
 returns-in-Ok-clause-more g t c =
     word_takes string_bytes c.args.captures.now c.in-Some.rest.now c.in-Some.capture.now c.in-Some.ensures.cases.0 c.as_str.result.now c.as_str.ensures.value
