@@ -97,6 +97,11 @@ TakesOne assets file old new = (records : List Record) × IsCaptureOf file recor
 pub recorded_behind : (assets : List Asset) (file : Content) (old new : Recorder) → HasRecorded assets old → TakesOne assets file old new → HasRecorded assets new
 recorded_behind assets file old new before taken = (before.0 ++ taken.0, taken.2 before.0 before.1)
 
+pub recorded_where : (assets : List Asset) (file : Content) (old new : Recorder) {T E : Type 0} (r : Result T E) → HasRecorded assets old
+    → OnOk r (TakesOne assets file old new) → OnOk r (HasRecorded assets new)
+recorded_where assets file old new (Ok done) before taken = recorded_behind assets file old new before taken
+recorded_where assets file old new (Err fault) before taken = tt
+
 takes_none : (assets : List Asset) (content : List ℕ → Content) (old : Recorder) → TakesAll assets content [] old old
 takes_none assets content old = ([], refl, λ earlier is. subst (λ rs. IsRecorderOf assets rs old) (sym (append-nil earlier)) is)
 

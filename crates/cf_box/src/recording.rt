@@ -1,12 +1,13 @@
 //! The captures of a command as one recording.
-ghost use Rattle.std.specs.Prelude.{◌≡◌, ◌++◌, ◌∷◌, ◌<◌, ◌^◌, [], All, IfErr, IfOk, List, OnOk, length, map, string_bytes};
+ghost use Rattle.std.specs.Prelude.{◌≡◌, ◌++◌, ◌∷◌, ◌<◌, ◌^◌, [], All, IfErr, IfOk, IsErrOf, List, OnOk, length, map, string_bytes};
 ghost use Rattle.cf_box.specs.Recording.{StopsReading};
 ghost use Rattle.cf_ending.specs.Outside.{ReadsOnly, files_value};
+ghost use Rattle.cf_outside.specs.Frames.{OnlyReads};
 ghost use Rattle.cf_policy.specs.Within.{IsWithin};
 ghost use Rattle.cf_policy.specs.declared.Asset.{Asset};
 ghost use Rattle.cf_records.specs.Capture.{Record};
 ghost use Rattle.cf_watch.specs.FlowValue.{AreStretchesFor, IsForAsset, flow_value, stretch_value};
-ghost use Rattle.cf_watch.specs.Recorded.{HasRecording, HaveRecords};
+ghost use Rattle.cf_watch.specs.Recorded.{HasRecording, HaveRecords, IsCaptureOf, UnreadAs};
 ghost use Rattle.cf_watch.specs.Recorder.{HasRecorded, IsRecorderOf};
 
 use crate::watching::fault_stop;
@@ -14,7 +15,7 @@ use cf_ending::Stop;
 use cf_outside::Files;
 use cf_policy::Policy;
 use cf_view::NoMemory;
-use cf_watch::{Recorder, Recording};
+use cf_watch::{Recorder, Recording, WatchFault};
 use std::alloc::Global;
 
 /// What captures show, read one behind the other. Changes no file.
@@ -44,7 +45,6 @@ pub(crate) fn read_recording<F: Files>(
 }
 
 /// Takes the records of captures behind those before.
-#[tactic(auto, using(crate::proofs::OneRecording::recorded_behind))]
 fn read_each<F: Files>(
     alloc: Global,
     policy: &Policy,
@@ -64,8 +64,28 @@ fn read_each<F: Files>(
     let Some((capture, rest)) = captures.split_first() else {
         return Ok(());
     };
-    match recorder.read_capture(alloc, policy, capture.as_str(), files) {
+    match read_next(alloc, policy, capture.as_str(), recorder, files) {
         Ok(()) => read_each(alloc, policy, rest, recorder, files),
         Err(fault) => Err(fault_stop(fault)),
     }
+}
+
+/// Takes the records of a capture behind those before.
+fn read_next<F: Files>(
+    alloc: Global,
+    policy: &Policy,
+    capture: &str,
+    recorder: &mut Recorder,
+    files: &mut F,
+) -> Result<(), WatchFault>
+    requires within { IsWithin policy.now }
+    requires recorded { HasRecorded policy.now.assets recorder.old }
+    ensures recorded { OnOk result (HasRecorded policy.now.assets recorder.new) }
+    ensures more { OnOk result ((records : List Record) × IsCaptureOf (F.content files.old capture.now) records
+        × ((earlier : List Record) → IsRecorderOf policy.now.assets earlier recorder.old
+        → IsRecorderOf policy.now.assets (earlier ++ records) recorder.new)) }
+    ensures fault { IfErr result (λ fault. UnreadAs (F.content files.old capture.now) fault) }
+    ensures reads { OnlyReads capture.now F.content F.read_faults F.write_faults files.old files.new (IsErrOf result WatchFault.Read) }
+{
+    recorder.read_capture(alloc, policy, capture, files)
 }
