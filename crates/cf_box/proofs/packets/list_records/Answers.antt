@@ -38,18 +38,18 @@ records-preserved g c =
     let reader : ReaderValue = c.next.new.self in
     let found : FindsRecord (g.F.Files.content c.args.files.now c.args.name.now) c.records.reader reader (next.Whole stamp) =
     subst (λ (content : List ℕ → Content). FindsRecord (content c.args.name.now) c.records.reader reader (next.Whole stamp)) before.reads.same read.found in
-    let with_line : List ℕ → Type 0 = λ line. c.gather_line.new.lines.items ≡ c.make_room.new.lines.items ++ line in
+    let with_line : List ℕ → Type 0 = λ line. c.gather_line-dropped.new.lines.items ≡ c.make_room.new.lines.items ++ line in
     let line : with_line (record_line c.records.number (record { stamp = stamp; link = reader.link; body = reader.body })) =
     subst (λ l. with_line (record_line c.records.number (record { stamp = stamp; link = l; body = reader.body }))) c.link.ensures
-    (subst (λ b. with_line (record_line c.records.number (record { stamp = stamp; link = c.link.result; body = b }))) c.body.ensures c.gather_line.ensures.line) in
-    let count : c.gather_line.result ≡ dropped_in (record { stamp = stamp; link = reader.link; body = reader.body } ∷ []) =
-    subst (λ l. c.gather_line.result ≡ dropped_in (record { stamp = stamp; link = l; body = reader.body } ∷ [])) c.link.ensures
-    (subst (λ b. c.gather_line.result ≡ dropped_in (record { stamp = stamp; link = c.link.result; body = b } ∷ [])) c.body.ensures c.gather_line.ensures.dropped) in
+    (subst (λ b. with_line (record_line c.records.number (record { stamp = stamp; link = c.link.result; body = b }))) c.body.ensures c.gather_line-dropped.ensures.line) in
+    let count : c.gather_line-dropped.result ≡ dropped_in (record { stamp = stamp; link = reader.link; body = reader.body } ∷ []) =
+    subst (λ l. c.gather_line-dropped.result ≡ dropped_in (record { stamp = stamp; link = l; body = reader.body } ∷ [])) c.link.ensures
+    (subst (λ b. c.gather_line-dropped.result ≡ dropped_in (record { stamp = stamp; link = c.link.result; body = b } ∷ [])) c.body.ensures c.gather_line-dropped.ensures.dropped) in
     record {
       listed = one_listed (more_put before.listed some first put) reader stamp found line count;
       near = read.near;
       few = omega (arith, before.few, read.on);
-      fewer = omega (arith, before.fewer, c.gather_line.ensures.one);
+      fewer = omega (arith, before.fewer, c.gather_line-dropped.ensures.one);
       reads = reads_on before.reads read.reads (λ none. absurd none);
       puts = omega (arith, before.puts, c.in-Done.ensures.cause.later);
     }
