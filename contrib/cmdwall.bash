@@ -24,7 +24,7 @@ _cmdwall() {
             return
             ;;
         sift:3 | relay:[34] | serve:2 | world:[12]) return ;;
-        check:1 | compare:[12] | learn:[123] | draft:[1-9] | draft:[1-6][0-9] | migrate:[12] | packets:1 | judge:[12] | review:[123] | sift:[14567] | run:[1234] | relay:[15] | serve:[13] | world:[3456]) ;;
+        check:1 | compare:[12] | learn:[123] | draft:[1-9] | draft:[1-6][0-9] | migrate:[12] | packets:1 | judge:[12] | review:[1-9] | review:[1-6][0-9] | sift:[14567] | run:[1234] | relay:[15] | serve:[13] | world:[3456]) ;;
         *) return ;;
     esac
     mapfile -t COMPREPLY < <(compgen -f -- "$word")

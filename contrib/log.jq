@@ -14,7 +14,7 @@ def counts: {admitted: (.[5] | number), refused: (.[7] | number)};
         elif .[3] == "stray" then {side: .[4], why: .[5]}
         elif .[3] == "partial" then {side: .[4], left: (.[5] | number)}
         elif .[3] == "cut" then {side: .[4], why: .[5]} + (if length > 6 then {numbers: (.[6:] | map(number))} else {} end)
-        elif .[3] == "close" or .[3] == "lost" or .[3] == "silent" then counts
+        elif .[3] == "close" or .[3] == "lost" or .[3] == "silent" or .[3] == "again" then counts
         elif .[3] == "stands" then {standing: (.[4] | number), admitted: (.[6] | number), refused: (.[8] | number)}
         elif .[3] == "stranger" or .[3] == "away" then {came: (.[5] | number)}
         elif .[3] == "broken" then {why: .[4]}

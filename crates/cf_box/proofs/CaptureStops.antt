@@ -22,7 +22,7 @@ use Rattle.cf_words.specs.Command.{Command, Packets}
 use Rattle.cf_box.specs.Ends.{CutsCapture, Meets, PassesPolicy, RefusesCapture, StopsFor}
 use Rattle.cf_ending.specs.Outside.{Outside, ReadFailed, ReadsOnly}
 use Rattle.cf_box.specs.Packets.{HasListed, HasListedRecords, ListsFile, open_stop}
-use Rattle.cf_box.specs.Watching.{WatchCutsIn, WatchRefusesIn, fault_stop}
+use Rattle.cf_box.specs.Watching.{WatchCuts, WatchRefuses, fault_stop}
 use Rattle.cf_ending.specs.declared.CaptureRefusal.{CaptureRefusal}
 use Rattle.cf_ending.specs.declared.CaptureRefusal.TheVariants as refusal
 use Rattle.cf_ending.specs.declared.Done.{Done}
@@ -112,26 +112,26 @@ not_a_write (fault.Refused watch.Long) e = cc e
 not_a_write _ e = cc e
 
 -- it is why a command stops that reads the capture after its policy
-module _ (c : Command) (before after : Outside) (capture : List ℕ) (kinds : LinkSet)
-    (refuses : (r : CaptureRefusal) → WatchRefusesIn kinds (before.files.content capture) r → RefusesCapture c before r)
-    (cuts : (place : ℕ) → WatchCutsIn kinds (before.files.content capture) place → CutsCapture c before place)
+module _ (c : Command) (before after : Outside) (capture : List ℕ) (refuses : (r : CaptureRefusal) → WatchRefuses (before.files.content capture) r → RefusesCapture c before r)
+    (cuts : (place : ℕ) → WatchCuts (before.files.content capture) place → CutsCapture c before place)
     (reads : Rose (before.files.read_faults capture) (after.files.read_faults capture) → ReadFailed c before after) (passes : PassesPolicy c before) where
-  unwatched_by : (f : WatchFault) → (f ≡ fault.Read → Rose (before.files.read_faults capture) (after.files.read_faults capture)) → FailsAs kinds (before.files.content capture) f → StopsFor c before after (fault_stop f)
+  unwatched_by : (f : WatchFault) → (f ≡ fault.Read → Rose (before.files.read_faults capture) (after.files.read_faults capture)) → FailsAs set.Plain (before.files.content capture) f → StopsFor c before after (fault_stop f)
   unwatched_by fault.NoMemory read w = tt
   unwatched_by fault.Read read w = reads (read refl)
   unwatched_by (fault.Cut place) read w = (cuts place w, passes)
   unwatched_by (fault.Refused watch.Long) read w = (refuses refusal.Long (inl (refl, w)), passes)
+  unwatched_by (fault.Refused watch.Large) read w = absurd w
   unwatched_by (fault.Refused watch.TooLong) read w =
-      (refuses refusal.TooLong (inr (record { short = w.1.short; refuses = (w.0, listed kinds _ TooLong w.0 w.1); no_clock = λ e. cc e; no_large = λ e. cc e })), passes)
+      (refuses refusal.TooLong (inr (record { short = w.1.short; refuses = ((w.0, listed set.Plain _ TooLong w.0 w.1), λ e. cc e); no_large = λ e. cc e })), passes)
   unwatched_by (fault.Refused (watch.Header of)) read w =
-      let refused = form_refuses kinds HasListedRecords (before.files.content capture) of w.1 in
-      (refuses (form_refusal of) (inr (record { short = w.0; refuses = refused; no_clock = (form_apart of).0; no_large = (form_apart of).1 })), passes)
+      let refused = form_refuses set.Plain HasListedRecords (before.files.content capture) of w.1 in
+      (refuses (form_refusal of) (inr (record { short = w.0; refuses = (refused, (form_apart of).0); no_large = (form_apart of).1 })), passes)
   unwatched_by (fault.Refused (watch.Block of)) read w =
-      let refused = block_refuses kinds HasListedRecords (before.files.content capture) of (w.0, listed kinds _ (Refused of) w.0 w.1) in
-      (refuses (block_refusal of) (inr (record { short = w.1.short; refuses = refused; no_clock = (block_apart of).0; no_large = (block_apart of).1 })), passes)
+      let refused = block_refuses set.Plain HasListedRecords (before.files.content capture) of (w.0, listed set.Plain _ (Refused of) w.0 w.1) in
+      (refuses (block_refusal of) (inr (record { short = w.1.short; refuses = (refused, (block_apart of).0); no_large = (block_apart of).1 })), passes)
 
   pub unwatched : {names : List (List ℕ)} (middle : Outside) → ReadsOnly names before.files middle.files → (f : WatchFault) →
       (f ≡ fault.Read → Rose (middle.files.read_faults capture) (after.files.read_faults capture)) →
-      FailsAs kinds (middle.files.content capture) f → StopsFor c before after (fault_stop f)
+      FailsAs set.Plain (middle.files.content capture) f → StopsFor c before after (fault_stop f)
   unwatched middle only f read w =
-      unwatched_by f (λ e. since_read before.files middle.files after.files only capture (read e)) (subst (λ k. FailsAs kinds (k capture) f) only.content w)
+      unwatched_by f (λ e. since_read before.files middle.files after.files only capture (read e)) (subst (λ k. FailsAs set.Plain (k capture) f) only.content w)

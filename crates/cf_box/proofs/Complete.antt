@@ -1,6 +1,6 @@
 -- Where all is in form and nothing fails, the work is done.
 use Rattle.std.proofs.lemmas.Option.{get_or_from_slice_get, slice_get_within}
-use Rattle.std.proofs.Common.{◌≤◌, length, arith, ◌≡◌, ◌⊎◌, ℕ, List, All, Some, Result, Ok, Err, drop, refl, sym, subst, ◌∙◌, ap, inl, inr}
+use Rattle.std.proofs.Common.{◌≤◌, length, arith, ◌≡◌, ◌⊎◌, ℕ, List, [], ◌∷◌, All, Some, Result, Ok, Err, drop, refl, sym, subst, ◌∙◌, ap, inl, inr}
 use Rattle.cf_outside.specs.Files.{Content, holds, IsWhole}
 use Rattle.cf_records.proofs.RecordLists.{one_list, one_timed_list}
 use Rattle.cf_records.specs.Capture.{AreRecords, AtPlace, Clock, Cut, FileEnd, Large, LastPlace, Record, Refused, TooLong}
@@ -19,7 +19,7 @@ use Rattle.cf_policylang.specs.Documents.{policy_meaning}
 use Rattle.cf_policylang.specs.declared.PolicyRefusal.{PolicyRefusal}
 use Rattle.cf_run.specs.RunCapture.{HasRunRecords}
 use Rattle.cf_ending.specs.Captures.{EndsAt, EndsIn, Refuses, RefusesIn}
-use Rattle.cf_words.specs.Command.{Command, Compare, Draft, Judge, Packets, Review, Run, World, asset_name, capture_file, other_file, policy_file, Learn}
+use Rattle.cf_words.specs.Command.{Command, Compare, Draft, Judge, Packets, Review, Run, World, asset_name, capture_file, other_file, policy_file, recording_files, Learn}
 use Rattle.cf_box.specs.Compare.{ExceedsAt, IsNotIncluded}
 use Rattle.cf_box.specs.Ends.{CutsCapture, CutsRun, CutsStream, Denies, EndsIdle, ExceedsCells, ExceedsRules, LacksAsset, LinkFails, Meets, RefusesCapture, RefusesMadePolicy, RefusesPolicy}
 use Rattle.cf_ending.specs.Outside.{Outside, ReadFailed, WriteFailed}
@@ -27,8 +27,10 @@ use Rattle.cf_box.specs.Packets.{HasListedRecords}
 use Rattle.cf_box.specs.PolicyFile.{HasPolicy, IsRefusedBy, TellsAsset}
 use Rattle.cf_box.specs.Run.{RunCuts, RunRefuses}
 use Rattle.cf_watch.specs.declared.fault.TheConstants.{CAPTURE_LIMIT}
-use Rattle.cf_box.specs.Watching.{WatchCutsIn, WatchRefusesIn}
-use Rattle.cf_box.specs.Status.{HasRecordsIn, EndsWell, HasInput, HasTimedRecords, HoldsWhatItAsks, NothingFails, TellsMade}
+use Rattle.cf_box.specs.InForm.{HasRecordsIn, HasRecordsToItsEnd, HasTimedRecords, TellsAll}
+use Rattle.cf_box.specs.Recording.{CapturesCut, CapturesRefuse}
+use Rattle.cf_box.specs.Watching.{ReviewCuts, ReviewRefuses, WatchCuts, WatchRefuses}
+use Rattle.cf_box.specs.Status.{EndsWell, HasInput, HoldsWhatItAsks, NothingFails, TellsMade}
 use Rattle.cf_ending.specs.declared.Denial.{Denial}
 use Rattle.cf_ending.specs.declared.Denial.TheVariants as denial
 use Rattle.cf_ending.specs.declared.CaptureRefusal.{CaptureRefusal}
@@ -139,10 +141,10 @@ listing_end kinds bytes has = record { form = has.0; has_form = has.1; records =
 run_end : (bytes : List ℕ) (has : HasTimedRecords bytes) → EndsAt HasRunRecords (holds bytes) FileEnd has.2.1
 run_end bytes has = record { form = has.0; has_form = has.1; records = has.2.0; are_records = has.2.2 }
 
-listing_unrefused : (kinds : LinkSet) (bytes : List ℕ) → HasRecordsIn kinds bytes → (r : CaptureRefusal) → RefusesIn kinds HasListedRecords (holds bytes) r → ⊥
+pub listing_unrefused : (kinds : LinkSet) (bytes : List ℕ) → HasRecordsIn kinds bytes → (r : CaptureRefusal) → RefusesIn kinds HasListedRecords (holds bytes) r → ⊥
 listing_unrefused kinds bytes has r h = ends_refused kinds HasListedRecords bytes (listing_once kinds bytes) r h FileEnd has.2.1 (listing_end kinds bytes has)
 
-listing_uncut : (kinds : LinkSet) (bytes : List ℕ) → HasRecordsIn kinds bytes → (place : ℕ) → EndsIn kinds HasListedRecords (holds bytes) Cut place → ⊥
+pub listing_uncut : (kinds : LinkSet) (bytes : List ℕ) → HasRecordsIn kinds bytes → (place : ℕ) → EndsIn kinds HasListedRecords (holds bytes) Cut place → ⊥
 listing_uncut kinds bytes has place h = cc (listing_once kinds bytes Cut FileEnd place has.2.1 h (listing_end kinds bytes has))
 
 pub not_refused_run : (bytes : List ℕ) → HasTimedRecords bytes → (r : CaptureRefusal) → RunRefuses (holds bytes) r → ⊥
@@ -152,18 +154,26 @@ pub not_cut_run : (bytes : List ℕ) → HasTimedRecords bytes → (place : ℕ)
 not_cut_run bytes has place h = cc (run_once bytes Cut FileEnd place has.2.1 h (run_end bytes has))
 
 -- a watched capture that is not too long
-pub not_refused_watch : (kinds : LinkSet) (bytes : List ℕ) → HasRecordsIn kinds bytes × (length bytes ≤ CAPTURE_LIMIT) → (file : Content) → file ≡ holds bytes →
-    (r : CaptureRefusal) → WatchRefusesIn kinds file r → ⊥
-not_refused_watch kinds bytes has file told r h = by (subst (λ f. WatchRefusesIn kinds f r) told h)
+pub not_refused_watch : (bytes : List ℕ) → HasRecordsToItsEnd bytes × (length bytes ≤ CAPTURE_LIMIT) → (file : Content) → file ≡ holds bytes → (r : CaptureRefusal) → WatchRefuses file r → ⊥
+not_refused_watch bytes has file told r h = by (subst (λ f. WatchRefuses f r) told h)
   where
-    by : WatchRefusesIn kinds (holds bytes) r → ⊥
+    by : WatchRefuses (holds bytes) r → ⊥
     by (inl (is, long)) = omega (arith, has.1, long)
-    by (inr s) = listing_unrefused kinds bytes has.0 r s.refuses
+    by (inr s) = listing_unrefused set.Plain bytes has.0 r s.refuses.0
 
-pub not_cut_watch : (kinds : LinkSet) (bytes : List ℕ) → HasRecordsIn kinds bytes × (length bytes ≤ CAPTURE_LIMIT) → (file : Content) → file ≡ holds bytes →
-    (place : ℕ) → WatchCutsIn kinds file place → ⊥
-not_cut_watch kinds bytes has file told place h =
-    listing_uncut kinds bytes has.0 place (listed kinds (holds bytes) Cut place (subst (λ f. WatchCutsIn kinds f place) told h))
+pub not_cut_watch : (bytes : List ℕ) → HasRecordsToItsEnd bytes × (length bytes ≤ CAPTURE_LIMIT) → (file : Content) → file ≡ holds bytes → (place : ℕ) → WatchCuts file place → ⊥
+not_cut_watch bytes has file told place h = listing_uncut set.Plain bytes has.0 place (listed set.Plain (holds bytes) Cut place (subst (λ f. WatchCuts f place) told h))
+
+-- captures of a recording that are told and in form are neither
+pub not_refused_all : (content : List ℕ → Content) (captures : List (List ℕ)) → TellsAll content captures → (r : CaptureRefusal) → CapturesRefuse content captures r → ⊥
+not_refused_all content [] all r none = none
+not_refused_all content (capture ∷ captures) ((bytes, told, has), rest) r (inl h) = listing_unrefused set.Recorded bytes has r (subst (λ f. ReviewRefuses f r) told h).0
+not_refused_all content (capture ∷ captures) (here, rest) r (inr later) = not_refused_all content captures rest r later.1
+
+pub not_cut_all : (content : List ℕ → Content) (captures : List (List ℕ)) → TellsAll content captures → (place : ℕ) → CapturesCut content captures place → ⊥
+not_cut_all content [] all place none = none
+not_cut_all content (capture ∷ captures) ((bytes, told, has), rest) place (inl h) = listing_uncut set.Recorded bytes has place (subst (λ f. ReviewCuts f place) told h)
+not_cut_all content (capture ∷ captures) (here, rest) place (inr later) = not_cut_all content captures rest place later.1
 
 abbrev pub IsInForm : Command → Outside → Type 0
 IsInForm c before = (file : List ℕ) → capture_file c ≡ Some file → (bytes : List ℕ) × (before.files.content file ≡ holds bytes) × EndsWell c bytes
@@ -174,30 +184,36 @@ pub record EndsInForm (c : Command) (before : Outside) : Type 0 where
   pub cut : (place : ℕ) → CutsCapture c before place → ⊥
   pub run_cut : (place : ℕ) → CutsRun c before place → ⊥
 
-pub ends_in_form : (c : Command) (before : Outside) → IsInForm c before → TellsMade c before → HoldsWhatItAsks c before → EndsInForm c before
-ends_in_form (Packets capture) before good tells asked =
+pub ends_in_form : (c : Command) (before : Outside) → IsInForm c before → TellsMade c before → TellsAll before.files.content (recording_files c) → EndsInForm c before
+ends_in_form (Packets capture) before good tells all =
     let (bytes, told, has) = good capture refl in
     record {
       refused = λ r h. listing_unrefused set.Plain bytes has r (subst (λ f. Refuses HasListedRecords f r) told h.0);
       cut = λ place h. listing_uncut set.Plain bytes has place (subst (λ f. EndsAt HasListedRecords f Cut place) told h);
       run_cut = λ place h. h;
     }
-ends_in_form (Run policy names) before good tells asked =
+ends_in_form (Run policy names) before good tells all =
     let (bytes, told, has) = good names.capture refl in
     let uncut : (place : ℕ) → RunCuts (before.files.content names.capture) place → ⊥ = λ place h. not_cut_run bytes has place (subst (λ f. RunCuts f place) told h) in
     record { refused = λ r h. not_refused_run bytes has r (subst (λ f. RunRefuses f r) told h); cut = uncut; run_cut = uncut }
-ends_in_form (Judge policy capture) before good tells asked =
+ends_in_form (Judge policy capture) before good tells all =
     let (bytes, told, has) = good capture refl in
-    record { refused = not_refused_watch set.Plain bytes has _ told; cut = not_cut_watch set.Plain bytes has _ told; run_cut = λ place h. h }
-ends_in_form (Learn policy capture out) before good tells asked =
+    record { refused = not_refused_watch bytes has _ told; cut = not_cut_watch bytes has _ told; run_cut = λ place h. h }
+ends_in_form (Learn policy capture out) before good tells all =
     let (bytes, told, has) = good capture refl in
-    record { refused = not_refused_watch set.Plain bytes has _ told; cut = not_cut_watch set.Plain bytes has _ told; run_cut = λ place h. h }
-ends_in_form (Draft policy out captures) before good tells asked = record { refused = asked.unrefused; cut = asked.uncut; run_cut = λ place h. h }
-ends_in_form (Review policy capture log) before good tells asked =
-    let (bytes, told, has) = good capture refl in
-    record { refused = not_refused_watch set.Recorded bytes has _ told; cut = not_cut_watch set.Recorded bytes has _ told; run_cut = λ place h. h }
-ends_in_form (World seed sessions policy names) before good tells asked = record { refused = λ r h. tells.1 h; cut = λ place h. tells.1 h; run_cut = λ place h. tells.1 h }
-ends_in_form _ before good tells asked = record { refused = λ r h. h; cut = λ place h. h; run_cut = λ place h. h }
+    record { refused = not_refused_watch bytes has _ told; cut = not_cut_watch bytes has _ told; run_cut = λ place h. h }
+ends_in_form (Draft policy out captures) before good tells all = record {
+  refused = not_refused_all before.files.content captures all;
+  cut = not_cut_all before.files.content captures all;
+  run_cut = λ place h. h;
+}
+ends_in_form (Review policy captures log) before good tells all = record {
+  refused = not_refused_all before.files.content captures all;
+  cut = not_cut_all before.files.content captures all;
+  run_cut = λ place h. h;
+}
+ends_in_form (World seed sessions policy names) before good tells all = record { refused = λ r h. tells.1 h; cut = λ place h. tells.1 h; run_cut = λ place h. tells.1 h }
+ends_in_form _ before good tells all = record { refused = λ r h. h; cut = λ place h. h; run_cut = λ place h. h }
 
 -- nor is a policy that has a meaning, or that the command made
 made_none : (c : Command) (before : Outside) → TellsMade c before → RefusesMadePolicy c before → ⊥
@@ -232,7 +248,7 @@ not_exceeding ours theirs name all d = stops_nowhere ours theirs d.0 _ all d.1 (
 asked_holds : (c : Command) (before : Outside) (why : Denial) → HoldsWhatItAsks c before → Denies c before why → ⊥
 asked_holds (Compare policy other) before why asked d = not_denied d.0 d.1 (asked d.0 d.1 d.2) why d.3
 asked_holds (Judge policy capture) before why asked d = asked why d
-asked_holds (Review policy capture log) before why asked d = asked why d
+asked_holds (Review policy captures log) before why asked d = asked why d
 asked_holds c before why asked d = absurd d
 
 asked_is_small : (c : Command) (before : Outside) (name : List ℕ) → HoldsWhatItAsks c before → ExceedsCells c before name → ⊥
@@ -240,14 +256,14 @@ asked_is_small (Compare policy other) before name asked d = not_exceeding d.0 d.
 asked_is_small c before name asked d = absurd d
 
 asked_is_room : (c : Command) (before : Outside) (name : List ℕ) → HoldsWhatItAsks c before → ExceedsRules c before name → ⊥
-asked_is_room (Draft policy out captures) before name asked d = asked.small name d
+asked_is_room (Draft policy out captures) before name asked d = asked name d
 asked_is_room (Learn policy capture out) before name asked d = asked name d
 asked_is_room c before name asked d = absurd d
 
 module _ (c : Command) (before middle : Outside) (failed : Type 0) (status : ℕ) (input : HasInput c before middle)
     (reads : ReadFailed c before middle → ⊥) (writes : WriteFailed before middle → ⊥) (links : LinkFails c before middle.pair → ⊥) (puts : failed → ⊥) where
   in_form : EndsInForm c before
-  in_form = ends_in_form c before input.capture input.made input.holds
+  in_form = ends_in_form c before input.capture input.made input.recording
 
   is_complete : (r : Result Done Stop) → Meets c before middle r → IsOf r failed status → (status ≡ 0) ⊎ (status ≡ 13)
   is_complete (Ok d) meets (inl h) = inl h
@@ -278,6 +294,7 @@ at_answer : (c : Command) (before middle after : Outside) → after.pair ≡ mid
 at_answer c before middle after same input = record {
   policy = input.policy;
   capture = input.capture;
+  recording = input.recording;
   stream = λ reason cut. input.stream reason (subst (λ p. CutsStream c before p reason) (sym same) cut);
   idle = λ ends. input.idle (subst (λ p. EndsIdle c before p) (sym same) ends);
   made = input.made;

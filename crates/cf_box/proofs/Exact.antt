@@ -17,7 +17,6 @@ use Rattle.cf_policy.specs.declared.Policy.{Policy}
 use Rattle.cf_policylang.specs.Documents.{policy_meaning}
 use Rattle.cf_policylang.specs.declared.PolicyRefusal.{PolicyRefusal}
 use Rattle.cf_words.specs.Command.{Command, Check, Compare, Draft, Judge, Migrate, Packets, Review, Run, Relay, World, Sift, policy_file, Learn}
-use Rattle.cf_view.specs.declared.LinkSet.TheVariants as set
 use Rattle.cf_box.specs.Compare.{IsIncluded, OfPolicies, TellsNotIncluded}
 use Rattle.cf_box.specs.Ends.{Does, LacksAsset, Meets, PassesPolicy, RefusesPolicy}
 use Rattle.cf_box.specs.Draft.{Drafts}
@@ -32,14 +31,14 @@ use Rattle.cf_box.specs.Review.{DoesReview, HoldsReview, NothingRemarked}
 use Rattle.cf_review.specs.declared.Counts.{Counts}
 use Rattle.cf_box.specs.Sift.{TakesStream, TellsCutStream}
 use Rattle.cf_box.specs.Status.{IsExact, TellsCut, TellsDenial, TellsIdle, TellsNoAsset, TellsNoPolicy, TellsObjection, TellsRemark, TellsRemarks}
-use Rattle.cf_box.specs.Status.{TellsTooManyRules, TellsTooMuch}
+use Rattle.cf_box.specs.Status.{TellsTooManyRules, TellsTooMuch, TellsTooMuchRecorded}
 use Rattle.cf_unobjected.specs.OneJudgement.{RecordsHaveOneJudgement}
 use Rattle.cf_ending.specs.declared.Done.{Done}
 use Rattle.cf_ending.specs.declared.Done.TheVariants as done
 use Rattle.cf_ending.specs.declared.Stop.{Stop}
 use Rattle.cf_ending.specs.declared.Stop.TheVariants as stop
 use Rattle.cf_box.proofs.CaptureExact.{DueBehind, capture_from, capture_cut_from}
-use Rattle.cf_box.proofs.Complete.{known_unrefused, not_cut_watch, not_lacking, not_refused, not_refused_watch, same_bytes, same_policy}
+use Rattle.cf_box.proofs.Complete.{known_unrefused, not_cut_all, not_cut_watch, not_lacking, not_refused, not_refused_all, not_refused_watch, same_bytes, same_policy}
 use Rattle.cf_box.proofs.OneJudgement.{judgement_told}
 use Rattle.cf_box.proofs.Passing.{found_passes, one_policy, policy_passes}
 use Rattle.cf_box.proofs.Relaying.{GoesOn, IsUncutEnd, few_by, idle_is_late, link_is_late, uncut_by}
@@ -57,14 +56,14 @@ does_pass before after (Compare policy second) d m =
       asset = λ file name e f. cc f;
     }
 does_pass before after (Draft policy out captures) d m =
-    let l : Drafts policy captures before m.holds.draft = m.holds.drafts in policy_passes (Draft policy out captures) before policy l.known refl refl refl l.recorded.has_policy
+    let l : Drafts policy captures before m.holds.draft = m.holds.drafts in policy_passes (Draft policy out captures) before policy l.known refl refl refl l.has_read.has_policy
 does_pass before after (Judge policy capture) d m = policy_passes (Judge policy capture) before policy m.keeps.0 refl refl refl m.keeps.2.has_policy
 does_pass before after (Migrate policy out) d m = policy_passes (Migrate policy out) before policy m.keeps.meaning refl refl refl m.keeps.has
 does_pass before after (Learn policy capture out) d m =
     let l : Learns policy capture before m.holds.learned = m.holds.learns in policy_passes (Learn policy capture out) before policy l.known refl refl refl l.watched.has_policy
-does_pass before after (Review policy capture log) (done.Reviewed counts) m =
-    let h : HoldsReview policy capture log before after = m.0.holds in policy_passes (Review policy capture log) before policy h.known refl refl refl h.has.has_policy
-does_pass before after (Review policy capture log) d m = absurd m
+does_pass before after (Review policy captures log) (done.Reviewed counts) m =
+    let h : HoldsReview policy captures log before after = m.0.holds in policy_passes (Review policy captures log) before policy h.known refl refl refl h.has.has_policy
+does_pass before after (Review policy captures log) d m = absurd m
 does_pass before after (Packets capture) d m = record { policy = λ file e. cc e; other = λ file e. cc e; asset = λ file name e f. cc e }
 does_pass before after (Run policy names) d m = policy_passes (Run policy names) before policy m.1.policy refl refl refl m.1.has
 does_pass before after (Relay policy asset port idles log) d m =
@@ -288,31 +287,31 @@ module _ (failed : Type 0) (status : ℕ) (before after : Outside) where
         absurd (known_unrefused (Judge policy capture) before policy t.files.known.bytes t.files.known.policy r refl t.files.known.told t.files.known.means (λ second e. cc e) meets.0)
     objection_from (Err stop.UnknownAsset) meets h = let cause : LacksAsset (Judge policy capture) before = meets.0 in absurd (cc (cause.3))
     objection_from (Err stop.WriteFault) meets h = absurd (meets.1.unwritten refl)
-    objection_from (Err (stop.CaptureRefused r)) meets h = absurd (not_refused_watch set.Plain t.files.bytes (t.files.ends, t.files.short) _ t.files.told r meets.0.0)
-    objection_from (Err (stop.CaptureCut place)) meets h = absurd (not_cut_watch set.Plain t.files.bytes (t.files.ends, t.files.short) _ t.files.told place meets.0.0)
+    objection_from (Err (stop.CaptureRefused r)) meets h = absurd (not_refused_watch t.files.bytes (t.files.ends, t.files.short) _ t.files.told r meets.0.0)
+    objection_from (Err (stop.CaptureCut place)) meets h = absurd (not_cut_watch t.files.bytes (t.files.ends, t.files.short) _ t.files.told place meets.0.0)
     objection_from (Err (stop.Denied why)) meets h = inl (inl (stop_is failed status (stop.Denied why) h))
     objection_from (Err _) meets h = absurd meets.0.0
 
-  module _ (policy capture log : List ℕ) (t : TellsRemark policy capture before) where
-    clean_of : (counts : Counts) → DoesReview policy capture log before after (done.Reviewed counts) → NothingRemarked policy capture before
-    clean_of counts m = let h : HoldsReview policy capture log before after = m.0.holds in (h.known, h.stamps, h.reviewed, h.has, m.1)
+  module _ (policy : List ℕ) (captures : List (List ℕ)) (log : List ℕ) (t : TellsRemark policy captures before) where
+    clean_of : (counts : Counts) → DoesReview policy captures log before after (done.Reviewed counts) → NothingRemarked policy captures before
+    clean_of counts m = let h : HoldsReview policy captures log before after = m.0.holds in (h.known, h.stamps, h.reviewed, h.has, m.1)
 
-    remark_from : (r : Result Done Stop) → Meets (Review policy capture log) before after r → IsOf r failed status → DueBehind failed status before after (Review policy capture log) 15
+    remark_from : (r : Result Done Stop) → Meets (Review policy captures log) before after r → IsOf r failed status → DueBehind failed status before after (Review policy captures log) 15
     remark_from (Ok (done.Reviewed counts)) meets h = absurd (t.not_clean (clean_of counts meets))
     remark_from (Ok d) meets h = absurd meets
     remark_from (Err stop.ReadFault) meets h = inr (inr (inl (stop_is failed status stop.ReadFault h, meets.0)))
     remark_from (Err stop.NoMemory) meets h = inr (inr (inr (stop_is failed status stop.NoMemory h)))
     remark_from (Err (stop.PolicyRefused r)) meets h =
-        absurd (known_unrefused (Review policy capture log) before policy t.files.known.bytes t.files.known.policy r refl t.files.known.told t.files.known.means (λ second e. cc e) meets.0)
-    remark_from (Err stop.UnknownAsset) meets h = let cause : LacksAsset (Review policy capture log) before = meets.0 in absurd (cc (cause.3))
+        absurd (known_unrefused (Review policy captures log) before policy t.files.known.bytes t.files.known.policy r refl t.files.known.told t.files.known.means (λ second e. cc e) meets.0)
+    remark_from (Err stop.UnknownAsset) meets h = let cause : LacksAsset (Review policy captures log) before = meets.0 in absurd (cc (cause.3))
     remark_from (Err stop.WriteFault) meets h = inr (inl (stop_is failed status stop.WriteFault h, inl meets.0.0))
-    remark_from (Err (stop.CaptureRefused r)) meets h = absurd (not_refused_watch set.Recorded t.files.bytes (t.files.ends, t.files.short) _ t.files.told r meets.0.0)
-    remark_from (Err (stop.CaptureCut place)) meets h = absurd (not_cut_watch set.Recorded t.files.bytes (t.files.ends, t.files.short) _ t.files.told place meets.0.0)
+    remark_from (Err (stop.CaptureRefused r)) meets h = absurd (not_refused_all before.files.content captures t.files.all r meets.0.0)
+    remark_from (Err (stop.CaptureCut place)) meets h = absurd (not_cut_all before.files.content captures t.files.all place meets.0.0)
     remark_from (Err (stop.Denied why)) meets h = inl (stop_is failed status (stop.Denied why) h)
     remark_from (Err _) meets h = absurd meets.0.0
 
   remarked_from : (c : Command) → TellsRemarks c before → (r : Result Done Stop) → Meets c before after r → IsOf r failed status → DueBehind failed status before after c 15
-  remarked_from (Review policy capture log) t r meets h = remark_from policy capture log t r meets h
+  remarked_from (Review policy captures log) t r meets h = remark_from policy captures log t r meets h
   remarked_from c t r meets h = absurd t
 
   module _ (policy capture out : List ℕ) (t : TellsTooMuch policy capture before) where
@@ -324,13 +323,28 @@ module _ (failed : Type 0) (status : ℕ) (before after : Outside) where
         absurd (known_unrefused (Learn policy capture out) before policy t.files.known.bytes t.files.known.policy r refl t.files.known.told t.files.known.means (λ second e. cc e) meets.0)
     rules_from (Err stop.UnknownAsset) meets h = let cause : LacksAsset (Learn policy capture out) before = meets.0 in absurd (cc (cause.3))
     rules_from (Err stop.WriteFault) meets h = absurd (t.none_learned meets.1.learned meets.1.learns)
-    rules_from (Err (stop.CaptureRefused r)) meets h = absurd (not_refused_watch set.Plain t.files.bytes (t.files.ends, t.files.short) _ t.files.told r meets.0.0)
-    rules_from (Err (stop.CaptureCut place)) meets h = absurd (not_cut_watch set.Plain t.files.bytes (t.files.ends, t.files.short) _ t.files.told place meets.0.0)
+    rules_from (Err (stop.CaptureRefused r)) meets h = absurd (not_refused_watch t.files.bytes (t.files.ends, t.files.short) _ t.files.told r meets.0.0)
+    rules_from (Err (stop.CaptureCut place)) meets h = absurd (not_cut_watch t.files.bytes (t.files.ends, t.files.short) _ t.files.told place meets.0.0)
     rules_from (Err (stop.TooManyRules name)) meets h = inl (stop_is failed status (stop.TooManyRules name) h)
     rules_from (Err _) meets h = absurd meets.0.0
 
+  module _ (policy out : List ℕ) (captures : List (List ℕ)) (t : TellsTooMuchRecorded policy captures before) where
+    draft_rules_from : (r : Result Done Stop) → Meets (Draft policy out captures) before after r → IsOf r failed status → Due (Draft policy out captures) 16
+    draft_rules_from (Ok d) meets h = absurd (t.none_drafted meets.holds.draft meets.holds.drafts)
+    draft_rules_from (Err stop.ReadFault) meets h = inr (inl (stop_is failed status stop.ReadFault h, meets.0))
+    draft_rules_from (Err stop.NoMemory) meets h = inr (inr (stop_is failed status stop.NoMemory h))
+    draft_rules_from (Err (stop.PolicyRefused r)) meets h =
+        absurd (known_unrefused (Draft policy out captures) before policy t.files.known.bytes t.files.known.policy r refl t.files.known.told t.files.known.means (λ second e. cc e) meets.0)
+    draft_rules_from (Err stop.UnknownAsset) meets h = let cause : LacksAsset (Draft policy out captures) before = meets.0 in absurd (cc (cause.3))
+    draft_rules_from (Err stop.WriteFault) meets h = absurd (t.none_drafted meets.1.draft meets.1.drafts)
+    draft_rules_from (Err (stop.CaptureRefused r)) meets h = absurd (not_refused_all before.files.content captures t.files.all r meets.0.0)
+    draft_rules_from (Err (stop.CaptureCut place)) meets h = absurd (not_cut_all before.files.content captures t.files.all place meets.0.0)
+    draft_rules_from (Err (stop.TooManyRules name)) meets h = inl (stop_is failed status (stop.TooManyRules name) h)
+    draft_rules_from (Err _) meets h = absurd meets.0.0
+
   too_many_from : (c : Command) → TellsTooManyRules c before → (r : Result Done Stop) → Meets c before after r → IsOf r failed status → Due c 16
   too_many_from (Learn policy capture out) t r meets h = rules_from policy capture out t r meets h
+  too_many_from (Draft policy out captures) t r meets h = draft_rules_from policy out captures t r meets h
   too_many_from c t r meets h = absurd t
 
   -- what is asked and is not so: a line a command that asks

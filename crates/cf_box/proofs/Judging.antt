@@ -4,7 +4,6 @@ use Rattle.cf_outside.specs.Faults.{Rose}
 use Rattle.cf_policy.specs.declared.Asset.{Asset}
 use Rattle.cf_policy.specs.declared.Policy.{Policy}
 use Rattle.cf_watch.specs.FlowValue.{FlowValue}
-use Rattle.cf_view.specs.declared.LinkSet.TheVariants as set
 use Rattle.cf_watch.specs.Watch.{HasFlows, WatchesAs}
 use Rattle.cf_watch.specs.declared.WatchFault.{WatchFault}
 use Rattle.cf_watch.specs.declared.WatchFault.TheVariants as fault
@@ -41,7 +40,7 @@ module _ (policy capture : List ℕ) (before middle after : Outside) (p : Policy
 
   -- the capture was not watched to its end
   pub watch_stops : (f : WatchFault) → WatchesAs p.assets (middle.files.content capture) (Err f) → (f ≡ fault.Read → Rose (middle.files.read_faults capture) (after.files.read_faults capture)) → Meets (Judge policy capture) before after (Err (fault_stop f))
-  watch_stops f w r = (unwatched (Judge policy capture) before after capture set.Plain (λ r h. h) (λ place h. h) (λ rose. inr (inl rose)) passes middle first f r w, leaves (fault_stop f) (not_a_write f))
+  watch_stops f w r = (unwatched (Judge policy capture) before after capture (λ r h. h) (λ place h. h) (λ rose. inr (inl rose)) passes middle first f r w, leaves (fault_stop f) (not_a_write f))
 
   said : (flows : List FlowValue) → HasWatched policy capture before p flows → (r : Result Done Stop) → SaysOfFlows p flows r → Meets (Judge policy capture) before after r
   said flows w (Ok d) s = record { keeps = (p, flows, w, s); same = same }

@@ -64,9 +64,9 @@ module _ (before after : Outside) where
       KeepsOtherFiles (log ∷ []) before.files.content after.files.content
   relay_keeps policy asset port idles log answer relayed = λ other none. relayed.others other none.0
 
-  review_done_keeps : (policy capture log : List ℕ) (d : Done) → DoesReview policy capture log before after d → Keeps (Review policy capture log)
-  review_done_keeps policy capture log (done.Reviewed counts) m = m.0.others
-  review_done_keeps policy capture log d m = absurd m
+  review_done_keeps : (policy : List ℕ) (captures : List (List ℕ)) (log : List ℕ) (d : Done) → DoesReview policy captures log before after d → Keeps (Review policy captures log)
+  review_done_keeps policy captures log (done.Reviewed counts) m = m.0.others
+  review_done_keeps policy captures log d m = absurd m
 
   -- what was done keeps every file but the outputs: a line a command
   done_keeps : (k : Command) (d : Done) → Does k before after d → Keeps k
@@ -74,7 +74,7 @@ module _ (before after : Outside) where
   done_keeps (Compare policy other) d m = nothing_written (Compare policy other) m.same.content
   done_keeps (Judge policy capture) d m = nothing_written (Judge policy capture) m.same.content
   done_keeps (Packets file) d m = nothing_written (Packets file) m.content
-  done_keeps (Review policy capture log) d m = review_done_keeps policy capture log d m
+  done_keeps (Review policy captures log) d m = review_done_keeps policy captures log d m
   done_keeps (Run policy names) d m = m.1.others
   done_keeps (Relay policy asset port idles log) d m = relay_keeps policy asset port idles log m.0 m.1
   done_keeps (World seed sessions policy names) d m = λ other none. m.2.1.others other none.1.1 ∙ m.1.others other (none.0, (none.1.0, tt))
@@ -100,10 +100,10 @@ module _ (before after : Outside) where
   draft_keeps policy out captures stop.WriteFault l = l.others
   draft_keeps policy out captures s l = nothing_written (Draft policy out captures) l.content
 
-  review_keeps : (policy capture log : List ℕ) (s : Stop) → ReviewLeaves policy capture log before after s → Keeps (Review policy capture log)
-  review_keeps policy capture log (stop.Denied (denial.Remarks counts)) l = l.0.others
-  review_keeps policy capture log stop.WriteFault l = l.others
-  review_keeps policy capture log s l = nothing_written (Review policy capture log) l.content
+  review_keeps : (policy : List ℕ) (captures : List (List ℕ)) (log : List ℕ) (s : Stop) → ReviewLeaves policy captures log before after s → Keeps (Review policy captures log)
+  review_keeps policy captures log (stop.Denied (denial.Remarks counts)) l = l.0.others
+  review_keeps policy captures log stop.WriteFault l = l.others
+  review_keeps policy captures log s l = nothing_written (Review policy captures log) l.content
 
   -- a run that stopped, from another moment on
   run_stop_keeps : (between : Outside) (policy : List ℕ) (names : RunNamesValue) (s : Stop) → RunLeaves policy names between after s →
@@ -118,7 +118,7 @@ module _ (before after : Outside) where
   stop_keeps (Judge policy capture) s l = nothing_written (Judge policy capture) l.same.content
   stop_keeps (Draft policy out captures) s l = draft_keeps policy out captures s l
   stop_keeps (Learn policy capture out) s l = learn_keeps policy capture out s l
-  stop_keeps (Review policy capture log) s l = review_keeps policy capture log s l
+  stop_keeps (Review policy captures log) s l = review_keeps policy captures log s l
   stop_keeps (Migrate policy out) s l = migrate_keeps policy out s l
   stop_keeps (Packets file) s l = nothing_written (Packets file) l.content
   stop_keeps (Run policy names) s (inl l) = nothing_written (Run policy names) l.1.content
@@ -151,10 +151,10 @@ module _ (before after : Outside) where
   draft_unwritten policy out captures stop.WriteFault w l = absurd (none_of 4 w (omega arith) (omega arith) (omega arith))
   draft_unwritten policy out captures s w l = l.content
 
-  review_unwritten : (policy capture log : List ℕ) (s : Stop) → WritesNothing (stop_status s) → ReviewLeaves policy capture log before after s → after.files.content ≡ before.files.content
-  review_unwritten policy capture log (stop.Denied (denial.Remarks counts)) w l = absurd (none_of 15 w (omega arith) (omega arith) (omega arith))
-  review_unwritten policy capture log stop.WriteFault w l = absurd (none_of 4 w (omega arith) (omega arith) (omega arith))
-  review_unwritten policy capture log s w l = l.content
+  review_unwritten : (policy : List ℕ) (captures : List (List ℕ)) (log : List ℕ) (s : Stop) → WritesNothing (stop_status s) → ReviewLeaves policy captures log before after s → after.files.content ≡ before.files.content
+  review_unwritten policy captures log (stop.Denied (denial.Remarks counts)) w l = absurd (none_of 15 w (omega arith) (omega arith) (omega arith))
+  review_unwritten policy captures log stop.WriteFault w l = absurd (none_of 4 w (omega arith) (omega arith) (omega arith))
+  review_unwritten policy captures log s w l = l.content
 
   -- no stop of a world whose files tell what they hold has one
   not_of_world : (seed sessions : ℕ) (policy : List ℕ) (names : RunNamesValue) (s : Stop) → WritesNothing (stop_status s) → TellsMade (World seed sessions policy names) before →
@@ -175,7 +175,7 @@ module _ (before after : Outside) where
   unwritten_by : (k : Command) (s : Stop) → WritesNothing (stop_status s) → TellsMade k before → StopsFor k before after s → Leaves k before after s → after.files.content ≡ before.files.content
   unwritten_by (Draft policy out captures) s w t f l = draft_unwritten policy out captures s w l
   unwritten_by (Learn policy capture out) s w t f l = learn_unwritten policy capture out s w l
-  unwritten_by (Review policy capture log) s w t f l = review_unwritten policy capture log s w l
+  unwritten_by (Review policy captures log) s w t f l = review_unwritten policy captures log s w l
   unwritten_by (Migrate policy out) s w t f l = migrate_unwritten policy out s w l
   unwritten_by (Packets file) s w t f l = l.content
   unwritten_by (Run policy names) s w t f (inl l) = l.1.content

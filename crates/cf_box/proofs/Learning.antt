@@ -9,7 +9,6 @@ use Rattle.cf_outside.specs.Frames.{KeepsOtherFiles}
 use Rattle.cf_policy.specs.declared.Asset.{Asset}
 use Rattle.cf_policy.specs.declared.Policy.{Policy}
 use Rattle.cf_watch.specs.FlowValue.{FlowValue}
-use Rattle.cf_view.specs.declared.LinkSet.TheVariants as set
 use Rattle.cf_watch.specs.Watch.{HasFlows, WatchesAs}
 use Rattle.cf_watch.specs.declared.WatchFault.{WatchFault}
 use Rattle.cf_watch.specs.declared.WatchFault.TheVariants as fault
@@ -52,7 +51,7 @@ module _ (policy capture out : List ℕ) (before : Outside) (p : Policy) (has : 
       after.pair ≡ before.pair → (f : WatchFault) → (f ≡ fault.Read → Rose (middle.files.read_faults capture) (after.files.read_faults capture)) →
       WatchesAs p.assets (middle.files.content capture) (Err f) → Meets (Learn policy capture out) before after (Err (fault_stop f))
   unwatched_meets middle after only same sink pair f read w = (
-    unwatched (Learn policy capture out) before after capture set.Plain (λ r h. h) (λ place h. h) (λ rose. inr (inl rose)) passes middle only f read w,
+    unwatched (Learn policy capture out) before after capture (λ r h. h) (λ place h. h) (λ rose. inr (inl rose)) passes middle only f read w,
     unwatched_leaves after f (record { content = same ∙ only.content; sink = sink; pair = pair }),
   )
 

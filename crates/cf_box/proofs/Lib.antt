@@ -10,6 +10,7 @@ mod Learning
 mod Listing
 mod Migrating
 mod OneJudgement
+mod OneRecording
 mod Passing
 mod Reading
 mod Recorded

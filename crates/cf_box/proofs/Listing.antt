@@ -1,7 +1,8 @@
 -- Records that are listed one by one, where lines are gathered before they are put.
-use Rattle.std.proofs.Common.{◌≡◌, ◌≢◌, ◌⊎◌, ℕ, zero, suc, ◌+◌, List, [], ◌∷◌, ◌++◌, length, min, take, drop, Option, Some, None, Result, Ok, Err, refl, subst, sym, ap, ◌∙◌, append_assoc, inl, inr, arith}
+use Rattle.std.proofs.Common.{◌≡◌, ◌≢◌, ◌⊎◌, ℕ, zero, suc, ◌+◌, List, [], ◌∷◌, ◌++◌, cond, length, min, take, drop, Option, Some, None, Result, Ok, Err, refl, subst, sym, ap, ◌∙◌, append_assoc, inl, inr, arith}
 use Rattle.std.proofs.lemmas.List.{append-nil, length-append, drop-drop, take_all, take-append-le}
 use Rattle.std.proofs.lemmas.Bool.{cases_lt}
+use Rattle.std.proofs.lemmas.List.Sums.{sum_by-append}
 use Rattle.std.proofs.Math.Seq.{take-append-add}
 use Rattle.cf_outside.specs.Files.{Content, untold, absent, holds}
 use Rattle.cf_outside.specs.Sink.{printed_with}
@@ -18,7 +19,7 @@ use Rattle.cf_ending.specs.Captures.{block_refusal}
 use Rattle.cf_ending.specs.declared.Done.{Done}
 use Rattle.cf_ending.specs.declared.Stop.{Stop}
 use Rattle.cf_ending.specs.declared.Stop.TheVariants as stop
-use Rattle.cf_ending.specs.PacketLine.{lines_from, record_line}
+use Rattle.cf_ending.specs.PacketLine.{dropped_in, is_dropped, lines_from, record_line}
 use Rattle.cf_box.specs.Packets.{HasListed, HasListedRecords, ListingAnswers}
 
 -- with these records in front, the records from a place on are those of the file, as far as it is told; there its form is this one
@@ -102,37 +103,40 @@ take_between k a b c =
     ]))
 
 -- records that follow each other up to a place: the first of their lines were put, and the others are gathered
-pub record AreListed (file : Content) (start : Form) (reader : ReaderValue) (number : ℕ) (old now : Option (List ℕ)) (gathered : List ℕ) : Type 0 where
+pub record AreListed (file : Content) (start : Form) (reader : ReaderValue) (number dropped : ℕ) (old now : Option (List ℕ)) (gathered : List ℕ) : Type 0 where
   pub has_form : HasForm file (Ok start)
   pub records : List Record
   pub numbered : number ≡ 1 + length records
+  pub are_dropped : dropped ≡ dropped_in records
   pub leads : Leads file start reader.form reader.place records
   pub put : List ℕ
   pub was_put : now ≡ printed_with old put
   pub lines : put ++ gathered ≡ lines_from 1 records
 
 pub none_listed : {file : Content} {reader : ReaderValue} {old : Option (List ℕ)} {gathered : List ℕ} → HasForm file (Ok reader.form) → reader.place ≡ first_place reader.form → gathered ≡ [] →
-    AreListed file reader.form reader 1 old old gathered
+    AreListed file reader.form reader 1 0 old old gathered
 none_listed {file} {reader} {old} {gathered} h first none = record {
   has_form = h;
   records = [];
   numbered = refl;
+  are_dropped = refl;
   leads = subst (λ n. Leads file reader.form reader.form n []) (sym first) (leads_first file reader.form h);
   put = [];
   was_put = with_nothing old;
   lines = none;
 }
 
-module _ {file : Content} {start : Form} {reader : ReaderValue} {number : ℕ} {old now : Option (List ℕ)} {gathered : List ℕ} (listed : AreListed file start reader number old now gathered) where
+module _ {file : Content} {start : Form} {reader : ReaderValue} {number dropped : ℕ} {old now : Option (List ℕ)} {gathered : List ℕ} (listed : AreListed file start reader number dropped old now gathered) where
   abbrev pub all : List ℕ
   all = lines_from 1 listed.records
 
   -- some of the lines that were gathered are put
-  pub more_put : {new : Option (List ℕ)} {rest : List ℕ} (some : List ℕ) → gathered ≡ some ++ rest → new ≡ printed_with now some → AreListed file start reader number old new rest
+  pub more_put : {new : Option (List ℕ)} {rest : List ℕ} (some : List ℕ) → gathered ≡ some ++ rest → new ≡ printed_with now some → AreListed file start reader number dropped old new rest
   more_put {new} {rest} some first put = record {
     has_form = listed.has_form;
     records = listed.records;
     numbered = listed.numbered;
+    are_dropped = listed.are_dropped;
     leads = listed.leads;
     put = listed.put ++ some;
     was_put = put ∙ ap (λ text. printed_with text some) listed.was_put ∙ with_more old listed.put some;
@@ -140,10 +144,11 @@ module _ {file : Content} {start : Form} {reader : ReaderValue} {number : ℕ} {
   }
 
   -- the line of the next record is gathered
-  pub one_listed : {new : List ℕ} (next_reader : ReaderValue) (stamp : ℕ) → FindsRecord file reader next_reader (next.Whole stamp) →
+  pub one_listed : {new : List ℕ} {one : ℕ} (next_reader : ReaderValue) (stamp : ℕ) → FindsRecord file reader next_reader (next.Whole stamp) →
       new ≡ gathered ++ record_line number (record { stamp = stamp; link = next_reader.link; body = next_reader.body }) →
-      AreListed file start next_reader (number + 1) old now new
-  one_listed {new} next_reader stamp found is =
+      one ≡ dropped_in (record { stamp = stamp; link = next_reader.link; body = next_reader.body } ∷ []) →
+      AreListed file start next_reader (number + 1) (dropped + one) old now new
+  one_listed {new} {one} next_reader stamp found is count =
       let r : Record = record { stamp = stamp; link = next_reader.link; body = next_reader.body } in
       let line = record_line number r in
       let lines : lines_from 1 (listed.records ++ r ∷ []) ≡ all ++ line =
@@ -152,6 +157,7 @@ module _ {file : Content} {start : Form} {reader : ReaderValue} {number : ℕ} {
         has_form = listed.has_form;
         records = listed.records ++ r ∷ [];
         numbered = omega (arith, listed.numbered, length-append listed.records (r ∷ []));
+        are_dropped = omega (arith, listed.are_dropped, count, sum_by-append (λ x. cond (is_dropped x) 1 0) listed.records (r ∷ []));
         leads = leads_on file start reader next_reader stamp listed.records listed.leads found;
         put = listed.put;
         was_put = listed.was_put;

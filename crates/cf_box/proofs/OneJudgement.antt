@@ -17,7 +17,8 @@ use Rattle.cf_view.specs.declared.LinkSet.TheVariants as set
 use Rattle.cf_words.specs.Command.{Command, Judge}
 use Rattle.cf_box.specs.Ends.{LacksAsset, Meets}
 use Rattle.cf_box.specs.Judge.{HasJudgement, HasNoObjection, JudgesClean, ObjectsTo}
-use Rattle.cf_box.specs.Status.{HasRecordsToItsEnd, SaysOfJudgement, TellsInForm, has_none, has_one, is_not_known}
+use Rattle.cf_box.specs.InForm.{HasRecordsToItsEnd}
+use Rattle.cf_box.specs.Status.{SaysOfJudgement, TellsInForm, has_none, has_one, is_not_known}
 use Rattle.cf_ending.specs.Denial.{denial_text}
 use Rattle.cf_ending.specs.Ending.{Puts, Reports}
 use Rattle.cf_ending.specs.Outside.{Outside, ReadFailed, SinkValue, WriteFailed}
@@ -39,7 +40,7 @@ told_records file bytes has told place e =
     (one_list has.0 (first_place has.0) (drop (first_place has.0) bytes) e.records has.2.0 (record { place = place; found = FileEnd }) (record { place = has.2.1; found = FileEnd })
     (subst (λ x. AreRecords x (first_place x) (drop (first_place x) bytes) e.records (record { place = place; found = FileEnd })) same records) has.2.2).0
 
-module _ (law : RecordsHaveOneJudgement) (policy capture : List ℕ) (before : Outside) (t : TellsInForm set.Plain policy capture before) where
+module _ (law : RecordsHaveOneJudgement) (policy capture : List ℕ) (before : Outside) (t : TellsInForm policy capture before) where
   same_known : (p : Policy) (j : Judgement) → HasJudgement policy capture before p j → p ≡ t.known.policy
   same_known p j h = same_policy (before.files.content policy) t.known.bytes t.known.policy p t.known.told t.known.means h.watched.has_policy
 
@@ -81,8 +82,8 @@ module _ (law : RecordsHaveOneJudgement) (policy capture : List ℕ) (before : O
         absurd (known_unrefused (Judge policy capture) before policy t.known.bytes t.known.policy r refl t.known.told t.known.means (λ second e. cc e) m.0)
     said_from (Err stop.UnknownAsset) m reports h = let cause : LacksAsset (Judge policy capture) before = m.0 in absurd (cc (cause.3))
     said_from (Err stop.WriteFault) m reports h = absurd (m.1.unwritten refl)
-    said_from (Err (stop.CaptureRefused r)) m reports h = absurd (not_refused_watch set.Plain t.bytes (t.ends, t.short) _ t.told r m.0.0)
-    said_from (Err (stop.CaptureCut place)) m reports h = absurd (not_cut_watch set.Plain t.bytes (t.ends, t.short) _ t.told place m.0.0)
+    said_from (Err (stop.CaptureRefused r)) m reports h = absurd (not_refused_watch t.bytes (t.ends, t.short) _ t.told r m.0.0)
+    said_from (Err (stop.CaptureCut place)) m reports h = absurd (not_cut_watch t.bytes (t.ends, t.short) _ t.told place m.0.0)
     said_from (Err (stop.Denied (denial.Objects tells))) m reports h =
         let cause = m.0.0 in
         let s : ObjectsTo cause.0 cause.1 tells = cause.3 in
@@ -98,7 +99,7 @@ module _ (law : RecordsHaveOneJudgement) (policy capture : List ℕ) (before : O
     said_from (Err _) m reports h = absurd m.0.0
 
 pub judgement_told : RecordsHaveOneJudgement → {c : Command} {before after : Outside} {status : ℕ} (e : Explains c before after status) → (policy capture : List ℕ) →
-    c ≡ Judge policy capture → TellsInForm set.Plain policy capture before → (p : Policy) (j : Judgement) → HasJudgement policy capture before p j → SaysOfJudgement c p j before after status
+    c ≡ Judge policy capture → TellsInForm policy capture before → (p : Policy) (j : Judgement) → HasJudgement policy capture before p j → SaysOfJudgement c p j before after status
 judgement_told law {c = c} {before = before} {after = after} {status = status} e policy capture is t p j h =
     subst (λ k. SaysOfJudgement k p j before after status) (sym is)
     (said_from law policy capture before t (Unprinted e) status e.middle after (subst (λ k. ReadFailed k before e.middle → ReadFailed k before after) is (read_failed e))

@@ -57,7 +57,7 @@ reads_policy (Draft policy out captures) name old new is rose = let same : name 
 reads_policy (Learn policy capture out) name old new is rose = let same : name ≡ policy = cc in inl (subst (λ n. Rose (old n) (new n)) same rose)
 reads_policy (Migrate policy out) name old new is rose = let same : name ≡ policy = cc in inl (subst (λ n. Rose (old n) (new n)) same rose)
 reads_policy (Packets capture) name old new is rose = cc is
-reads_policy (Review policy capture log) name old new is rose = let same : name ≡ policy = cc in inl (subst (λ n. Rose (old n) (new n)) same rose)
+reads_policy (Review policy captures log) name old new is rose = let same : name ≡ policy = cc in inl (subst (λ n. Rose (old n) (new n)) same rose)
 reads_policy (Run policy names) name old new is rose = let same : name ≡ policy = cc in inl (subst (λ n. Rose (old n) (new n)) same rose)
 reads_policy (Relay policy asset port idles log) name old new is rose = let same : name ≡ policy = cc in inl (subst (λ n. Rose (old n) (new n)) same rose)
 reads_policy (World seed sessions policy names) name old new is rose = cc is

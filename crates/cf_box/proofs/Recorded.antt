@@ -1,4 +1,4 @@
--- The answers of the recording of a capture, of its review and of its writing, as the answer of the command.
+-- The answers of the reading of a recording, of its review and of its writing, as the answer of the command.
 use Rattle.std.proofs.Common.{◌≡◌, ℕ, List, [], ◌∷◌, Result, Ok, Err, refl, ap, subst, ◌∙◌, inl, inr}
 use Rattle.cf_outside.specs.Faults.{Rose}
 use Rattle.cf_outside.specs.Files.{IsPartly, content_after_write}
@@ -10,51 +10,45 @@ use Rattle.cf_review.specs.Review.{IsReviewOf}
 use Rattle.cf_review.specs.declared.Counts.{Counts}
 use Rattle.cf_review.specs.declared.Reviewed.{Reviewed}
 use Rattle.cf_watch.specs.FlowValue.{FlowValue, StretchValue}
-use Rattle.cf_view.specs.declared.LinkSet.TheVariants as set
-use Rattle.cf_watch.specs.Watch.{FailsAs, IsRecordingOf}
-use Rattle.cf_watch.specs.declared.WatchFault.{WatchFault}
-use Rattle.cf_watch.specs.declared.WatchFault.TheVariants as fault
-use Rattle.cf_watch.specs.declared.WatchRefusal.TheVariants as watch
-use Rattle.cf_box.specs.Check.{ChangesNothing}
+use Rattle.cf_watch.specs.Recorded.{HasRecording}
 use Rattle.cf_words.specs.Command.{Review}
 use Rattle.cf_box.specs.Ends.{Meets, PassesPolicy}
 use Rattle.cf_ending.specs.Outside.{Outside, ReadsOnly}
 use Rattle.cf_box.specs.PolicyFile.{HasPolicy}
-use Rattle.cf_box.specs.Review.{AnswersBy, HasReview, ReviewLeaves, WritesReview, remarks_of}
-use Rattle.cf_box.specs.Watching.{fault_stop}
+use Rattle.cf_box.specs.Recording.{CapturesCut, CapturesRefuse, StopsReading}
+use Rattle.cf_box.specs.Review.{AnswersBy, HasReview, WritesReview, remarks_of}
 use Rattle.cf_ending.specs.declared.Denial.TheVariants as denial
 use Rattle.cf_ending.specs.declared.Done.{Done}
 use Rattle.cf_ending.specs.declared.Done.TheVariants as done
 use Rattle.cf_ending.specs.declared.Stop.{Stop}
 use Rattle.cf_ending.specs.declared.Stop.TheVariants as stop
-use Rattle.cf_box.proofs.CaptureStops.{unwatched}
+use Rattle.cf_box.proofs.OneRecording.{rose_since}
 use Rattle.cf_box.proofs.Passing.{policy_passes}
 
-module _ (policy capture log : List ℕ) (before : Outside) (p : Policy) (has : HasPolicy (before.files.content policy) p) where
-  passes : PassesPolicy (Review policy capture log) before
-  passes = policy_passes (Review policy capture log) before policy p refl refl refl has
+module _ (policy : List ℕ) (captures : List (List ℕ)) (log : List ℕ) (before : Outside) (p : Policy) (has : HasPolicy (before.files.content policy) p) where
+  passes : PassesPolicy (Review policy captures log) before
+  passes = policy_passes (Review policy captures log) before policy p refl refl refl has
 
-  -- the capture was not watched to its end
-  unwatched_leaves : (after : Outside) (f : WatchFault) → ChangesNothing before after → ReviewLeaves policy capture log before after (fault_stop f)
-  unwatched_leaves after (fault.Refused watch.Long) same = same
-  unwatched_leaves after _ same = same
-
-  pub unwatched_meets : (middle after : Outside) → ReadsOnly (policy ∷ []) before.files middle.files → after.files.content ≡ middle.files.content → after.sink ≡ before.sink →
-      after.pair ≡ before.pair → (f : WatchFault) → (f ≡ fault.Read → Rose (middle.files.read_faults capture) (after.files.read_faults capture)) →
-      FailsAs set.Recorded (middle.files.content capture) f → Meets (Review policy capture log) before after (Err (fault_stop f))
-  unwatched_meets middle after only same sink pair f read w = (
-    unwatched (Review policy capture log) before after capture set.Recorded (λ r h. h) (λ place h. h) (λ rose. inr (inl rose)) passes middle only f read w,
-    unwatched_leaves after f (record { content = same ∙ only.content; sink = sink; pair = pair }),
-  )
+  -- the captures were not read to their ends
+  pub unread_meets : (middle after : Outside) → ReadsOnly (policy ∷ []) before.files middle.files → ReadsOnly captures middle.files after.files → after.sink ≡ before.sink →
+      after.pair ≡ before.pair → (s : Stop) → StopsReading captures middle.files after.files s → Meets (Review policy captures log) before after (Err s)
+  unread_meets middle after only reads sink pair stop.ReadFault c =
+      (inr (rose_since captures before.files.read_faults middle.files.read_faults after.files.read_faults only.reads.later c), record { content = reads.content ∙ only.content; sink = sink; pair = pair })
+  unread_meets middle after only reads sink pair (stop.CaptureRefused r) c =
+      ((subst (λ f. CapturesRefuse f captures r) only.content c, passes), record { content = reads.content ∙ only.content; sink = sink; pair = pair })
+  unread_meets middle after only reads sink pair (stop.CaptureCut place) c =
+      ((subst (λ f. CapturesCut f captures place) only.content c, passes), record { content = reads.content ∙ only.content; sink = sink; pair = pair })
+  unread_meets middle after only reads sink pair stop.NoMemory c = (tt, record { content = reads.content ∙ only.content; sink = sink; pair = pair })
+  unread_meets middle after only reads sink pair s c = absurd c
 
   module _ (middle after : Outside) (stamps : List ℕ) (r : Reviewed) (flows : List FlowValue) (stretches : List StretchValue)
-      (recorded : IsRecordingOf p.assets (middle.files.content capture) flows stretches stamps) (is : IsReviewOf p.assets flows stretches r) (only : ReadsOnly (policy ∷ capture ∷ []) before.files middle.files) (sink : after.sink ≡ before.sink) (pair : after.pair ≡ before.pair) where
-    has_review : HasReview policy capture before p stamps r
+      (recorded : HasRecording p.assets middle.files.content captures flows stretches stamps) (is : IsReviewOf p.assets flows stretches r) (only : ReadsOnly (policy ∷ captures) before.files middle.files) (sink : after.sink ≡ before.sink) (pair : after.pair ≡ before.pair) where
+    has_review : HasReview policy captures before p stamps r
     has_review = record {
       has_policy = has;
       flows = flows;
       stretches = stretches;
-      recorded = subst (λ c. IsRecordingOf p.assets (c capture) flows stretches stamps) only.content recorded;
+      recorded = subst (λ f. HasRecording p.assets f captures flows stretches stamps) only.content recorded;
       reviews = is;
     }
 
@@ -64,7 +58,7 @@ module _ (policy capture log : List ℕ) (before : Outside) (p : Policy) (has : 
 
       -- it was written
       writes : (counts : Counts) → counts ≡ counts_of r → after.files.content log ≡ content_after_write (middle.files.content log) (review_text p.assets stamps (remarks_of r)) →
-          WritesReview policy capture log before after counts
+          WritesReview policy captures log before after counts
       writes counts counted file = record {
         holds = record {
           known = p;
@@ -80,7 +74,7 @@ module _ (policy capture log : List ℕ) (before : Outside) (p : Policy) (has : 
       }
 
       pub answered_meets : after.files.content log ≡ content_after_write (middle.files.content log) (review_text p.assets stamps (remarks_of r)) → (answer : Result Done Stop) → AnswersBy r answer →
-          Meets (Review policy capture log) before after answer
+          Meets (Review policy captures log) before after answer
       unfolding writes
       answered_meets file (Ok (done.Reviewed counts)) a = (writes counts a.0 file, a.1)
       answered_meets file (Err (stop.Denied (denial.Remarks counts))) a = (((p, stamps, r, has_review, a.0, a.1), passes), (writes counts a.0 file, a.1))
@@ -88,7 +82,7 @@ module _ (policy capture log : List ℕ) (before : Outside) (p : Policy) (has : 
 
       -- or a write failed
       pub failed_meets : Rose middle.files.write_faults after.files.write_faults →
-          IsPartly (review_text p.assets stamps (remarks_of r)) (middle.files.content log) (after.files.content log) → Meets (Review policy capture log) before after (Err stop.WriteFault)
+          IsPartly (review_text p.assets stamps (remarks_of r)) (middle.files.content log) (after.files.content log) → Meets (Review policy captures log) before after (Err stop.WriteFault)
       failed_meets rose part = (
         (inl (subst (λ n. Rose n after.files.write_faults) only.writes rose), passes),
         record {

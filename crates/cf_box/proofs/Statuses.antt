@@ -172,29 +172,29 @@ module _ (failed : Type 0) (status : ℕ) where
   drafts_from before middle after policy out captures same (Err s) m h is = absurd (not_done s h is)
 
   -- a review is written where it has a remark, and where it has none
-  reviewed_holds : (before middle after : Outside) (policy capture log : List ℕ) (counts : Counts) → after.files ≡ middle.files → WritesReview policy capture log before middle counts →
-      HoldsReview policy capture log before after
-  reviewed_holds before middle after policy capture log counts same w =
+  reviewed_holds : (before middle after : Outside) (policy : List ℕ) (captures : List (List ℕ)) (log : List ℕ) (counts : Counts) → after.files ≡ middle.files → WritesReview policy captures log before middle counts →
+      HoldsReview policy captures log before after
+  reviewed_holds before middle after policy captures log counts same w =
       let h = w.holds in
       record { known = h.known; stamps = h.stamps; reviewed = h.reviewed; has = h.has; in_file = ap (λ f. f.content log) same ∙ h.in_file }
 
-  reviews_from : (before middle after : Outside) (policy capture log : List ℕ) → after.files ≡ middle.files → (r : Result Done Stop) →
-      Meets (Review policy capture log) before middle r → IsOf r failed status → (status ≡ 0) ⊎ (status ≡ 15) → ReviewHolds policy capture log before after status
+  reviews_from : (before middle after : Outside) (policy : List ℕ) (captures : List (List ℕ)) (log : List ℕ) → after.files ≡ middle.files → (r : Result Done Stop) →
+      Meets (Review policy captures log) before middle r → IsOf r failed status → (status ≡ 0) ⊎ (status ≡ 15) → ReviewHolds policy captures log before after status
   unfolding reviewed_holds
-  reviews_from before middle after policy capture log same (Ok (done.Reviewed counts)) m h is = record {
-    holds = reviewed_holds before middle after policy capture log counts same m.0;
+  reviews_from before middle after policy captures log same (Ok (done.Reviewed counts)) m h is = record {
+    holds = reviewed_holds before middle after policy captures log counts same m.0;
     clean = λ e. m.1;
     remarked = λ e. absurd (other (Ok (done.Reviewed counts)) 15 h e (omega arith) (omega arith));
   }
-  reviews_from before middle after policy capture log same (Err (stop.Denied (denial.Remarks counts))) m h is = record {
-    holds = reviewed_holds before middle after policy capture log counts same m.1.0;
+  reviews_from before middle after policy captures log same (Err (stop.Denied (denial.Remarks counts))) m h is = record {
+    holds = reviewed_holds before middle after policy captures log counts same m.1.0;
     clean = λ e. absurd (not_done (stop.Denied (denial.Remarks counts)) h e);
     remarked = λ e. m.1.1;
   }
-  reviews_from before middle after policy capture log same (Err (stop.Denied _)) m h is = absurd m.0.0
-  reviews_from before middle after policy capture log same (Ok d) m h is = absurd m
-  reviews_from before middle after policy capture log same (Err s) m h (inl is) = absurd (not_done s h is)
-  reviews_from before middle after policy capture log same (Err s) m h (inr is) = absurd (other (Err s) 15 h is (omega arith) (omega arith))
+  reviews_from before middle after policy captures log same (Err (stop.Denied _)) m h is = absurd m.0.0
+  reviews_from before middle after policy captures log same (Ok d) m h is = absurd m
+  reviews_from before middle after policy captures log same (Err s) m h (inl is) = absurd (not_done s h is)
+  reviews_from before middle after policy captures log same (Err s) m h (inr is) = absurd (other (Err s) 15 h is (omega arith) (omega arith))
 
   -- what was filtered is what the policy allows
   passes_from : LanePassesAllowed → RatesHold → (before middle after : Outside) (policy name : List ℕ) (client : ℕ) (names : SiftNamesValue) → after.files ≡ middle.files →
@@ -222,12 +222,15 @@ module _ (failed : Type 0) (status : ℕ) where
   -- each record of a capture has its line, and nothing else was told
   lists_from : (before middle after : Outside) (file : List ℕ) (r : Result Done Stop) → Meets (Packets file) before middle r → Reports r middle
       after status →
-      IsOf r failed status → status ≡ 0 → Lists file before after done.Listed
-  lists_from before middle after file (Ok done.Listed) m reports h is = record {
-    lists = subst (λ s. ListsFile (before.files.content file) before.sink s (Ok done.Listed)) (sym reports.prints.1) m.lists;
-    content = ap (λ f. f.content) reports.files ∙ m.content;
-    pair = reports.pair ∙ m.pair;
-  }
+      IsOf r failed status → status ≡ 0 → (dropped : ℕ) × Lists file before after (done.Listed dropped)
+  lists_from before middle after file (Ok (done.Listed dropped)) m reports h is = (
+    dropped,
+    record {
+      lists = subst (λ s. ListsFile (before.files.content file) before.sink s (Ok (done.Listed dropped))) (sym reports.prints.1) m.lists;
+      content = ap (λ f. f.content) reports.files ∙ m.content;
+      pair = reports.pair ∙ m.pair;
+    },
+  )
   lists_from before middle after file (Ok _) m reports h is = cc (m.lists.answers.0)
   lists_from before middle after file (Err s) m reports h is = absurd (not_done s h is)
 
@@ -306,9 +309,9 @@ module _ {c : Command} {before after : Outside} {status : ℕ} (e : Explains c b
   drafts_told policy out captures is =
       drafts_from Unprinted status before e.middle after policy out captures e.reports.files e.r (subst (λ k. Meets k before e.middle e.r) is e.meets) explained
 
-  pub reviews_told : (policy capture log : List ℕ) → c ≡ Review policy capture log → (status ≡ 0) ⊎ (status ≡ 15) → ReviewHolds policy capture log before after status
-  reviews_told policy capture log is =
-      reviews_from Unprinted status before e.middle after policy capture log e.reports.files e.r (subst (λ k. Meets k before e.middle e.r) is e.meets) explained
+  pub reviews_told : (policy : List ℕ) (captures : List (List ℕ)) (log : List ℕ) → c ≡ Review policy captures log → (status ≡ 0) ⊎ (status ≡ 15) → ReviewHolds policy captures log before after status
+  reviews_told policy captures log is =
+      reviews_from Unprinted status before e.middle after policy captures log e.reports.files e.r (subst (λ k. Meets k before e.middle e.r) is e.meets) explained
 
   pub passes_told : LanePassesAllowed → RatesHold → (policy name : List ℕ) (client : ℕ) (names : SiftNamesValue) → c ≡ Sift policy name client names → status ≡ 0 →
       SiftPassesAllowed policy name client names before after
@@ -316,6 +319,6 @@ module _ {c : Command} {before after : Outside} {status : ℕ} (e : Explains c b
       passes_from Unprinted status law keep before e.middle after policy name client names e.reports.files e.r
       (subst (λ k. Meets k before e.middle e.r) is e.meets) explained
 
-  pub lists_told : (file : List ℕ) → c ≡ Packets file → status ≡ 0 → Lists file before after done.Listed
+  pub lists_told : (file : List ℕ) → c ≡ Packets file → status ≡ 0 → (dropped : ℕ) × Lists file before after (done.Listed dropped)
   lists_told file is =
       lists_from Unprinted status before e.middle after file e.r (subst (λ k. Meets k before e.middle e.r) is e.meets) e.reports explained

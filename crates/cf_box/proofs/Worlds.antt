@@ -18,7 +18,7 @@ use Rattle.cf_box.specs.Ends.{LacksAsset, Meets, PassesPolicy, RefusesPolicy, St
 use Rattle.cf_ending.specs.Outside.{Outside, RoseIn}
 use Rattle.cf_box.specs.PolicyFile.{IsRefusedBy}
 use Rattle.cf_box.specs.Run.{RunCuts, RunRefuses}
-use Rattle.cf_box.specs.Status.{HasTimedRecords}
+use Rattle.cf_box.specs.InForm.{HasTimedRecords}
 use Rattle.cf_box.specs.World.{HasMade, made_names}
 use Rattle.cf_words.specs.Forms.{IsFitWorld}
 use Rattle.cf_ending.specs.declared.CaptureRefusal.{CaptureRefusal}

@@ -1,8 +1,8 @@
--- `draft POLICY OUT CAPTURE..`: a first policy that allows all that captures show: `HoldsDraft`. What is read of captures and what a draft
--- allows is said in `cf_draft`.
-use Rattle.std.specs.Prelude.{◌≡◌, ℕ, List, [], ◌∷◌, ◌++◌, Contains, Result, Ok, Err, length, string_bytes}
+-- `draft POLICY OUT CAPTURE..`: a first policy that allows all that captures show, which are one recording: `HoldsDraft`. What is watched is
+-- said in `cf_watch`, what is read of it and what a draft allows in `cf_draft`.
+use Rattle.std.specs.Prelude.{◌≡◌, ℕ, List, [], ◌∷◌, Result, Ok, Err, length, string_bytes}
 use Rattle.cf_draft.specs.Draft.{AreDrafted}
-use Rattle.cf_draft.specs.Parts.{AreReadFrom, IsReadFrom}
+use Rattle.cf_draft.specs.Parts.{AreReadAs, parts_of}
 use Rattle.cf_draft.specs.declared.Draft.{Draft}
 use Rattle.cf_outside.specs.Files.{Content, IsPartly, content_after_write}
 use Rattle.cf_outside.specs.Frames.{KeepsOtherFiles}
@@ -10,51 +10,20 @@ use Rattle.cf_policy.specs.Within.{IsWithin}
 use Rattle.cf_policy.specs.declared.Asset.{Asset}
 use Rattle.cf_policy.specs.declared.Policy.{Policy}
 use Rattle.cf_policylang.specs.Documents.{text_meaning}
-use Rattle.cf_watch.specs.FlowValue.{FlowValue}
+use Rattle.cf_watch.specs.FlowValue.{FlowValue, StretchValue}
+use Rattle.cf_watch.specs.Recorded.{HasRecording}
 use Rattle.cf_box.specs.Check.{ChangesNothing}
 use Rattle.cf_box.specs.Learn.{ShowTooMuch}
 use Rattle.cf_box.specs.PolicyFile.{HasPolicy, rule_count}
-use Rattle.cf_box.specs.Watching.{ReviewCuts, ReviewRefuses}
-use Rattle.cf_ending.specs.Outside.{FilesValue, Outside, RoseIn}
-use Rattle.cf_ending.specs.declared.CaptureRefusal.{CaptureRefusal}
+use Rattle.cf_ending.specs.Outside.{Outside}
 use Rattle.cf_ending.specs.declared.Done.{Done}
 use Rattle.cf_ending.specs.declared.Done.TheVariants as done
 use Rattle.cf_ending.specs.declared.Stop.{Stop}
 use Rattle.cf_ending.specs.declared.Stop.TheVariants as stop
 
--- ---- the captures
-
--- one of the captures is refused so
-abbrev pub SomeRefuses : (content : List ℕ → Content) → (captures : List (List ℕ)) → CaptureRefusal → Type 0
-SomeRefuses content captures r = (capture : List ℕ) × Contains captures capture × ReviewRefuses (content capture) r
-
--- one of the captures ends inside the record at this place
-abbrev pub SomeCuts : (content : List ℕ → Content) → (captures : List (List ℕ)) → (place : ℕ) → Type 0
-SomeCuts content captures place = (capture : List ℕ) × Contains captures capture × ReviewCuts (content capture) place
-
--- why the captures were not read to their ends
-abbrev pub StopsReading : (captures : List (List ℕ)) → (before after : FilesValue) → Stop → Type 0
-StopsReading captures before after stop.ReadFault = RoseIn captures before.read_faults after.read_faults
-StopsReading captures before after (stop.CaptureRefused r) = SomeRefuses before.content captures r
-StopsReading captures before after (stop.CaptureCut place) = SomeCuts before.content captures place
-StopsReading captures before after stop.NoMemory = Unit {0}
-StopsReading captures before after _ = ⊥
-
--- behind what was read before stands what is read of a capture
-pub record HasRead (assets : List Asset) (capture : Content) (old new : List FlowValue) : Type 0 where
-  pub more : List FlowValue
-  pub read : IsReadFrom assets capture more
-  pub behind : new ≡ old ++ more
-
--- and what is read of captures of these names, of one after the other
-pub record HasReadAll (assets : List Asset) (content : List ℕ → Content) (captures : List (List ℕ)) (old new : List FlowValue) : Type 0 where
-  pub more : List FlowValue
-  pub read : AreReadFrom assets content captures more
-  pub behind : new ≡ old ++ more
-
 -- ---- what is drafted
 
--- a draft of a policy by what was read of captures: a policy that allows all of it, as a text
+-- a draft of a policy by what was read: a policy that allows all of it, as a text
 pub record IsDraftOf (p : Policy) (flows : List FlowValue) (draft : Draft) : Type 0 where
   pub drafted : AreDrafted flows draft.widened p.assets draft.policy.assets
   pub within : IsWithin draft.policy
@@ -77,28 +46,34 @@ WritesDraftText draft before after (Ok d) = (d ≡ counted_draft draft) × (afte
 WritesDraftText draft before after (Err stop.WriteFault) = IsPartly (string_bytes draft.text) before after
 WritesDraftText draft before after (Err _) = ⊥
 
+-- this is read of the flows of captures, which are one recording, and of their other stretches
+pub record IsReadOf (assets : List Asset) (content : List ℕ → Content) (captures : List (List ℕ)) (read : List FlowValue) : Type 0 where
+  pub flows : List FlowValue
+  pub stretches : List StretchValue
+  pub stamps : List ℕ
+  pub recorded : HasRecording assets content captures flows stretches stamps
+  pub are_read : AreReadAs assets (parts_of flows stretches) read
+
 module _ (policy : List ℕ) (captures : List (List ℕ)) (before : Outside) where
   -- the policy of a file means this, and this is read of the captures
-  pub record HasRecorded (p : Policy) (flows : List FlowValue) : Type 0 where
+  pub record HasRead (p : Policy) (read : List FlowValue) : Type 0 where
     pub has_policy : HasPolicy (before.files.content policy) p
-    pub are_read : AreReadFrom p.assets before.files.content captures flows
+    pub is_read : IsReadOf p.assets before.files.content captures read
 
   -- this is a draft of the policy of the file by what is read of the captures
   pub record Drafts (draft : Draft) : Type 0 where
     pub known : Policy
-    pub flows : List FlowValue
-    pub recorded : HasRecorded known flows
-    pub is_draft : IsDraftOf known flows draft
+    pub read : List FlowValue
+    pub has_read : HasRead known read
+    pub is_draft : IsDraftOf known read draft
 
   -- the captures show too much of the asset of this name
   abbrev pub CapturesShowTooMuch : (name : List ℕ) → Type 0
-  CapturesShowTooMuch name = (p : Policy) × (flows : List FlowValue) × HasRecorded p flows × ShowTooMuch p flows name
+  CapturesShowTooMuch name = (p : Policy) × (read : List FlowValue) × HasRead p read × ShowTooMuch p read name
 
-  -- whatever is told of them, they do of none, and none of them is refused or cut
-  pub record AreInForm : Type 0 where
-    pub small : (name : List ℕ) → CapturesShowTooMuch name → ⊥
-    pub unrefused : (r : CaptureRefusal) → SomeRefuses before.files.content captures r → ⊥
-    pub uncut : (place : ℕ) → SomeCuts before.files.content captures place → ⊥
+  -- whatever is told of them, they do of none
+  abbrev pub NeverShowTooMuch : Type 0
+  NeverShowTooMuch = (name : List ℕ) → CapturesShowTooMuch name → ⊥
 
 module _ (policy out : List ℕ) (captures : List (List ℕ)) (before after : Outside) where
   -- the one file was created and holds the text of a policy that allows each act that the captures show, to the same clients, and where no

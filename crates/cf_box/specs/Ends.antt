@@ -12,16 +12,17 @@ use Rattle.cf_words.specs.Command.{Command, Check, Compare, Judge, Migrate, Pack
 use Rattle.cf_words.specs.Command.{Review, Run, Relay, World, Sift, asset_name, other_file}
 use Rattle.cf_words.specs.Command.{policy_file, Draft, Learn}
 use Rattle.cf_box.specs.Compare.{CompareLeaves, Compares, DeniesInclusion, FilesExceed}
-use Rattle.cf_box.specs.Draft.{CapturesShowTooMuch, DraftLeaves, SomeCuts, SomeRefuses, WritesDraft}
-use Rattle.cf_ending.specs.Ending.{Puts, Reports, counted_in}
+use Rattle.cf_box.specs.Draft.{CapturesShowTooMuch, DraftLeaves, WritesDraft}
+use Rattle.cf_ending.specs.Ending.{Puts, Reports}
 use Rattle.cf_box.specs.Judge.{JudgesClean, Objects}
-use Rattle.cf_box.specs.Watching.{ReviewCuts, ReviewRefuses, WatchCuts, WatchRefuses}
+use Rattle.cf_box.specs.Watching.{WatchCuts, WatchRefuses}
 use Rattle.cf_box.specs.Learn.{FilesShowTooMuch, LearnLeaves, WritesLearned}
 use Rattle.cf_box.specs.Migrate.{MigrateLeaves, Migrates}
 use Rattle.cf_ending.specs.Outside.{Outside, ReadFailed, WriteFailed}
 use Rattle.cf_box.specs.Packets.{ListingCuts, ListingRefuses, Lists, PacketsLeaves}
 use Rattle.cf_box.specs.PolicyFile.{HasPolicy, IsRefusedBy, asset_named}
 use Rattle.cf_box.specs.Relay.{CutsRelay, EndsRelayIdle, RelayLeaves, Relays}
+use Rattle.cf_box.specs.Recording.{CapturesCut, CapturesRefuse}
 use Rattle.cf_box.specs.Review.{DoesReview, Remarks, ReviewLeaves}
 use Rattle.cf_box.specs.Run.{RunCuts, RunLeaves, RunRefuses, Runs}
 use Rattle.cf_box.specs.Sift.{CutsSift, SiftLeaves, Sifts}
@@ -31,7 +32,6 @@ use Rattle.cf_ending.specs.declared.CaptureRefusal.{CaptureRefusal}
 use Rattle.cf_ending.specs.declared.Done.{Done}
 use Rattle.cf_ending.specs.declared.Stop.{Stop}
 use Rattle.cf_ending.specs.declared.Stop.TheVariants as stop
-use Rattle.cf_run.specs.declared.summary.Summary.{Summary}
 
 -- the policy that a command makes for itself means one: it can be refused only where its file does not tell what it holds
 abbrev pub RefusesMadePolicy : Command → Outside → Type 0
@@ -68,10 +68,10 @@ pub record PassesPolicy (c : Command) (before : Outside) : Type 0 where
 -- makes for itself is in form: so it is only where the file does not tell what it holds
 abbrev pub RefusesCapture : Command → Outside → CaptureRefusal → Type 0
 RefusesCapture (Packets capture) before r = ListingRefuses (before.files.content capture) r
-RefusesCapture (Draft policy out captures) before r = SomeRefuses before.files.content captures r
+RefusesCapture (Draft policy out captures) before r = CapturesRefuse before.files.content captures r
 RefusesCapture (Judge policy capture) before r = WatchRefuses (before.files.content capture) r
 RefusesCapture (Learn policy capture out) before r = WatchRefuses (before.files.content capture) r
-RefusesCapture (Review policy capture log) before r = ReviewRefuses (before.files.content capture) r
+RefusesCapture (Review policy captures log) before r = CapturesRefuse before.files.content captures r
 RefusesCapture (Run policy names) before r = RunRefuses (before.files.content names.capture) r
 RefusesCapture (World seed sessions policy names) before r = before.files.content names.capture ≡ untold
 RefusesCapture _ before r = ⊥
@@ -79,10 +79,10 @@ RefusesCapture _ before r = ⊥
 -- the capture of a command ends inside the record at this place: a line a command that reads one
 abbrev pub CutsCapture : Command → Outside → ℕ → Type 0
 CutsCapture (Packets capture) before place = ListingCuts (before.files.content capture) place
-CutsCapture (Draft policy out captures) before place = SomeCuts before.files.content captures place
+CutsCapture (Draft policy out captures) before place = CapturesCut before.files.content captures place
 CutsCapture (Judge policy capture) before place = WatchCuts (before.files.content capture) place
 CutsCapture (Learn policy capture out) before place = WatchCuts (before.files.content capture) place
-CutsCapture (Review policy capture log) before place = ReviewCuts (before.files.content capture) place
+CutsCapture (Review policy captures log) before place = CapturesCut before.files.content captures place
 CutsCapture (Run policy names) before place = RunCuts (before.files.content names.capture) place
 CutsCapture (World seed sessions policy names) before place = before.files.content names.capture ≡ untold
 CutsCapture _ before place = ⊥
@@ -102,7 +102,7 @@ CutsStream (Judge policy capture) before pair reason = ⊥
 CutsStream (Learn policy capture out) before pair reason = ⊥
 CutsStream (Migrate policy out) before pair reason = ⊥
 CutsStream (Packets capture) before pair reason = ⊥
-CutsStream (Review policy capture log) before pair reason = ⊥
+CutsStream (Review policy captures log) before pair reason = ⊥
 CutsStream (Run policy names) before pair reason = ⊥
 CutsStream (Relay policy asset port idles log) before pair reason = CutsRelay policy asset before pair reason
 CutsStream (World seed sessions policy names) before pair reason = ⊥
@@ -122,7 +122,7 @@ LinkFails _ before pair = ⊥
 abbrev pub Denies : Command → Outside → Denial → Type 0
 Denies (Compare policy other) before why = DeniesInclusion policy other before why
 Denies (Judge policy capture) before why = Objects policy capture before why
-Denies (Review policy capture log) before why = Remarks policy capture before why
+Denies (Review policy captures log) before why = Remarks policy captures before why
 Denies _ before why = ⊥
 
 -- the rules of the asset of this name make too many cells: a line a command that compares
@@ -163,7 +163,7 @@ Does (Judge policy capture) before after d = JudgesClean policy capture before a
 Does (Learn policy capture out) before after d = WritesLearned policy capture out before after d
 Does (Migrate policy out) before after d = Migrates policy out before after d
 Does (Packets capture) before after d = Lists capture before after d
-Does (Review policy capture log) before after d = DoesReview policy capture log before after d
+Does (Review policy captures log) before after d = DoesReview policy captures log before after d
 Does (Run policy names) before after d = Runs policy names before after d
 Does (Relay policy asset port idles log) before after d = Relays policy asset port idles log before after d
 Does (World seed sessions policy names) before after d = MakesAndRuns sessions policy names before after d
@@ -178,7 +178,7 @@ Leaves (Judge policy capture) before after s = CheckLeaves before after s
 Leaves (Learn policy capture out) before after s = LearnLeaves policy capture out before after s
 Leaves (Migrate policy out) before after s = MigrateLeaves policy out before after s
 Leaves (Packets capture) before after s = PacketsLeaves capture before after s
-Leaves (Review policy capture log) before after s = ReviewLeaves policy capture log before after s
+Leaves (Review policy captures log) before after s = ReviewLeaves policy captures log before after s
 Leaves (Run policy names) before after s = RunLeaves policy names before after s
 Leaves (Relay policy asset port idles log) before after s = RelayLeaves policy asset port idles log before after s
 Leaves (World seed sessions policy names) before after s = WorldLeaves sessions policy names before after s
@@ -195,8 +195,9 @@ Ends None before after status =
     Puts (codes "usage\n") 2 2 before.sink after.sink status × (after.files ≡ before.files) × (after.pair ≡ before.pair)
 Ends (Some c) before after status = (r : Result Done Stop) × (middle : Outside) × Meets c before middle r × Reports r middle after status
 
--- what was counted is told beside the text: that of the answer with which the command ended so; where the words have no form, nothing
-abbrev pub TellsCounts : Option Command → (before after : Outside) → (status : ℕ) → Option Summary → Type 0
-TellsCounts None before after status told = told ≡ None
-TellsCounts (Some c) before after status told =
-    (r : Result Done Stop) × (middle : Outside) × Meets c before middle r × Reports r middle after status × (told ≡ counted_in r)
+-- how the command ended is told beside the text: the very answer that explains the files, and of which the status and the text are made;
+-- nothing where the words have no form
+abbrev pub TellsEnding : Option Command → (before after : Outside) → (status : ℕ) → Option (Result Done Stop) → Type 0
+TellsEnding None before after status told = told ≡ None
+TellsEnding (Some c) before after status told =
+    (r : Result Done Stop) × (middle : Outside) × Meets c before middle r × Reports r middle after status × (told ≡ Some r)

@@ -1,22 +1,22 @@
 -- Laws over every run and every capture: HasLaws.
 use Rattle.cf_decode.specs.Commands.{AdmitsWhatIsAllowed}
+use Rattle.cf_decode.specs.Told.{RefusedAreTold, ShownAreTold}
 use Rattle.cf_isolation.specs.Isolated.{CapturesAreIsolated, CapturesHoldSessions, CapturesHoldToTheNext}
 use Rattle.cf_isolation.specs.Lives.{AlikeInLines, AlikeInRecords, EachHasALife, EachHasRecords, EachLogged}
 use Rattle.cf_isolation.specs.Logged.{LogsAreIsolated, LogsHoldSessions, LogsHoldToTheNext}
+use Rattle.cf_isolation.specs.ReadBack.{RunsAreReadBack}
 use Rattle.cf_pcapng.specs.Calls.{GiveBlocks, HaveOneListOfBlocks}
-use Rattle.cf_readback.specs.ReadBack.{RunsAreReadBack}
-use Rattle.cf_refusals.specs.Told.{RefusedAreTold, ShownAreTold}
 use Rattle.cf_review.specs.First.{BytesComeInOrder, JudgeTellsTheFirst}
 use Rattle.cf_review.specs.Fronts.{RecordsComeFirst}
 use Rattle.cf_review.specs.SynFlows.{SynFlowsAreWatched}
 use Rattle.cf_run.specs.Fixed.{RecordsFixRuns}
 use Rattle.cf_run.specs.Isolation.{RunsIsolateSessions}
 use Rattle.cf_records.specs.Records.{HaveOneTimedList}
-use Rattle.cf_selfjudged.specs.SelfJudged.{RunsAreUnobjected, WatchedRunsAreUnobjected}
 use Rattle.cf_session.specs.Laws.{FewerPartsAreEnough}
 use Rattle.cf_unobjected.specs.Allowed.{FlowsGoOn, UnobjectedAreAllowed}
 use Rattle.cf_unobjected.specs.OneJudgement.{FlowsAreJudged, FlowsAreOne, JudgementsAreOne, RecordsHaveOneJudgement}
 use Rattle.cf_unobjected.specs.OneReading.{ReadingsAreOne}
+use Rattle.cf_unobjected.specs.SelfJudged.{RunsAreUnobjected, WatchedRunsAreUnobjected}
 use Rattle.cf_unobjected.specs.ShortestFront.{FrontsAreJudged, ObjectionsAreOfShortestFronts}
 
 -- all laws over runs, captures and policies of which the program says something

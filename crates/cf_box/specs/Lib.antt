@@ -2,6 +2,7 @@ pub mod Check
 pub mod Compare
 pub mod Draft
 pub mod Ends
+pub mod InForm
 pub mod Judge
 pub mod Laws
 pub mod Learn
@@ -10,6 +11,7 @@ pub mod Migrate
 pub mod Numbers
 pub mod Packets
 pub mod PolicyFile
+pub mod Recording
 pub mod Relay
 pub mod Review
 pub mod Run

@@ -47,7 +47,7 @@ pub record HasLimits : Type 0 where
   pub records : RECORD_LIMIT ≡ 1000000
   -- octets of a record of a capture, and of a block of a pcapng file; interfaces of a section
   pub captured : CAPTURED_LIMIT ≡ 262144
-  -- octets of a capture that is watched
+  -- octets of a capture whose connections are watched
   pub watched : CAPTURE_LIMIT ≡ 67108864
   pub block : BLOCK_LIMIT ≡ 16777216
   pub interfaces : INTERFACE_LIMIT ≡ 64

@@ -12,9 +12,11 @@ use Rattle.cf_records.specs.declared.record_reader.OpenFault.TheVariants as open
 use Rattle.cf_watch.specs.Watch.{HasRecords}
 use Rattle.cf_ending.specs.declared.CaptureRefusal.{CaptureRefusal}
 use Rattle.cf_ending.specs.declared.CaptureRefusal.TheVariants as refusal
-use Rattle.cf_ending.specs.Captures.{EndsAt, Refuses, form_refusal}
+use Rattle.cf_ending.specs.Captures.{EndsIn, RefusesIn, form_refusal}
+use Rattle.cf_view.specs.declared.LinkSet.{LinkSet}
+use Rattle.cf_view.specs.declared.LinkSet.TheVariants as set
 use Rattle.cf_ending.specs.Outside.{Outside, SinkValue}
-use Rattle.cf_ending.specs.PacketLine.{lines_from}
+use Rattle.cf_ending.specs.PacketLine.{dropped_in, lines_from}
 use Rattle.cf_ending.specs.declared.Done.{Done}
 use Rattle.cf_ending.specs.declared.Done.TheVariants as done
 use Rattle.cf_ending.specs.declared.Stop.{Stop}
@@ -27,12 +29,19 @@ abbrev pub HasListedRecords : Content → Form → List Record → LastPlace →
 HasListedRecords file form records last = HasRecords file form records last
 
 -- a listing tests no moments, so none refuses it
-abbrev pub ListingRefuses : Content → CaptureRefusal → Type 0
-ListingRefuses file r = Refuses HasListedRecords file r × (r ≢ refusal.Clock)
+abbrev pub ListingRefusesIn : LinkSet → Content → CaptureRefusal → Type 0
+ListingRefusesIn kinds file r = RefusesIn kinds HasListedRecords file r × (r ≢ refusal.Clock)
 
 -- the capture that is listed ends inside the record at this place
+abbrev pub ListingCutsIn : LinkSet → Content → (place : ℕ) → Type 0
+ListingCutsIn kinds file place = EndsIn kinds HasListedRecords file Cut place
+
+-- the same of a file of Ethernet or raw IP
+abbrev pub ListingRefuses : Content → CaptureRefusal → Type 0
+ListingRefuses file r = ListingRefusesIn set.Plain file r
+
 abbrev pub ListingCuts : Content → (place : ℕ) → Type 0
-ListingCuts file place = EndsAt HasListedRecords file Cut place
+ListingCuts file place = ListingCutsIn set.Plain file place
 
 -- why the work stops where the capture is not opened
 abbrev pub open_stop : OpenFault → Stop
@@ -42,11 +51,11 @@ open_stop (opened.Refused of) = stop.CaptureRefused (form_refusal of)
 
 -- ---- what a listing did
 
--- what an answer tells of a capture's records, which end so, and of what was put: the lines of all of them; where a read failed,
--- those of the first ones; where a put failed, a prefix of the lines
+-- what an answer tells of a capture's records, which end so, and of what was put: the lines of all of them, and at their end how many have
+-- no segment; where a read failed, those of the first ones; where a put failed, a prefix of the lines
 abbrev pub ListingAnswers : List Record → LastPlace → (before after : Option (List ℕ)) → (failed : Type 0) → Result Done Stop → Type 0
 ListingAnswers records last before after failed (Ok d) =
-    (d ≡ done.Listed) × (last.found ≡ FileEnd) × (after ≡ printed_with before (lines_from 1 records))
+    (d ≡ done.Listed (dropped_in records)) × (last.found ≡ FileEnd) × (after ≡ printed_with before (lines_from 1 records))
 ListingAnswers records last before after failed (Err (stop.CaptureCut place)) =
     (last ≡ record { place = place; found = Cut }) × (after ≡ printed_with before (lines_from 1 records))
 ListingAnswers records last before after failed (Err (stop.CaptureRefused refusal.TooLong)) =

@@ -1,5 +1,5 @@
--- `review POLICY CAPTURE LOG`: all that a policy objects to in what clients sent in a capture, a line each: `HoldsReview`. What is
--- watched is said in `cf_watch`, what is objected to in `cf_review`.
+-- `review POLICY CAPTURE.. LOG`: all that a policy objects to in what clients sent in captures, which are one recording, a line each:
+-- `HoldsReview`. What is watched is said in `cf_watch`, what is objected to in `cf_review`.
 use Rattle.std.specs.Prelude.{◌≡◌, ◌≢◌, ℕ, List, [], ◌∷◌, map, Result, Ok, Err}
 use Rattle.cf_outside.specs.Files.{IsPartly, content_after_write}
 use Rattle.cf_outside.specs.Frames.{KeepsOtherFiles}
@@ -11,7 +11,7 @@ use Rattle.cf_review.specs.Review.{IsReviewOf}
 use Rattle.cf_review.specs.declared.Counts.{Counts}
 use Rattle.cf_review.specs.declared.Reviewed.{Reviewed}
 use Rattle.cf_watch.specs.FlowValue.{FlowValue, StretchValue}
-use Rattle.cf_watch.specs.Watch.{IsRecordingOf}
+use Rattle.cf_watch.specs.Recorded.{HasRecording}
 use Rattle.cf_box.specs.Check.{ChangesNothing}
 use Rattle.cf_ending.specs.Outside.{Outside}
 use Rattle.cf_box.specs.PolicyFile.{HasPolicy}
@@ -22,7 +22,7 @@ use Rattle.cf_ending.specs.declared.Done.TheVariants as done
 use Rattle.cf_ending.specs.declared.Stop.{Stop}
 use Rattle.cf_ending.specs.declared.Stop.TheVariants as stop
 
--- ---- of a policy and a capture
+-- ---- of a policy and captures
 
 -- the remarks of a review that was made
 abbrev pub remarks_of : Reviewed → List RemarkValue
@@ -34,13 +34,13 @@ AnswersBy r (Ok (done.Reviewed counts)) = (counts ≡ counts_of r) × (remarks_o
 AnswersBy r (Err (stop.Denied (denial.Remarks counts))) = (counts ≡ counts_of r) × (remarks_of r ≢ [])
 AnswersBy r _ = ⊥
 
-module _ (policy capture : List ℕ) (before : Outside) where
-  -- the policy of a file means this, these are the stamps of a capture's records, and this is the review of its flows
+module _ (policy : List ℕ) (captures : List (List ℕ)) (before : Outside) where
+  -- the policy of a file means this, these are the stamps of the records of the captures, and this is the review of their flows
   pub record HasReview (p : Policy) (stamps : List ℕ) (r : Reviewed) : Type 0 where
     pub has_policy : HasPolicy (before.files.content policy) p
     pub flows : List FlowValue
     pub stretches : List StretchValue
-    pub recorded : IsRecordingOf p.assets (before.files.content capture) flows stretches stamps
+    pub recorded : HasRecording p.assets before.files.content captures flows stretches stamps
     pub reviews : IsReviewOf p.assets flows stretches r
 
   -- there is a remark, and so much was counted
@@ -57,13 +57,13 @@ module _ (policy capture : List ℕ) (before : Outside) where
   abbrev pub NothingRemarked : Type 0
   NothingRemarked = (p : Policy) × (stamps : List ℕ) × (r : Reviewed) × HasReview p stamps r × (remarks_of r ≡ [])
 
-module _ (policy capture log : List ℕ) (before after : Outside) where
+module _ (policy : List ℕ) (captures : List (List ℕ)) (log : List ℕ) (before after : Outside) where
   -- the one file was created and holds the line of each remark of the review, and nothing else
   pub record HoldsReview : Type 0 where
     pub known : Policy
     pub stamps : List ℕ
     pub reviewed : Reviewed
-    pub has : HasReview policy capture before known stamps reviewed
+    pub has : HasReview policy captures before known stamps reviewed
     pub in_file : after.files.content log ≡ content_after_write (before.files.content log)
         (review_text known.assets stamps (remarks_of reviewed))
 
@@ -85,7 +85,7 @@ module _ (policy capture log : List ℕ) (before after : Outside) where
     pub known : Policy
     pub stamps : List ℕ
     pub reviewed : Reviewed
-    pub has : HasReview policy capture before known stamps reviewed
+    pub has : HasReview policy captures before known stamps reviewed
     pub part : IsPartly (review_text known.assets stamps (remarks_of reviewed)) (before.files.content log) (after.files.content log)
     pub others : KeepsOtherFiles (log ∷ []) before.files.content after.files.content
     pub sink : after.sink ≡ before.sink

@@ -1,6 +1,6 @@
 -- What a status tells, each by itself, and `IsExactly` and `IsComplete`: when it must be one.
 use Rattle.cf_lane.specs.Caller.{newcomer, none_before}
-use Rattle.std.specs.Prelude.{◌≡◌, ◌≢◌, ◌⊎◌, ℕ, List, [], drop, length, ◌≤◌, Option, None, Some, Ok, Err}
+use Rattle.std.specs.Prelude.{◌≡◌, ◌≢◌, ◌⊎◌, ℕ, List, [], length, ◌≤◌, Option, None, Some, Ok, Err}
 use Rattle.cf_audit.specs.declared.line.CutReason.{CutReason}
 use Rattle.cf_judge.specs.declared.Judged.{Judged as Judgement}
 use Rattle.cf_judge.specs.declared.Objection.{Objection}
@@ -10,23 +10,20 @@ use Rattle.cf_lane.specs.Passes.{Passes}
 use Rattle.cf_lane.specs.Rates.{KeepsRates}
 use Rattle.cf_outside.specs.Files.{Content, holds, untold, IsWhole, content_after_write}
 use Rattle.cf_outside.specs.PairValue.{PairValue}
-use Rattle.cf_records.specs.Capture.{AreRecords, FileEnd, Record}
-use Rattle.cf_records.specs.Form.{first_place, form_in, form_of}
-use Rattle.cf_view.specs.declared.LinkSet.{LinkSet}
-use Rattle.cf_view.specs.declared.LinkSet.TheVariants as set
-use Rattle.cf_records.specs.Moments.{AreTimed, first_moment}
-use Rattle.cf_records.specs.declared.Form.{Form}
 use Rattle.cf_policy.specs.declared.Asset.{Asset}
 use Rattle.cf_policy.specs.declared.Policy.{Policy}
 use Rattle.cf_policylang.specs.Documents.{policy_meaning}
 use Rattle.cf_policylang.specs.declared.PolicyRefusal.{PolicyRefusal}
 use Rattle.cf_run.specs.RunCapture.{RunNamesValue}
 use Rattle.cf_words.specs.Command.{Command, Check, Compare, Judge, Migrate, Packets, Review, Run, Relay, World, Sift, AsksPair, asset_name}
-use Rattle.cf_words.specs.Command.{capture_file, input_files, other_file, output_files, policy_file, Draft, Learn}
+use Rattle.cf_words.specs.Command.{capture_file, input_files, other_file, output_files, policy_file, recording_files, Learn}
+use Rattle.cf_words.specs.Command.{Draft as DraftBy}
+use Rattle.cf_draft.specs.declared.Draft.{Draft}
 use Rattle.cf_box.specs.Compare.{IncludesAll, IsIncluded, OfPolicies, TellsNotIncluded}
-use Rattle.cf_box.specs.Draft.{AreInForm}
+use Rattle.cf_box.specs.Draft.{Drafts, NeverShowTooMuch}
 use Rattle.cf_box.specs.Ends.{CutsCapture, CutsStream, Denies, EndsIdle, ExceedsCells, LacksAsset, LinkFails, RefusesCapture, RefusesPolicy}
 use Rattle.cf_box.specs.Ends.{ExceedsRules}
+use Rattle.cf_box.specs.InForm.{HasRecordsToItsEnd, HasTimedRecords, TellsAll, TellsFirst}
 use Rattle.cf_box.specs.Judge.{HasJudgement, IsShown, KeepsPolicy, NeverObjects}
 use Rattle.cf_box.specs.Watching.{ReviewCuts, ReviewRefuses, WatchCuts, WatchRefuses}
 use Rattle.cf_box.specs.Learn.{Learns, NeverTooMuch}
@@ -114,30 +111,11 @@ pub record SiftPassesAllowed (policy name : List ℕ) (client : ℕ) (names : Si
   pub rates : KeepsRates asset none_before judged
   pub output : after.files.content names.out ≡ content_after_write (before.files.content names.out) passed
 
--- a capture's records, up to the end of its bytes; and the same where each has its moment
-abbrev pub HasRecordsIn : LinkSet → List ℕ → Type 0
-HasRecordsIn kinds bytes =
-    (form : Form) × (form_in kinds bytes ≡ Ok form)
-    × ((records : List Record) × (place : ℕ)
-    × AreRecords form (first_place form) (drop (first_place form) bytes) records (record { place = place; found = FileEnd }))
-
--- the same of a capture of Ethernet or raw IP
-abbrev pub HasRecordsToItsEnd : List ℕ → Type 0
-HasRecordsToItsEnd bytes = HasRecordsIn set.Plain bytes
-
--- a capture each of whose records is tested with its moment
-abbrev pub HasTimedRecords : List ℕ → Type 0
-HasTimedRecords bytes =
-    (form : Form) × (form_of bytes ≡ Ok form)
-    × ((records : List Record) × (place : ℕ)
-    × AreTimed form first_moment (first_place form) (drop (first_place form) bytes) records (record { place = place; found = FileEnd }))
-
 -- the capture of a command that reads one ends so
 abbrev pub EndsWell : Command → List ℕ → Type 0
 EndsWell (Packets capture) bytes = HasRecordsToItsEnd bytes
 EndsWell (Judge policy capture) bytes = HasRecordsToItsEnd bytes × (length bytes ≤ CAPTURE_LIMIT)
 EndsWell (Learn policy capture out) bytes = HasRecordsToItsEnd bytes × (length bytes ≤ CAPTURE_LIMIT)
-EndsWell (Review policy capture log) bytes = HasRecordsIn set.Recorded bytes × (length bytes ≤ CAPTURE_LIMIT)
 EndsWell (Run policy names) bytes = HasTimedRecords bytes
 EndsWell _ bytes = Unit {0}
 
@@ -149,14 +127,14 @@ TellsMade _ before = Unit {0}
 -- what is asked of a command's files is so: a line a command that asks
 abbrev pub HoldsWhatItAsks : Command → Outside → Type 0
 HoldsWhatItAsks (Compare policy other) before = IncludesAll policy other before
-HoldsWhatItAsks (Draft policy out captures) before = AreInForm policy captures before
+HoldsWhatItAsks (DraftBy policy out captures) before = NeverShowTooMuch policy captures before
 HoldsWhatItAsks (Judge policy capture) before = NeverObjects policy capture before
 HoldsWhatItAsks (Learn policy capture out) before = NeverTooMuch policy capture before
-HoldsWhatItAsks (Review policy capture log) before = NeverRemarks policy capture before
+HoldsWhatItAsks (Review policy captures log) before = NeverRemarks policy captures before
 HoldsWhatItAsks _ before = Unit {0}
 
 -- what a command needs is told, and in form: its policy has a meaning and the asset of the name, its capture is one whose
--- records end with the file, its streams are not cut, the pair is not idle for too long, what it makes for itself is
+-- records end with the file, and so is each of a recording, its streams are not cut, the pair is not idle for too long, what it makes for itself is
 -- told, its second policy has a meaning, and what it asks is so
 pub record HasInput (c : Command) (before after : Outside) : Type 0 where
   pub policy :
@@ -165,6 +143,7 @@ pub record HasInput (c : Command) (before after : Outside) : Type 0 where
       × ((name : List ℕ) → asset_name c ≡ Some name → (a : Asset) × (asset_named name p ≡ Some a)))
   pub capture : (file : List ℕ) → capture_file c ≡ Some file → (bytes : List ℕ) × (before.files.content file ≡ holds bytes)
       × EndsWell c bytes
+  pub recording : TellsAll before.files.content (recording_files c)
   pub stream : (reason : CutReason) → CutsStream c before after.pair reason → ⊥
   pub idle : EndsIdle c before after.pair → ⊥
   pub made : TellsMade c before
@@ -213,12 +192,12 @@ pub record TellsNoAsset (c : Command) (before : Outside) : Type 0 where
 abbrev pub TellsCut : Command → (before : Outside) → (pair : PairValue) → Type 0
 TellsCut (Check file) before pair = ⊥
 TellsCut (Compare file other) before pair = ⊥
-TellsCut (Draft file out captures) before pair = ⊥
+TellsCut (DraftBy file out captures) before pair = ⊥
 TellsCut (Judge file capture) before pair = ⊥
 TellsCut (Learn file capture out) before pair = ⊥
 TellsCut (Migrate file out) before pair = ⊥
 TellsCut (Packets file) before pair = ⊥
-TellsCut (Review file capture log) before pair = ⊥
+TellsCut (Review file captures log) before pair = ⊥
 TellsCut (Run file names) before pair = ⊥
 TellsCut (Relay file asset port idles log) before pair = TellsCutRelay file asset before pair
 TellsCut (World seed sessions file names) before pair = ⊥
@@ -229,17 +208,22 @@ abbrev pub TellsIdle : Command → (before : Outside) → (pair : PairValue) →
 TellsIdle (Relay file asset port idles log) before pair = TellsIdleRelay file asset before pair idles
 TellsIdle _ before pair = ⊥
 
--- the policy and the capture, of one of these link types, are told and in form
-pub record TellsInForm (kinds : LinkSet) (policy capture : List ℕ) (before : Outside) : Type 0 where
+-- the policy and the capture are told and in form
+pub record TellsInForm (policy capture : List ℕ) (before : Outside) : Type 0 where
   pub known : TellsPolicy (before.files.content policy)
   pub bytes : List ℕ
   pub told : before.files.content capture ≡ holds bytes
-  pub ends : HasRecordsIn kinds bytes
+  pub ends : HasRecordsToItsEnd bytes
   pub short : length bytes ≤ CAPTURE_LIMIT
+
+-- the policy and the captures of a recording are told and in form
+pub record TellsRecording (policy : List ℕ) (captures : List (List ℕ)) (before : Outside) : Type 0 where
+  pub known : TellsPolicy (before.files.content policy)
+  pub all : TellsAll before.files.content captures
 
 -- so they are, and something is objected to
 pub record TellsObjection (policy capture : List ℕ) (before : Outside) : Type 0 where
-  pub files : TellsInForm set.Plain policy capture before
+  pub files : TellsInForm policy capture before
   pub not_clean : (d : Done) → KeepsPolicy policy capture before d → ⊥
 
 -- what a command asks of its files is told, and is not so: a line a command that asks
@@ -249,23 +233,29 @@ TellsDenial (Judge policy capture) before = TellsObjection policy capture before
 TellsDenial _ before = ⊥
 
 -- so they are, and a review has a remark
-pub record TellsRemark (policy capture : List ℕ) (before : Outside) : Type 0 where
-  pub files : TellsInForm set.Recorded policy capture before
-  pub not_clean : NothingRemarked policy capture before → ⊥
+pub record TellsRemark (policy : List ℕ) (captures : List (List ℕ)) (before : Outside) : Type 0 where
+  pub files : TellsRecording policy captures before
+  pub not_clean : NothingRemarked policy captures before → ⊥
 
 -- the command is a review that has a remark, and whose files are told and in form
 abbrev pub TellsRemarks : Command → Outside → Type 0
-TellsRemarks (Review policy capture log) before = TellsRemark policy capture before
+TellsRemarks (Review policy captures log) before = TellsRemark policy captures before
 TellsRemarks _ before = ⊥
 
 -- so they are, and no policy is learned of them: some asset would have too many rules
 pub record TellsTooMuch (policy capture : List ℕ) (before : Outside) : Type 0 where
-  pub files : TellsInForm set.Plain policy capture before
+  pub files : TellsInForm policy capture before
   pub none_learned : (learned : Policy) → Learns policy capture before learned → ⊥
 
--- the command is to learn of files that are told and in form and of which none is learned
+-- the policy and the captures of a recording are told and in form, and no policy is drafted by them
+pub record TellsTooMuchRecorded (policy : List ℕ) (captures : List (List ℕ)) (before : Outside) : Type 0 where
+  pub files : TellsRecording policy captures before
+  pub none_drafted : (draft : Draft) → Drafts policy captures before draft → ⊥
+
+-- the command is to learn or to draft by files that are told and in form, and no policy is
 abbrev pub TellsTooManyRules : Command → Outside → Type 0
 TellsTooManyRules (Learn policy capture out) before = TellsTooMuch policy capture before
+TellsTooManyRules (DraftBy policy out captures) before = TellsTooMuchRecorded policy captures before
 TellsTooManyRules _ before = ⊥
 
 -- a file is told, and is refused as a capture so
@@ -282,7 +272,7 @@ pub record TellsCutAt (Cuts : Content → ℕ → Type 0) (file : Content) : Typ
   pub place : ℕ
   pub cuts : Cuts (holds bytes) place
 
--- the capture of a command is told and refused, and a policy that it reads is told and means one: a line a command that reads a
+-- the capture of a command, or the first of its recording that is not in form, is told and refused, and a policy that it reads is told and means one: a line a command that reads a
 -- capture
 abbrev pub TellsRefusedCapture : Command → Outside → Type 0
 TellsRefusedCapture (Packets capture) before = TellsRefusal ListingRefuses (before.files.content capture)
@@ -290,8 +280,10 @@ TellsRefusedCapture (Judge policy capture) before = TellsPolicy (before.files.co
     × TellsRefusal WatchRefuses (before.files.content capture)
 TellsRefusedCapture (Run policy names) before = TellsPolicy (before.files.content policy)
     × TellsRefusal RunRefuses (before.files.content names.capture)
-TellsRefusedCapture (Review policy capture log) before = TellsPolicy (before.files.content policy)
-    × TellsRefusal ReviewRefuses (before.files.content capture)
+TellsRefusedCapture (DraftBy policy out captures) before = TellsPolicy (before.files.content policy)
+    × TellsFirst (TellsRefusal ReviewRefuses) before.files.content captures
+TellsRefusedCapture (Review policy captures log) before = TellsPolicy (before.files.content policy)
+    × TellsFirst (TellsRefusal ReviewRefuses) before.files.content captures
 TellsRefusedCapture (Learn policy capture out) before = TellsPolicy (before.files.content policy)
     × TellsRefusal WatchRefuses (before.files.content capture)
 TellsRefusedCapture _ before = ⊥
@@ -303,8 +295,10 @@ TellsCutCapture (Judge policy capture) before = TellsPolicy (before.files.conten
     × TellsCutAt WatchCuts (before.files.content capture)
 TellsCutCapture (Run policy names) before = TellsPolicy (before.files.content policy)
     × TellsCutAt RunCuts (before.files.content names.capture)
-TellsCutCapture (Review policy capture log) before = TellsPolicy (before.files.content policy)
-    × TellsCutAt ReviewCuts (before.files.content capture)
+TellsCutCapture (DraftBy policy out captures) before = TellsPolicy (before.files.content policy)
+    × TellsFirst (TellsCutAt ReviewCuts) before.files.content captures
+TellsCutCapture (Review policy captures log) before = TellsPolicy (before.files.content policy)
+    × TellsFirst (TellsCutAt ReviewCuts) before.files.content captures
 TellsCutCapture (Learn policy capture out) before = TellsPolicy (before.files.content policy)
     × TellsCutAt WatchCuts (before.files.content capture)
 TellsCutCapture _ before = ⊥
@@ -325,7 +319,7 @@ pub data SaysOfJudgement (c : Command) (p : Policy) (judged : Judgement) (before
 -- so it is of every judge whose files are told and in form
 abbrev pub SaysItsJudgement : Command → (before after : Outside) → (status : ℕ) → Type 0
 SaysItsJudgement c before after status =
-    (policy capture : List ℕ) (p : Policy) (judged : Judgement) → c ≡ Judge policy capture → TellsInForm set.Plain policy capture before →
+    (policy capture : List ℕ) (p : Policy) (judged : Judgement) → c ≡ Judge policy capture → TellsInForm policy capture before →
     HasJudgement policy capture before p judged → SaysOfJudgement c p judged before after status
 
 -- each of these gives its status, and nothing but a failed read or want of memory comes before it, and before a capture that is

@@ -1,9 +1,9 @@
 //! `draft POLICY OUT CAPTURE..`: a first policy is written that allows what captures show.
-ghost use Rattle.std.specs.Prelude.{◌≡◌, ◌∷◌, [], Err, IfErr, IfOk, OnOk, map, string_bytes};
+ghost use Rattle.std.specs.Prelude.{◌≡◌, ◌∷◌, [], Err, IfErr, IfOk, map, string_bytes};
 ghost use Rattle.cf_words.specs.Command.{Draft as DraftCommand};
-ghost use Rattle.cf_box.specs.Draft.{DraftsAs, HasRead, HasReadAll, StopsReading, WritesDraftText, counted_draft};
+ghost use Rattle.cf_box.specs.Draft.{DraftsAs, IsReadOf, WritesDraftText, counted_draft};
+ghost use Rattle.cf_box.specs.Recording.{StopsReading};
 ghost use Rattle.cf_box.specs.Ends.{Meets};
-ghost use Rattle.cf_draft.specs.Parts.{AreReadFrom};
 ghost use Rattle.cf_ending.specs.Outside.{FilesNeverFall, ReadsOnly, SinkValue, files_value, outside};
 ghost use Rattle.cf_outside.specs.Frames.{OnlyWrites};
 ghost use Rattle.cf_outside.specs.PairValue.{PairValue};
@@ -11,17 +11,16 @@ ghost use Rattle.cf_policy.specs.Within.{IsWithin};
 ghost use Rattle.cf_watch.specs.FlowValue.{flow_value};
 
 use crate::policy_file::{count_rules, load_policy, name_at};
-use crate::watching::fault_stop;
-use cf_draft::{Draft, Parts, add_recording, draft_policy};
+use crate::recording::read_recording;
+use cf_draft::{Draft, Parts, draft_policy, read_parts};
 use cf_ending::{Done, Stop};
 use cf_learn::LearnFault;
 use cf_outside::{Files, write_whole};
 use cf_policy::Policy;
 use cf_view::WriteFault;
-use cf_watch::watch_recording;
 use std::alloc::Global;
 
-/// Reads a policy and the captures one after the other, drafts a policy that allows all that they show, and writes it to a file that is
+/// Reads a policy and the captures as one recording, drafts a policy that allows all that they show, and writes it to a file that is
 /// created last.
 pub(crate) fn draft_captures<F: Files>(
     alloc: Global,
@@ -49,7 +48,7 @@ pub(crate) fn draft_captures<F: Files>(
     }
 }
 
-/// What is read of the flows of captures, of one after the other. Changes no file.
+/// What is read of the flows of captures, which are one recording, and of their other stretches. Changes no file.
 fn read_captures<F: Files>(
     alloc: Global,
     policy: &Policy,
@@ -57,64 +56,18 @@ fn read_captures<F: Files>(
     files: &mut F,
 ) -> Result<Parts, Stop>
     requires within { IsWithin policy.now }
-    ensures read { IfOk result (λ parts. AreReadFrom policy.now.assets (F.content files.old) (map string_bytes captures.now)
+    ensures read { IfOk result (λ parts. IsReadOf policy.now.assets (F.content files.old) (map string_bytes captures.now)
         (map flow_value parts.flows.items)) }
     ensures stop { IfErr result (λ s. StopsReading (map string_bytes captures.now) (files_value F.Files files.old)
         (files_value F.Files files.new) s) }
     ensures only { ReadsOnly (map string_bytes captures.now) (files_value F.Files files.old) (files_value F.Files files.new) }
 {
-    let mut parts = Parts::new(alloc);
-    match read_each(alloc, policy, captures, &mut parts, files) {
-        Ok(()) => Ok(parts),
-        Err(stop) => Err(stop),
-    }
-}
-
-/// Adds what is read of the flows of captures, of one after the other.
-fn read_each<F: Files>(
-    alloc: Global,
-    policy: &Policy,
-    captures: &[String],
-    parts: &mut Parts,
-    files: &mut F,
-) -> Result<(), Stop>
-    requires within { IsWithin policy.now }
-    ensures read { OnOk result (HasReadAll policy.now.assets (F.content files.old) (map string_bytes captures.now)
-        (map flow_value parts.old.flows.items) (map flow_value parts.new.flows.items)) }
-    ensures stop { IfErr result (λ s. StopsReading (map string_bytes captures.now) (files_value F.Files files.old)
-        (files_value F.Files files.new) s) }
-    ensures only { ReadsOnly (map string_bytes captures.now) (files_value F.Files files.old) (files_value F.Files files.new) }
-{
-    let Some((capture, rest)) = captures.split_first() else {
-        return Ok(());
-    };
-    match read_capture(alloc, policy, capture.as_str(), parts, files) {
-        Ok(()) => read_each(alloc, policy, rest, parts, files),
-        Err(stop) => Err(stop),
-    }
-}
-
-/// Adds what is read of the flows of a capture.
-#[tactic(auto, using(crate::proofs::Reading::rises_one))]
-fn read_capture<F: Files>(
-    alloc: Global,
-    policy: &Policy,
-    capture: &str,
-    parts: &mut Parts,
-    files: &mut F,
-) -> Result<(), Stop>
-    requires within { IsWithin policy.now }
-    ensures read { OnOk result (HasRead policy.now.assets (F.content files.old capture.now) (map flow_value parts.old.flows.items)
-        (map flow_value parts.new.flows.items)) }
-    ensures stop { IfErr result (λ s. StopsReading (capture.now ∷ []) (files_value F.Files files.old) (files_value F.Files files.new) s) }
-    ensures only { ReadsOnly (capture.now ∷ []) (files_value F.Files files.old) (files_value F.Files files.new) }
-{
-    let recording = match watch_recording(alloc, policy, capture, files) {
+    let recording = match read_recording(alloc, policy, captures, files) {
         Ok(recording) => recording,
-        Err(fault) => return Err(fault_stop(fault)),
+        Err(stop) => return Err(stop),
     };
-    match add_recording(alloc, policy, &recording, parts) {
-        Ok(()) => Ok(()),
+    match read_parts(alloc, policy, &recording) {
+        Ok(parts) => Ok(parts),
         Err(_) => Err(Stop::NoMemory),
     }
 }

@@ -12,6 +12,7 @@ mod migrate;
 mod numbers;
 mod packets;
 mod policy_file;
+mod recording;
 mod relay;
 mod review;
 mod run;

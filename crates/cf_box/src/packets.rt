@@ -7,7 +7,7 @@ ghost use Rattle.arrayvec.specs.ArrayVec.{array_vec_len};
 ghost use Rattle.cf_words.specs.Command.{Packets};
 ghost use Rattle.cf_box.specs.Ends.{Meets};
 ghost use Rattle.cf_ending.specs.Outside.{FilesNeverFall, files_value, outside, sink_value};
-ghost use Rattle.cf_ending.specs.PacketLine.{record_line};
+ghost use Rattle.cf_ending.specs.PacketLine.{dropped_in, record_line};
 ghost use Rattle.cf_box.specs.Packets.{ListsFile, open_stop};
 ghost use Rattle.cf_outside.specs.Faults.{HasCause, Rose};
 ghost use Rattle.cf_outside.specs.Frames.{OnlyReads};
@@ -76,18 +76,25 @@ fn list_records<F: Files, O: Sink>(
 {
     let mut lines = Lines::new();
     let mut number = 1;
+    let mut dropped = 0;
     'records: loop {
         match reader.next(name, files) {
             NextRecord::Whole(stamp) => {
                 match make_room(&mut lines, out) {
                     WriteAnswer::Failed => return Err(Stop::WriteFault),
                     WriteAnswer::Done => {
-                        gather_line(&mut lines, &reader.link(), number, stamp, reader.body());
+                        dropped += gather_line(
+                            &mut lines,
+                            &reader.link(),
+                            number,
+                            stamp,
+                            reader.body(),
+                        );
                         number += 1;
                     }
                 }
             }
-            NextRecord::End => return finish(Ok(Done::Listed), &lines, out),
+            NextRecord::End => return finish(Ok(Done::Listed { dropped }), &lines, out),
             NextRecord::Cut => {
                 return finish(Err(Stop::CaptureCut(reader.place())), &lines, out);
             }
@@ -135,15 +142,18 @@ fn make_room<O: Sink>(lines: &mut Lines, out: &mut O) -> WriteAnswer
     }
 }
 
-/// Gathers the line of the record of a number.
-fn gather_line(lines: &mut Lines, link: &LinkKind, number: u64, stamp: u64, body: &[u8])
+/// Gathers the line of the record of a number; 1 where it has no segment, and else 0.
+fn gather_line(lines: &mut Lines, link: &LinkKind, number: u64, stamp: u64, body: &[u8]) -> u64
     requires { array_vec_len lines.old + 192 ≤ 32768 }
-    ensures { lines.new.items ≡ lines.old.items ++ record_line number (record { stamp = stamp; link = link.now; body = body.now }) }
+    ensures line { lines.new.items ≡ lines.old.items ++ record_line number (record { stamp = stamp; link = link.now; body = body.now }) }
+    ensures dropped { result ≡ dropped_in (record { stamp = stamp; link = link.now; body = body.now } ∷ []) }
+    ensures one { result ≤ 1 }
 {
     let mut line = [0u8; LONGEST_LINE];
-    let start = spell_line(link, number, stamp, body, &mut line);
-    let gathered = lines.try_extend_from_slice(&line[start..]);
+    let spelled = spell_line(link, number, stamp, body, &mut line);
+    let gathered = lines.try_extend_from_slice(&line[spelled.start..]);
     gathered.unwrap();
+    if spelled.is_dropped { 1 } else { 0 }
 }
 
 /// Puts the lines that were gathered last, and answers how the work ended; or that the put failed.

@@ -1,5 +1,5 @@
-//! `review POLICY CAPTURE LOG`: all that a policy objects to in what clients sent in a capture is written, a line each.
-ghost use Rattle.std.specs.Prelude.{◌∷◌, []};
+//! `review POLICY CAPTURE.. LOG`: all that a policy objects to in what clients sent in captures is written, a line each.
+ghost use Rattle.std.specs.Prelude.{◌∷◌, map, string_bytes};
 ghost use Rattle.cf_words.specs.Command.{Review};
 ghost use Rattle.cf_box.specs.Ends.{Meets};
 ghost use Rattle.cf_ending.specs.Outside.{FilesNeverFall, SinkValue, files_value, outside};
@@ -7,34 +7,33 @@ ghost use Rattle.cf_box.specs.Review.{AnswersBy};
 ghost use Rattle.cf_outside.specs.PairValue.{PairValue};
 
 use crate::policy_file::load_policy;
-use crate::watching::fault_stop;
+use crate::recording::read_recording;
 use cf_ending::{Denial, Done, Stop};
 use cf_outside::Files;
 use cf_review::{Reviewed, count, review, write_lines};
-use cf_watch::watch_recording;
 use std::alloc::Global;
 
-/// Reads the policy and the capture, reviews its flows and their other stretches, and writes the lines of all remarks into the log, which is created last.
-#[tactic(auto, using(crate::proofs::Reading::rises_one))]
-pub(crate) fn review_capture<F: Files>(
+/// Reads the policy and the captures as one recording, reviews its flows and their other stretches, and writes the lines of all remarks into
+/// the log, which is created last.
+pub(crate) fn review_captures<F: Files>(
     alloc: Global,
     policy_file: &str,
-    capture: &str,
+    captures: &[String],
     log: &str,
     files: &mut F,
 ) -> Result<Done, Stop>
-    ensures meets { (sink : SinkValue) (pair : PairValue) → Meets (Review policy_file.now capture.now log.now)
+    ensures meets { (sink : SinkValue) (pair : PairValue) → Meets (Review policy_file.now (map string_bytes captures.now) log.now)
         (outside (files_value F.Files files.old) sink pair) (outside (files_value F.Files files.new) sink pair) result }
-    ensures later { FilesNeverFall (policy_file.now ∷ capture.now ∷ []) (files_value F.Files files.old)
+    ensures later { FilesNeverFall (policy_file.now ∷ map string_bytes captures.now) (files_value F.Files files.old)
         (files_value F.Files files.new) }
 {
     let policy = match load_policy(alloc, policy_file, files) {
         Ok(policy) => policy,
         Err(stop) => return Err(stop),
     };
-    let recording = match watch_recording(alloc, &policy, capture, files) {
+    let recording = match read_recording(alloc, &policy, captures, files) {
         Ok(recording) => recording,
-        Err(fault) => return Err(fault_stop(fault)),
+        Err(stop) => return Err(stop),
     };
     let flows = recording.flows.as_slice();
     let reviewed = match review(alloc, &policy, flows, recording.stretches.as_slice()) {

@@ -10,7 +10,7 @@ ghost use Rattle.cf_links.specs.Links.{LinksPlace};
 ghost use Rattle.cf_outside.specs.Files.{KeepsOthers};
 ghost use Rattle.cf_policy.specs.AtEndpoint.{has_asset_at};
 ghost use Rattle.cf_policy.specs.Within.{IsWithin};
-ghost use Rattle.cf_serve.specs.Laws.{EachIsAlone, FloodsAreBounded, IsolatesSessions, StrangersAreRefused};
+ghost use Rattle.cf_serve.specs.Laws.{EachIsAlone, FloodsAreBounded, IsolatesSessions, RatesLastOverSessions, StrangersAreRefused};
 ghost use Rattle.cf_serve.specs.declared.table.Place.{Place as PlaceOf};
 
 use crate::policy_file::{find_asset, load_policy};
@@ -20,7 +20,8 @@ use cf_links::Service as Links;
 use cf_outside::{Files, Sink};
 use cf_policy::{Asset, Policy};
 use cf_serve::{
-    Place, ServeFault, floods_are_bounded, sessions_are_isolated, strangers_are_refused,
+    Place, ServeFault, floods_are_bounded, rates_last_over_sessions, sessions_are_isolated,
+    strangers_are_refused,
 };
 use cf_view::{Endpoint, same_endpoint};
 use cf_words::status::{DONE, NO_MEMORY, USAGE};
@@ -228,10 +229,14 @@ pub fn serve_main<F: Files, O: Sink, L: Links>(
 
     // A session has 100 commands refused a second, and once what a turn can refuse.
     ensures floods { FloodsAreBounded }
+
+    // Over all sessions of a client, one after the other, no rule lets more through than its rate.
+    ensures rates { RatesLastOverSessions }
 {
     sessions_are_isolated();
     strangers_are_refused();
     floods_are_bounded();
+    rates_last_over_sessions();
     match read_service(alloc, words) {
         Err(_) => NO_MEMORY,
         Ok(None) => put_text("usage\n", USAGE, USAGE, out),

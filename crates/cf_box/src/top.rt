@@ -2,7 +2,7 @@
 ghost use Rattle.std.specs.Prelude.{◌≡◌, ◌≤◌, ◌⊎◌, ◌↔◌, IsNone, List, Some, map, string_bytes, ℕ};
 ghost use Rattle.cf_words.specs.Command.{AsksPair, input_files, Compare, Draft, Judge, Migrate, Packets, Review, Run, Sift, World, Learn};
 ghost use Rattle.cf_box.specs.Draft.{HoldsDraft};
-ghost use Rattle.cf_box.specs.Ends.{Ends, Meets, TellsCounts};
+ghost use Rattle.cf_box.specs.Ends.{Ends, Meets, TellsEnding};
 ghost use Rattle.cf_box.specs.Laws.{HasLaws};
 ghost use Rattle.cf_box.specs.Learn.{HoldsLearned};
 ghost use Rattle.cf_box.specs.Limits.{HasLimits};
@@ -34,14 +34,14 @@ use crate::migrate::migrate;
 use crate::numbers::numbers_are;
 use crate::packets::packets;
 use crate::relay::relay;
-use crate::review::review_capture;
+use crate::review::review_captures;
 use crate::run::run;
 use crate::sift::sift;
 use crate::world::world;
-use cf_ending::{Done, Stop, counted, put_text, report};
+use cf_ending::{Done, Stop, put_text, report};
 use cf_lane::{has_one_judgement, lane_passes_allowed, rates_hold};
 use cf_outside::{Files, Pair, Sink};
-use cf_run::{Summary, runs_are_logged, runs_have_headline};
+use cf_run::{runs_are_logged, runs_have_headline};
 use cf_sift::has_one_cut;
 use cf_words::status::USAGE;
 use cf_words::{Command, read_words};
@@ -87,9 +87,9 @@ fn perform<F: Files, O: Sink, P: Pair>(
         } => sift(alloc, policy, asset, client, &names, files),
         Command::Review {
             policy,
-            capture,
+            captures,
             log,
-        } => review_capture(alloc, policy, capture, log, files),
+        } => review_captures(alloc, policy, captures, log, files),
         Command::Run { policy, names } => run(alloc, policy, &names, files),
         Command::Relay {
             policy,
@@ -119,15 +119,15 @@ pub fn box_main<F: Files, O: Sink, P: Pair>(
     files: &mut F,
     out: &mut O,
     pair: &mut P,
-    told: &mut Option<Summary>,
+    told: &mut Option<Result<Done, Stop>>,
 ) -> u8
     // The answer of the command explains the files, the status, and all that was printed.
     ensures ends { Ends (command_of (map string_bytes words.now)) (outside_value F.Files O.Sink P.Pair files.old out.old pair.old)
         (outside_value F.Files O.Sink P.Pair files.new out.new pair.new) result }
     ensures statuses { IsStatus result }
 
-    // What was counted over a run is told beside the text that is printed.
-    ensures counted { TellsCounts (command_of (map string_bytes words.now))
+    // How the command ended is told beside the text that is printed, which is made of it.
+    ensures tells { TellsEnding (command_of (map string_bytes words.now))
         (outside_value F.Files O.Sink P.Pair files.old out.old pair.old)
         (outside_value F.Files O.Sink P.Pair files.new out.new pair.new) result told.new }
 
@@ -187,23 +187,24 @@ pub fn box_main<F: Files, O: Sink, P: Pair>(
         HoldsLearned policy capture file (outside_value F.Files O.Sink P.Pair files.old out.old pair.old)
         (outside_value F.Files O.Sink P.Pair files.new out.new pair.new) }
 
-    // A policy that was drafted allows each act that any of the captures shows, to the same clients, and where no asset was widened it
+    // A policy that was drafted allows each act that the captures show as one recording, to the same clients, and where no asset was widened it
     // allows, of the acts that commands can have, no other.
     ensures drafts { (policy file : List ℕ) (captures : List (List ℕ)) → command_of (map string_bytes words.now) ≡ Some
         (Draft policy file captures) → result ≡ 0 →
         HoldsDraft policy file captures (outside_value F.Files O.Sink P.Pair files.old out.old pair.old)
         (outside_value F.Files O.Sink P.Pair files.new out.new pair.new) }
 
-    // The log of a review holds exactly the lines of all that the policy objects to in the capture, in the order of its records: none
-    // where the status is 0.
-    ensures reviews { (policy capture file : List ℕ) → command_of (map string_bytes words.now) ≡ Some (Review policy capture file) →
-        (result ≡ 0) ⊎ (result ≡ 15) → ReviewHolds policy capture file (outside_value F.Files O.Sink P.Pair files.old out.old pair.old)
+    // The log of a review holds exactly the lines of all that the policy objects to in the captures, which are one recording, in the order
+    // of their records: none where the status is 0.
+    ensures reviews { (policy file : List ℕ) (captures : List (List ℕ)) → command_of (map string_bytes words.now) ≡ Some
+        (Review policy captures file) →
+        (result ≡ 0) ⊎ (result ≡ 15) → ReviewHolds policy captures file (outside_value F.Files O.Sink P.Pair files.old out.old pair.old)
         (outside_value F.Files O.Sink P.Pair files.new out.new pair.new) result }
 
-    // Each record of a capture has its line.
+    // Each record of a capture has its line, and how many have no segment is told.
     ensures lists { (capture : List ℕ) → command_of (map string_bytes words.now) ≡ Some (Packets capture) → result ≡ 0 →
-        Lists capture (outside_value F.Files O.Sink P.Pair files.old out.old pair.old)
-        (outside_value F.Files O.Sink P.Pair files.new out.new pair.new) Done.Listed }
+        (dropped : ℕ) × Lists capture (outside_value F.Files O.Sink P.Pair files.old out.old pair.old)
+        (outside_value F.Files O.Sink P.Pair files.new out.new pair.new) (Done.Listed dropped) }
 
     // Of the commands of a stream exactly those went on that the policy's bytes allow, and no rule let more through than its rate.
     ensures passes { (policy asset : List ℕ) (client : ℕ) (names : SiftNamesValue) → command_of (map string_bytes words.now) ≡ Some
@@ -258,8 +259,9 @@ pub fn box_main<F: Files, O: Sink, P: Pair>(
         }
         Some(command) => {
             let ended = perform(alloc, command, files, out, pair);
-            *told = counted(&ended);
-            report(&ended, out)
+            let status = report(&ended, out);
+            *told = Some(ended);
+            status
         }
     }
 }

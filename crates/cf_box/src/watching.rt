@@ -14,6 +14,7 @@ pub(crate) fn fault_stop(fault: WatchFault) -> Stop
         WatchFault::Read => Stop::ReadFault,
         WatchFault::Cut(place) => Stop::CaptureCut(place),
         WatchFault::Refused(WatchRefusal::Long) => Stop::CaptureRefused(CaptureRefusal::Long),
+        WatchFault::Refused(WatchRefusal::Large) => Stop::CaptureRefused(CaptureRefusal::Large),
         WatchFault::Refused(WatchRefusal::TooLong) => {
             Stop::CaptureRefused(CaptureRefusal::TooLong)
         }

@@ -1,43 +1,26 @@
 -- Exactly the allowed commands are admitted.
-use Rattle.cf_lane.specs.Caller.{Caller}
-use Rattle.cf_lane.specs.Rates.{Says, says_at}
-use Rattle.cf_apci.specs.Apdu.{Ack, ApduValue, Control, Info}
+use Rattle.std.proofs.Common.{Bool, Err, List, None, Ok, Option, Some, [], ap, append_assoc, arith, false, inl, inr, length, refl, subst, sym, true, ℕ, ◌++◌, ◌∙◌, ◌∷◌, ◌≡◌, ◌≤◌, if◌then◌else◌, nat_eq, nat_lt, slice_index}
+use Rattle.cf_decode.proofs.Common.{Ack, Admission, Adu, Apdu, ApduValue, Asset, Caller, Control, Fate, Frame, FrameValue, HasItemFate, Info, Item, Judged, Refusal, Says, SegmentAnswer, Side, Took, Why, answer_now, append-nil, completed, cond_both, fate_of_acts, fate_of_fragment, fate_of_frame, fate_of_segment, is_data, last_fragment, says_at, stray_of, user_of}
 use Rattle.cf_asdu.specs.Asdu.{first_refusal, refusal_reason, station_of}
 use Rattle.cf_asdu.specs.declared.asdu.AsduRefusal.{AsduRefusal}
 use Rattle.cf_audit.specs.declared.line.CutReason.{CutReason}
-use Rattle.cf_audit.specs.declared.line.Why.{Why}
 use Rattle.cf_decode.specs.Commands.{AdmitsWhatIsAllowed, Command, Allows, IsDecided, OfDnp3, OfIec104, OfModbus, commands_by, fragment_commands, frame_commands, info_commands, whole_commands}
-use Rattle.cf_dnplink.specs.LinkFrame.{FrameValue}
-use Rattle.cf_dnplink.specs.UserOctets.{user_of}
 use Rattle.cf_dnpobj.specs.Fragment.{FragmentValue, read_octets}
 use Rattle.cf_dnpobj.specs.declared.fragment.FragmentRefusal.{FragmentRefusal}
-use Rattle.cf_dnptrans.specs.Passing.{completed}
-use Rattle.cf_dnptrans.specs.Transport.{last_fragment}
-use Rattle.cf_dnptrans.specs.declared.assembly.SegmentAnswer.{SegmentAnswer}
 use Rattle.cf_lane.proofs.Commands.{admits_what_is_allowed, from_allowed, to_allowed}
-use Rattle.cf_lane.specs.Acts.{act_of_code, by_refusal, fate_of_acts}
-use Rattle.cf_lane.specs.Dnp3.{answer_now, fate_of_frame, fate_of_fragment, fate_of_read, fate_of_segment, is_data, is_none, segments_of, stray_of, whole_now}
-use Rattle.cf_lane.specs.Fate.{HasFate, HasItemFate, HaveFates, IsOfCommand}
-use Rattle.cf_lane.specs.declared.fate.Admission.{Admission}
+use Rattle.cf_lane.specs.Acts.{act_of_code, by_refusal}
+use Rattle.cf_lane.specs.Dnp3.{fate_of_read, is_none, segments_of, whole_now}
+use Rattle.cf_lane.specs.Fate.{HasFate, HaveFates, IsOfCommand}
 use Rattle.cf_lane.specs.Iec104.{asdu_in, asdu_refused, fate_by_form, fate_of_apdu, fate_of_asdu, or_cut}
-use Rattle.cf_lane.specs.Item.{Item, Took}
-use Rattle.cf_lane.specs.Judged.{Judged, is_admitted, place_of}
+use Rattle.cf_lane.specs.Judged.{is_admitted, place_of}
 use Rattle.cf_lane.specs.Modbus.{HasCommandFate, of_its_acts, of_no_form, of_other_station}
 use Rattle.cf_lane.specs.Numbers.{ack_cut, info_cut}
 use Rattle.cf_lane.specs.Passes.{confirms}
-use Rattle.cf_lane.specs.Unit.{Adu, Apdu, Frame}
-use Rattle.cf_lane.specs.declared.fate.Fate.{Fate}
-use Rattle.cf_lane.specs.declared.fate.Refusal.{Refusal}
 use Rattle.cf_modbus.specs.Acts.{acts as request_acts}
 use Rattle.cf_modbus.specs.Adu.{AduValue}
-use Rattle.cf_policy.specs.declared.Asset.{Asset}
 use Rattle.cf_policy.specs.declared.Decider.{Decider}
 use Rattle.cf_view.specs.declared.Reason.{Reason}
-use Rattle.cf_view.specs.declared.Side.{Side}
-use Rattle.std.proofs.Common.{Bool, Err, List, None, Ok, Option, Some, [], ap, append_assoc, arith, false, inl, inr, length, refl, subst, sym, true, ℕ, ◌++◌, ◌∙◌, ◌∷◌, ◌≡◌, ◌≤◌}
-use Rattle.std.proofs.lemmas.Bool.{cond_both, eq-eqb, eqb-true, ltb-false, ltb-true}
-use Rattle.std.proofs.lemmas.List.{append-nil}
-use Rattle.std.specs.Prelude.{if◌then◌else◌, nat_eq, nat_lt, slice_index}
+use Rattle.std.proofs.lemmas.Bool.{eq-eqb, eqb-true, ltb-false, ltb-true}
 use Rattle.std.specs.declared.result.Result.{Result}
 use Rattle.cf_asdu.specs.Acts as asdus
 use Rattle.cf_asdu.specs.declared.asdu.AsduRefusal.TheVariants as refusal
@@ -162,7 +145,7 @@ module _ (asset : Asset) (says : Says) where
     by_controllers_frame None false is = rw is (refl, refl)
     by_controllers_frame None true is = rw is (by_controllers_segment (answer_now asset side.Controller earlier x) (run side.Controller))
 
-  by_item : (earlier : List Judged) (i : Item) (f : Fate) → HasItemFate asset says earlier i f → Decides (commands_by asset earlier i) f
+  pub by_item : (earlier : List Judged) (i : Item) (f : Fate) → HasItemFate asset says earlier i f → Decides (commands_by asset earlier i) f
   by_item earlier (Took side.Client (Adu a)) f has = by_adu a f has
   by_item earlier (Took side.Client (Frame x)) f has = subst (Decides (commands_by asset earlier (Took side.Client (Frame x)))) (sym has) (by_frame earlier x (is_data x) (stray_of asset side.Client x) refl)
   by_item earlier (Took side.Client (Apdu a)) f has = subst (Decides (commands_by asset earlier (Took side.Client (Apdu a)))) (sym has) (by_apdu earlier a)
@@ -172,7 +155,7 @@ module _ (asset : Asset) (says : Says) where
 
 module _ (asset : Asset) (client : Caller) where
   -- the fate of the item after earlier ones
-  fate_behind : (before earlier later : List Judged) (j : Judged) → HaveFates asset client before (earlier ++ j ∷ later) → HasFate asset client (before ++ earlier) (place_of j) j.fate
+  pub fate_behind : (before earlier later : List Judged) (j : Judged) → HaveFates asset client before (earlier ++ j ∷ later) → HasFate asset client (before ++ earlier) (place_of j) j.fate
   fate_behind before [] later j fates = subst (λ b. HasFate asset client b (place_of j) j.fate) (sym (append-nil before)) fates.0
   fate_behind before (k ∷ earlier) later j fates =
       subst (λ b. HasFate asset client b (place_of j) j.fate) (append_assoc before (k ∷ []) earlier) (fate_behind (before ++ k ∷ []) earlier later j fates.1)

@@ -1,14 +1,13 @@
 -- What the front of spelled units decodes to, for any grammar.
+use Rattle.std.proofs.Common.{List, [], ap, append_assoc, arith, inl, inr, length, refl, subst, sym, ℕ, ◌++◌, ◌<◌, ◌∙◌, ◌∷◌, ◌≡◌}
+use Rattle.cf_decode.proofs.Common.{AllByRecursion, flat_map, flat_map-cons}
 use Rattle.cf_decode.specs.Laws.{IsOfNext}
 use Rattle.cf_dnptrans.proofs.Seams.{split_front}
 use Rattle.cf_view.specs.Framing.{IsPartial}
 use Rattle.cf_view.specs.Units.{BeginsWithUnits, IsUnitsThenRest}
-use Rattle.std.proofs.Common.{List, [], ap, append_assoc, arith, inl, inr, length, refl, subst, sym, ℕ, ◌++◌, ◌<◌, ◌∙◌, ◌∷◌, ◌≡◌}
 use Rattle.std.proofs.Math.Seq.{drop-append_seam, take-append_seam}
 use Rattle.std.proofs.lemmas.Bool.{cases_lt}
-use Rattle.std.proofs.lemmas.List.Concat.{flat_map-cons}
 use Rattle.std.proofs.lemmas.List.{length-append}
-use Rattle.std.specs.List.{AllByRecursion, flat_map}
 
 -- the units of bytes are the first of these, and the rest is of the next one
 pub record Decoded {U : Type 0} (Spells : U → List ℕ → Type 0) (spell : U → List ℕ) (sent : List U) (bytes : List ℕ) : Type 0 where

@@ -1,5 +1,10 @@
 mod Commands
+mod Common
+mod Deciding
 mod Decoding
 mod Making
+mod Replies
 mod Right
 mod Spelled
+mod Telling
+mod Worked

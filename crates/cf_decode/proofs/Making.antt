@@ -1,34 +1,29 @@
 -- What a receiver makes of the first units of what goes to the controller.
-use Rattle.cf_lane.specs.Caller.{Caller}
+use Rattle.std.proofs.Common.{List, None, [], ap, append_assoc, arith, drop, false, inl, inr, length, length-append, map, refl, reverse, subst, suc, sym, take, zero, ℕ, ◌*◌, ◌++◌, ◌+◌, ◌<◌, ◌∙◌, ◌∷◌, ◌≡◌, ◌≤◌, ◌⊎◌}
+use Rattle.cf_decode.proofs.Common.{AllByRecursion, Asset, Caller, Fragment, Judged, Passed, UnitValue, Whole, append-nil, count_of, data_frame, flat_map-cons, unit_spelling, units_from, units_of, user_again}
 use Rattle.cf_decode.proofs.Decoding.{Decoded, decodes}
 use Rattle.cf_decode.proofs.Right.{AreRight, passed_right, units_right}
 use Rattle.cf_decode.proofs.Spelled.{spellings, stream_is_spelled}
 use Rattle.cf_decode.specs.Laws.{DecodesTo, FragmentsDecode, IsBegun, IsOfNext, MakesFirstOf, StreamDecodes}
 use Rattle.cf_decode.specs.Passed.{passed}
 use Rattle.cf_decode.specs.Received.{completed_by, has_segment, received, segments_in}
-use Rattle.cf_decode.specs.Units.{Fragment, Passed, Whole, data_frame, start_behind, units_from, units_of}
-use Rattle.cf_dnplink.proofs.Reading.{user_again}
+use Rattle.cf_decode.specs.Units.{start_behind}
 use Rattle.cf_dnptrans.specs.Passing.{AreOfNext, IsSent, PutTogether, all_segments, fragments_of, held}
-use Rattle.cf_dnptrans.specs.Segments.{count_of, first_segments, segments_of}
+use Rattle.cf_dnptrans.specs.Segments.{first_segments, segments_of}
 use Rattle.cf_dnptrans.specs.Transport.{unfinished}
 use Rattle.cf_dnptrans.proofs.Seams.{split_front}
 use Rattle.cf_lane.proofs.Units.{nothing_unit}
 use Rattle.cf_lane.specs.Follows.{AreJudged}
 use Rattle.cf_lane.specs.History.{Element}
-use Rattle.cf_lane.specs.Judged.{Judged}
 use Rattle.cf_lane.specs.Laws.{UnitsArePrefixFree}
 use Rattle.cf_lane.specs.Output.{outputs}
 use Rattle.cf_view.proofs.Units.{one_units_then_rest}
-use Rattle.cf_view.specs.declared.Side.TheVariants as side
-use Rattle.cf_lane.specs.Unit.{SpellsUnit, UnitValue, unit_spelling}
-use Rattle.cf_policy.specs.declared.Asset.{Asset}
-use Rattle.std.proofs.Common.{List, None, [], ap, append_assoc, arith, drop, false, inl, inr, length, length-append, map, refl, reverse, subst, suc, sym, take, zero, ℕ, ◌*◌, ◌++◌, ◌+◌, ◌<◌, ◌∙◌, ◌∷◌, ◌≡◌, ◌≤◌, ◌⊎◌}
+use Rattle.cf_lane.specs.Unit.{SpellsUnit}
 use Rattle.std.proofs.Math.Seq.{take-append_seam}
 use Rattle.std.proofs.lemmas.Bool.{cases_lt}
 use Rattle.std.proofs.lemmas.Grind.{flat_map-append}
-use Rattle.std.proofs.lemmas.List.Concat.{flat_map-cons}
-use Rattle.std.proofs.lemmas.List.{append-nil, length-drop, length-map, length-reverse, map-append, reverse-append, reverse-reverse, take-append-drop, take-map}
-use Rattle.std.specs.List.{AllByRecursion}
+use Rattle.std.proofs.lemmas.List.{length-drop, length-map, length-reverse, map-append, reverse-append, reverse-reverse, take-append-drop, take-map}
+use Rattle.cf_view.specs.declared.Side.TheVariants as side
 
 -- the law of the transport rule
 abbrev pub PutsTogether : Type 0

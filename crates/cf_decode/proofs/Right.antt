@@ -1,46 +1,34 @@
 -- What goes to the controller is right: units are spelled, and fragments have 2 to 2,048 octets.
-use Rattle.cf_lane.specs.Caller.{Caller}
-use Rattle.cf_lane.specs.Rates.{Says, says_at}
-use Rattle.cf_apci.specs.Apdu.{Ack, ApduValue, Control, Info}
-use Rattle.cf_audit.specs.declared.line.Why.{Why}
+use Rattle.std.proofs.Common.{Bool, List, None, Option, Some, [], ap, arith, drop, false, length, map, refl, reverse, subst, suc, sym, true, zero, ℕ, ◌%◌, ◌*◌, ◌++◌, ◌+◌, ◌<◌, ◌∙◌, ◌∷◌, ◌≡◌, ◌≤◌, if◌then◌else◌, nat_eq, nat_le, nat_lt, not, ◌&&◌, ◌^◌}
+use Rattle.cf_decode.proofs.Common.{Ack, Adu, AllByRecursion, Apdu, ApduValue, Asset, Caller, Control, Fate, Fragment, Frame, FrameValue, HasItemFate, Info, Item, Judged, Passed, Says, SegmentAnswer, Took, UnitValue, Whole, Why, answer_now, completed, cond_both, count_of, data_frame, events_of, fate_of_fragment, fate_of_frame, fate_of_segment, is_data, last_fragment, says_at, stray_of, unit_spelling, units_from, units_of, user_again, user_of}
 use Rattle.cf_decode.specs.Dnp3.{passed_by_frame}
 use Rattle.cf_decode.specs.Iec104.{acks, passed_by_apdu}
 use Rattle.cf_decode.specs.Passed.{passed_by}
 use Rattle.cf_decode.specs.Received.{has_segment}
-use Rattle.cf_decode.specs.Units.{Fragment, Passed, Whole, data_frame, start_after, units_from, units_of}
+use Rattle.cf_decode.specs.Units.{start_after}
 use Rattle.cf_dnplink.proofs.Frames.{user_is}
-use Rattle.cf_dnplink.proofs.Reading.{user_again}
-use Rattle.cf_dnplink.specs.LinkFrame.{FrameValue, SpellsFrame}
-use Rattle.cf_dnplink.specs.UserOctets.{user_of}
-use Rattle.cf_dnptrans.specs.Passing.{IsSent, completed}
-use Rattle.cf_dnptrans.specs.Segments.{count_of, first_segments, octet_of, segment_of}
-use Rattle.cf_dnptrans.specs.Transport.{fitting, is_first, is_linked, last_fragment, octets_of, since_first}
-use Rattle.cf_dnptrans.specs.declared.assembly.SegmentAnswer.{SegmentAnswer}
+use Rattle.cf_dnplink.specs.LinkFrame.{SpellsFrame}
+use Rattle.cf_dnptrans.specs.Passing.{IsSent}
+use Rattle.cf_dnptrans.specs.Segments.{first_segments, octet_of, segment_of}
+use Rattle.cf_dnptrans.specs.Transport.{fitting, is_first, is_linked, octets_of, since_first}
 use Rattle.cf_lane.proofs.Earlier.{segments_of-more}
 use Rattle.cf_lane.proofs.Growth.{AreItemsOf, IsItemOf, all_of, of_front}
-use Rattle.cf_lane.specs.Dnp3.{answer_now, fate_of_frame, fate_of_fragment, fate_of_segment, has_addresses, has_right_direction, is_data, is_none, is_status, segment_in, segments_of as lane_segments, stray_of}
-use Rattle.cf_lane.specs.Fate.{HasItemFate, HaveFates}
+use Rattle.cf_lane.specs.Dnp3.{has_addresses, has_right_direction, is_none, is_status, segment_in, segments_of as lane_segments}
+use Rattle.cf_lane.specs.Fate.{HaveFates}
 use Rattle.cf_lane.specs.Follows.{AreJudged}
 use Rattle.cf_lane.specs.History.{Element, is_side}
 use Rattle.cf_lane.specs.Iec104.{info_number, renumbered}
-use Rattle.cf_lane.specs.Item.{Item, Took}
-use Rattle.cf_lane.specs.Judged.{Judged, goes_on, in_turn, place_of}
-use Rattle.cf_lane.specs.Numbers.{events_of}
-use Rattle.cf_lane.specs.Unit.{Adu, Apdu, Frame, SpellsUnit, UnitValue, unit_spelling}
-use Rattle.cf_lane.specs.declared.fate.Fate.{Fate}
+use Rattle.cf_lane.specs.Judged.{goes_on, in_turn, place_of}
+use Rattle.cf_lane.specs.Unit.{SpellsUnit}
 use Rattle.cf_modbus.specs.Adu.{SpellsAdu}
-use Rattle.cf_policy.specs.declared.Asset.{Asset}
 use Rattle.cf_policy.specs.declared.Protocol.{Protocol}
 use Rattle.cf_renumber.specs.Counts.{client_translated, last_told}
 use Rattle.cf_view.proofs.OctetLists.{IsOctets-append, IsOctets-drop, IsOctets-take, IsOctets-zeros}
 use Rattle.cf_view.specs.Octets.{IsOctets}
-use Rattle.std.proofs.Common.{Bool, List, None, Option, Some, [], ap, arith, drop, false, length, map, refl, reverse, subst, suc, sym, true, zero, ℕ, ◌%◌, ◌*◌, ◌++◌, ◌+◌, ◌<◌, ◌∙◌, ◌∷◌, ◌≡◌, ◌≤◌}
 use Rattle.std.proofs.lemmas.Bool.Decides.{nat_tests}
-use Rattle.std.proofs.lemmas.Bool.{and_parts, cond_both, eqb-true, leb-true, ltb-false}
+use Rattle.std.proofs.lemmas.Bool.{and_parts, eqb-true, leb-true, ltb-false}
 use Rattle.std.proofs.lemmas.Option.{same_Some}
 use Rattle.std.proofs.lemmas.List.{length-take, map-append, reverse-append}
-use Rattle.std.specs.List.{AllByRecursion}
-use Rattle.std.specs.Prelude.{if◌then◌else◌, nat_eq, nat_le, nat_lt, not, ◌&&◌, ◌^◌}
 use Rattle.cf_audit.specs.declared.line.Why.TheVariants as why
 use Rattle.cf_apci.specs.Apdu as apci
 use Rattle.cf_dnplink.specs.LinkFrame as link

@@ -1,34 +1,20 @@
 -- The stream to the controller is the spellings of the units that go there.
-use Rattle.cf_apci.specs.Apdu.{Ack, ApduValue}
+use Rattle.std.proofs.Common.{Bool, List, None, Option, Some, [], ap, append_assoc, arith, false, length, map, refl, reverse, subst, sym, true, ℕ, ◌++◌, ◌+◌, ◌∙◌, ◌∷◌, ◌≡◌, if◌then◌else◌}
+use Rattle.cf_decode.proofs.Common.{Ack, Adu, Apdu, ApduValue, Asset, Fate, Fragment, Frame, FrameValue, Item, Judged, Passed, SegmentAnswer, Side, Took, UnitValue, Whole, answer_now, append-nil, completed, count_of, data_frame, events_of, flat_map, flat_map-cons, fragment_frames, is_data, last_fragment, unit_spelling, units_from, units_of, user_again, user_of}
 use Rattle.cf_decode.specs.Iec104.{acks, passed_by_apdu}
 use Rattle.cf_decode.specs.Laws.{StreamIsSpelled}
 use Rattle.cf_decode.specs.Passed.{passed_by}
-use Rattle.cf_decode.specs.Units.{Fragment, Passed, Whole, data_frame, start_after, start_behind, units_from, units_of}
-use Rattle.cf_dnplink.proofs.Reading.{user_again}
-use Rattle.cf_dnplink.specs.LinkFrame.{FrameValue}
-use Rattle.cf_dnplink.specs.UserOctets.{user_of}
-use Rattle.cf_dnptrans.specs.Passing.{completed}
-use Rattle.cf_dnptrans.specs.Segments.{count_of, segments_of}
-use Rattle.cf_dnptrans.specs.Transport.{last_fragment}
-use Rattle.cf_dnptrans.specs.declared.assembly.SegmentAnswer.{SegmentAnswer}
+use Rattle.cf_decode.specs.Units.{start_after, start_behind}
+use Rattle.cf_dnptrans.specs.Segments.{segments_of}
 use Rattle.cf_lane.proofs.Earlier.{segments_into-more}
-use Rattle.cf_lane.specs.Dnp3.{answer_now, data_octets, fragment_frames, fragment_in, frames_at, is_data, segments_into, segments_of as lane_segments}
+use Rattle.cf_lane.specs.Dnp3.{data_octets, fragment_in, frames_at, segments_into, segments_of as lane_segments}
 use Rattle.cf_lane.specs.Iec104.{ack_octets, apdu_output, info_number, renumbered}
-use Rattle.cf_lane.specs.Item.{Item, Took}
-use Rattle.cf_lane.specs.Judged.{Judged, goes_on, in_turn}
-use Rattle.cf_lane.specs.Numbers.{events_of}
+use Rattle.cf_lane.specs.Judged.{goes_on, in_turn}
 use Rattle.cf_lane.specs.Output.{item_output, output}
-use Rattle.cf_lane.specs.Unit.{Adu, Apdu, Frame, UnitValue, frame_spelling, unit_spelling}
-use Rattle.cf_view.specs.declared.Side.{Side}
-use Rattle.cf_lane.specs.declared.fate.Fate.{Fate}
-use Rattle.cf_policy.specs.declared.Asset.{Asset}
+use Rattle.cf_lane.specs.Unit.{frame_spelling}
 use Rattle.cf_renumber.specs.Counts.{owed_ack}
-use Rattle.std.proofs.Common.{Bool, List, None, Option, Some, [], ap, append_assoc, arith, false, length, map, refl, reverse, subst, sym, true, ℕ, ◌++◌, ◌+◌, ◌∙◌, ◌∷◌, ◌≡◌}
 use Rattle.std.proofs.lemmas.Grind.{flat_map-append}
-use Rattle.std.proofs.lemmas.List.Concat.{flat_map-cons}
-use Rattle.std.proofs.lemmas.List.{append-nil}
-use Rattle.std.specs.List.{flat_map, sum_by}
-use Rattle.std.specs.Prelude.{if◌then◌else◌}
+use Rattle.std.specs.List.{sum_by}
 use Rattle.cf_dnplink.specs.LinkFrame as link
 use Rattle.cf_dnptrans.specs.declared.assembly.SegmentAnswer.TheVariants as answers
 use Rattle.cf_lane.specs.declared.fate.Fate.TheVariants as fate

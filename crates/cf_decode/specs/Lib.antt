@@ -5,4 +5,6 @@ pub mod Laws
 pub mod Passed
 pub mod Received
 pub mod Rows
+pub mod Told
+pub mod ToldRows
 pub mod Units

@@ -1,6 +1,9 @@
-//! Laws of the stream to a controller: each is the contract of a function that does nothing.
+//! Laws of the stream to a controller, and of refused commands and admitted ones: each is the contract of a function that does nothing.
 ghost use Rattle.cf_decode.specs.Commands.{AdmitsWhatIsAllowed};
 ghost use Rattle.cf_decode.specs.Laws.{FragmentsDecode, StreamDecodes, StreamIsSpelled};
+ghost use Rattle.cf_decode.specs.Rows.{RowsHold};
+ghost use Rattle.cf_decode.specs.Told.{RefusedAreTold, ShownAreTold};
+ghost use Rattle.cf_decode.specs.ToldRows.{ToldRowsHold};
 
 use cf_dnptrans::first_segments_make_the_first_fragments;
 use cf_lane::pieces_join;
@@ -27,4 +30,24 @@ pub fn fragments_decode()
 /// command is neither.
 pub fn admits_what_is_allowed()
     ensures { AdmitsWhatIsAllowed }
+{}
+
+/// Each refused command of a history is one of the client's. It has one line at its place in the log, which names the rule that
+/// decided, or `default`, `station` or `form`; and at its place in the stream to the client it has its protocol's reply: the exception
+/// response of Modbus, the response of DNP3, the mirror of IEC 60870-5-104. It has none in three cases: the stream to the client
+/// has ended; the DNP3 function code asks for none; the ASDU of IEC 60870-5-104 has fewer than nine octets.
+pub fn refused_commands_are_told()
+    ensures { RefusedAreTold }
+{}
+
+/// Each admitted command of a history of which a rule with a log allowed an act has one line at its place in the log, which names that
+/// rule and shows the first such act; every other admitted command has none.
+pub fn shown_commands_are_told()
+    ensures { ShownAreTold }
+{}
+
+/// The definitions give the rows that were computed by hand, and what is told of the commands of two sessions is what was worked out so.
+pub fn rows_hold()
+    ensures stream { RowsHold }
+    ensures told { ToldRowsHold }
 {}

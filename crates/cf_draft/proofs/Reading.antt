@@ -42,6 +42,10 @@ adds_both assets flows others old mid new first second = record {
   behind = second.behind ∙ ap (λ xs. xs ++ second.more) first.behind ∙ append_assoc old first.more second.more;
 }
 
+-- behind nothing stands what was read
+pub read_alone : (assets : List Asset) (flows old new : List FlowValue) → old ≡ [] → AddsRead assets flows old new → AreReadAs assets flows new
+read_alone assets flows old new none adds = subst (AreReadAs assets flows) (sym (adds.behind ∙ ap (λ xs. xs ++ adds.more) none)) adds.read
+
 -- each flow is to an asset of the policy
 pub for_flow : (assets : List Asset) (flows : List Flow) → All (IsForAsset assets) (map flow_value flows) → (i : ℕ) (f : Flow) → i < length flows → f ≡ get_or flows i f →
     IsForAsset assets (flow_value f)

@@ -16,4 +16,4 @@ mod writer;
 
 pub use drafting::{Draft, draft_policy};
 pub use merging::FEW_RULES;
-pub use parts::{Parts, add_recording};
+pub use parts::{Parts, read_parts};

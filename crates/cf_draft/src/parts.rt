@@ -1,9 +1,9 @@
-//! What is read of recordings: each flow, and each other stretch of one, from its first unit on.
+//! What is read of a recording: each flow, and each other stretch of one, from its first unit on.
 ghost use Rattle.std.specs.Prelude.{◌≡◌, ◌≤◌, ◌++◌, ◌∷◌, [], All, IfOk, OnOk, drop, length, map};
 ghost use Rattle.cf_policy.specs.declared.Protocol.{Protocol};
 ghost use Rattle.cf_review.specs.FirstUnit.{IsReadPart, from_place};
 ghost use Rattle.cf_watch.specs.FlowValue.{AreStretchesFor, IsForAsset, flow_value, stretch_value};
-ghost use Rattle.cf_draft.specs.Parts.{AddsRead, IsReadAs, parts_of};
+ghost use Rattle.cf_draft.specs.Parts.{AddsRead, AreReadAs, IsReadAs, parts_of};
 
 use cf_policy::{Asset, Policy, Protocol};
 use cf_review::first_place;
@@ -18,7 +18,7 @@ pub(crate) struct Moment {
     pub(crate) stamp: u64,
 }
 
-/// What is read of the recordings so far.
+/// What is read of a recording.
 #[derive(Drop)]
 pub struct Parts {
     /// One for each flow and each other stretch, with the bytes that are read of it alone. It has no numbers of records.
@@ -29,7 +29,7 @@ pub struct Parts {
 
 impl Parts {
     /// Nothing.
-    pub fn new(alloc: Global) -> Parts
+    pub(crate) fn new(alloc: Global) -> Parts
         ensures { result.flows.items ≡ [] }
     {
         Parts {
@@ -39,23 +39,32 @@ impl Parts {
     }
 }
 
-/// Adds what is read of a recording: of its flows in their order, and then of their other stretches. Their assets are those of the policy.
-pub fn add_recording(
-    alloc: Global,
-    policy: &Policy,
-    recording: &Recording,
-    parts: &mut Parts,
-) -> Result<(), NoMemory>
+/// What is read of a recording: of its flows in their order, and then of their other stretches. Their assets are those of the policy.
+pub fn read_parts(alloc: Global, policy: &Policy, recording: &Recording) -> Result<Parts, NoMemory>
     requires flows { All (IsForAsset policy.now.assets) (map flow_value recording.now.flows.items) }
     requires stretches { AreStretchesFor policy.now.assets (map stretch_value recording.now.stretches.items) }
-    ensures { OnOk result (AddsRead policy.now.assets
+    ensures { IfOk result (λ parts. AreReadAs policy.now.assets
         (parts_of (map flow_value recording.now.flows.items) (map stretch_value recording.now.stretches.items))
-        (map flow_value parts.old.flows.items) (map flow_value parts.new.flows.items)) }
+        (map flow_value parts.flows.items)) }
 {
     let assets = policy.assets.as_slice();
     let stamps = recording.stamps.as_slice();
-    add_flows(alloc, assets, recording.flows.as_slice(), stamps, parts)?;
-    add_stretches(alloc, assets, recording.stretches.as_slice(), stamps, parts)
+    let mut parts = Parts::new(alloc);
+    add_flows(
+        alloc,
+        assets,
+        recording.flows.as_slice(),
+        stamps,
+        &mut parts,
+    )?;
+    add_stretches(
+        alloc,
+        assets,
+        recording.stretches.as_slice(),
+        stamps,
+        &mut parts,
+    )?;
+    Ok(parts)
 }
 
 fn add_flows(

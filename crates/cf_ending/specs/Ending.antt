@@ -41,12 +41,6 @@ abbrev pub unprinted_status : Result Done Stop → ℕ
 unprinted_status (Ok d) = 4
 unprinted_status (Err s) = stop_status s
 
--- what was counted over a run that came to its end, or whose capture ends inside a record; nothing of other work
-abbrev pub counted_in : Result Done Stop → Option Summary
-counted_in (Ok (done.Ran summary)) = Some summary
-counted_in (Err (stop.RunCut place summary)) = Some summary
-counted_in _ = None
-
 -- the number of each refusal of a capture
 abbrev pub capture_number : CaptureRefusal → ℕ
 capture_number refusal.Short = 1
@@ -89,7 +83,7 @@ done_text (done.Checked assets rules) = Some (codes "ok " ++ decimal assets ++ c
 done_text (done.Drafted assets rules widened) = Some (drafted_text assets rules widened)
 done_text done.Included = Some (codes "included\n")
 done_text (done.Unobjected flows commands) = Some (unobjected_text flows commands)
-done_text done.Listed = None
+done_text (done.Listed dropped) = None
 done_text (done.Reviewed counts) = Some (reviewed_text counts)
 done_text (done.Ran summary) = Some (summary_text summary)
 

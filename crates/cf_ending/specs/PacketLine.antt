@@ -1,5 +1,5 @@
--- The lines of a listing: `record_line` is that of a record.
-use Rattle.std.specs.Prelude.{ℕ, ◌+◌, ◌/◌, ◌%◌, ◌==◌, List, [], ◌∷◌, ◌++◌, length, if◌then◌else◌, Result, Ok, Err, codes, decimal}
+-- The lines of a listing: `record_line` is that of a record; and how many records it drops, `dropped_in`.
+use Rattle.std.specs.Prelude.{ℕ, ◌+◌, ◌/◌, ◌%◌, ◌==◌, Bool, List, [], ◌∷◌, ◌++◌, count_by, is_err, length, if◌then◌else◌, Result, Ok, Err, codes, decimal}
 use Rattle.cf_packet.specs.Packet.{PacketValue, read_record}
 use Rattle.cf_packet.specs.declared.PacketRefusal.{PacketRefusal}
 use Rattle.cf_packet.specs.declared.PacketRefusal.TheVariants as packet
@@ -49,3 +49,11 @@ record_line n r =
 abbrev pub lines_from : ℕ → List Record → List ℕ
 lines_from n [] = []
 lines_from n (r ∷ rs) = record_line n r ++ lines_from (n + 1) rs
+
+-- whether a record's octets are no TCP segment over IPv4
+abbrev pub is_dropped : Record → Bool
+is_dropped r = is_err (read_record r.link r.body)
+
+-- how many of records have none
+abbrev pub dropped_in : List Record → ℕ
+dropped_in rs = count_by is_dropped rs

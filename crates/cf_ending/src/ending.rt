@@ -1,7 +1,7 @@
 //! How the program ends: what was done, or why the work stopped, as a status and a printed text.
 ghost use Rattle.std.specs.Prelude.{◌≡◌, ◌≤◌, ◌+◌, ◌++◌, codes, decimal, length, option_map};
 ghost use Rattle.cf_audit.specs.Text.{cut_text};
-ghost use Rattle.cf_ending.specs.Ending.{Prints, Puts, capture_number, commands_text, counted_in, done_text, drafted_text, end_text, status_of, stop_status, stop_text};
+ghost use Rattle.cf_ending.specs.Ending.{Prints, Puts, capture_number, commands_text, done_text, drafted_text, end_text, status_of, stop_status, stop_text};
 ghost use Rattle.cf_ending.specs.Ending.{summary_text, unobjected_text, unprinted_status};
 ghost use Rattle.cf_ending.specs.Outside.{sink_value};
 ghost use Rattle.cf_ending.specs.Denial.{count_line, reviewed_text};
@@ -52,8 +52,10 @@ pub enum Done {
         flows: u64,
         commands: u64,
     },
-    /// Each record of a capture has its line.
-    Listed,
+    /// Each record of a capture has its line, with how many of them have no segment.
+    Listed {
+        dropped: u64,
+    },
     /// A policy was run over a capture, with what was counted.
     Ran(Summary),
     /// A review of a capture was written and has no remark, with what was counted.
@@ -176,16 +178,6 @@ fn stop_status(stop: &Stop) -> u8
         Stop::Denied(_) => DENIED,
         Stop::TooManyRules(_) => TOO_MANY_RULES,
         Stop::TooManyCells(_) => TOO_MANY_CELLS,
-    }
-}
-
-/// What was counted over a run that came to its end, or whose capture ends inside a record; of other work nothing was.
-pub fn counted(ended: &Result<Done, Stop>) -> Option<Summary>
-    ensures { result ≡ counted_in ended.now }
-{
-    match ended {
-        Ok(Done::Ran(summary)) | Err(Stop::RunCut(_, summary)) => Some(*summary),
-        _ => None,
     }
 }
 
@@ -401,7 +393,7 @@ fn done_text(done: &Done) -> Option<EndText>
         } => Some(drafted_text(*assets, *rules, *widened)),
         Done::Included => Some(line("included\n")),
         Done::Unobjected { flows, commands } => Some(unobjected_text(*flows, *commands)),
-        Done::Listed => None,
+        Done::Listed { .. } => None,
         Done::Ran(summary) => Some(counted_text(summary)),
         Done::Reviewed(counts) => Some(reviewed_text(counts)),
     }

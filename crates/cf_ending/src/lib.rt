@@ -8,6 +8,6 @@ mod packet_line;
 mod spell;
 
 pub use denial::{AssetName, Denial};
-pub use ending::{CaptureRefusal, Done, EndText, Stop, counted, put_text, report};
+pub use ending::{CaptureRefusal, Done, EndText, Stop, put_text, report};
 pub use objection::{Ground, Objected};
-pub use packet_line::{LONGEST_LINE, spell_line};
+pub use packet_line::{LONGEST_LINE, RecordLine, spell_line};

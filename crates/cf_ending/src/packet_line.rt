@@ -1,7 +1,7 @@
 //! The line of a record of a capture, spelled from its end to its front.
-ghost use Rattle.std.specs.Prelude.{◌≡◌, ◌+◌, ◌<◌, ◌≤◌, ◌++◌, Ok, codes, drop, length};
-ghost use Rattle.cf_ending.specs.PacketLine.{fields_text, flag_text, flags_text, packet_text, record_line, refusal_name};
-ghost use Rattle.cf_packet.specs.Packet.{packet_value, read_record};
+ghost use Rattle.std.specs.Prelude.{◌≡◌, ◌+◌, ◌<◌, ◌≤◌, ◌++◌, Ok, codes, drop, is_err, length};
+ghost use Rattle.cf_ending.specs.PacketLine.{fields_text, flag_text, flags_text, is_dropped, packet_text, record_line, refusal_name};
+ghost use Rattle.cf_packet.specs.Packet.{packet_answer, packet_value};
 
 use crate::spell::{spell_endpoint, spell_moment, spell_number, spell_text, spell_u16, spell_u32};
 use cf_packet::{ACK, FIN, PSH, Packet, PacketRefusal, RST, SYN, URG, read_packet};
@@ -10,7 +10,16 @@ use cf_view::LinkKind;
 /// The longest line has fewer octets.
 pub const LONGEST_LINE: usize = 192;
 
-/// Spells the line of the record of a number, counted from 1, so that it ends with the octets; answers where it begins.
+/// What was spelled of a record.
+#[derive(Clone, Copy)]
+pub struct RecordLine {
+    /// Where its line begins.
+    pub start: usize,
+    /// It has no segment.
+    pub is_dropped: bool,
+}
+
+/// Spells the line of the record of a number, counted from 1, so that it ends with the octets.
 #[tactic(auto, using(crate::proofs::Spelled::nothing_behind))]
 pub fn spell_line(
     link: &LinkKind,
@@ -18,27 +27,42 @@ pub fn spell_line(
     stamp: u64,
     body: &[u8],
     out: &mut [u8; LONGEST_LINE],
-) -> usize
-    ensures line { drop result out.new ≡ record_line number (record { stamp = stamp; link = link.now; body = body.now }) }
-    ensures inside { result ≤ 192 }
+) -> RecordLine
+    ensures line { drop result.start out.new ≡ record_line number (record { stamp = stamp; link = link.now; body = body.now }) }
+    ensures inside { result.start ≤ 192 }
+    ensures dropped { result.is_dropped ≡ is_dropped (record { stamp = stamp; link = link.now; body = body.now }) }
 {
+    let packet = read_packet(link, body);
     let at = spell_text("\n", out, LONGEST_LINE);
-    let at = spell_body(link, body, out, at);
+    let at = spell_answer(&packet, out, at);
     let at = spell_text(" ", out, at);
     let at = spell_moment(stamp, out, at);
     let at = spell_text(" ", out, at);
-    spell_number(number, out, at)
+    RecordLine {
+        start: spell_number(number, out, at),
+        is_dropped: has_none(&packet),
+    }
 }
 
-fn spell_body(link: &LinkKind, body: &[u8], out: &mut [u8], end: usize) -> usize
+/// Whether there is no packet.
+fn has_none(packet: &Result<Packet<'_>, PacketRefusal>) -> bool
+    ensures { result ≡ is_err (packet_answer packet.now) }
+{
+    match packet {
+        Ok(_) => false,
+        Err(_) => true,
+    }
+}
+
+fn spell_answer(packet: &Result<Packet<'_>, PacketRefusal>, out: &mut [u8], end: usize) -> usize
     requires room { (120 ≤ end) × (end ≤ length out.old) }
-    ensures written { drop result out.new ≡ packet_text (read_record link.now body.now) ++ drop end out.old }
+    ensures written { drop result out.new ≡ packet_text (packet_answer packet.now) ++ drop end out.old }
     ensures near { (result ≤ end) × (end ≤ result + 120) }
     ensures length { length out.new ≡ length out.old }
 {
-    match read_packet(link, body) {
-        Ok(packet) => spell_packet(&packet, out, end),
-        Err(refusal) => spell_refusal(refusal, out, end),
+    match packet {
+        Ok(packet) => spell_packet(packet, out, end),
+        Err(refusal) => spell_refusal(*refusal, out, end),
     }
 }
 

@@ -135,21 +135,25 @@ impl Search<'_> {
     /// The first of the acts of a kind.
     fn of_kind(&mut self, alloc: Global, code: u16, kind: &Kind) -> Result<Found, AllocError> {
         let corners = self.corners(alloc, code, kind)?;
+        Ok(self.of_corners(code, &corners))
+    }
+
+    /// The first of the acts at corners.
+    fn of_corners(&mut self, code: u16, corners: &Corners) -> Found {
         let count = corners.count();
         if count > self.left {
-            return Ok(Found::TooMany);
+            return Found::TooMany;
         }
         self.left -= count;
         for number in 0..count {
-            if let Some(shown) = corners.at(code, number) {
-                if self.differs(&shown) {
-                    let ahead = count.saturating_sub(number).saturating_sub(1);
-                    self.left = self.left.saturating_add(ahead);
-                    return Ok(Found::Beyond(shown));
-                }
+            let shown = corners.at(code, number);
+            if self.differs(&shown) {
+                let ahead = count.saturating_sub(number).saturating_sub(1);
+                self.left = self.left.saturating_add(ahead);
+                return Found::Beyond(shown);
             }
         }
-        Ok(Found::Nothing)
+        Found::Nothing
     }
 
     fn differs(&self, shown: &Shown) -> bool {
@@ -190,27 +194,42 @@ impl Search<'_> {
     ) -> Result<Vec<i64>, AllocError> {
         let mut found = Vec::new(alloc);
         found.push(range.low)?;
-        for asset in [self.ours, self.other] {
-            for rule in asset.rules.as_slice() {
-                if takes(&rule.codes, i64::from(code)) {
-                    push_ends(&mut found, spans_of(rule, axis), range)?;
-                }
-            }
-        }
+        push_rule_ends(&mut found, self.ours, code, axis, range)?;
+        push_rule_ends(&mut found, self.other, code, axis, range)?;
         found.sort()?;
         found.dedup();
         Ok(found)
     }
 }
 
+/// Adds the numbers of a range at which a list of a rule of an asset with the code begins or has just ended.
+fn push_rule_ends(
+    found: &mut Vec<i64>,
+    asset: &Asset,
+    code: u16,
+    axis: Axis,
+    range: Span,
+) -> Result<(), AllocError> {
+    for rule in asset.rules.as_slice() {
+        if takes(&rule.codes, i64::from(code)) {
+            push_ends(found, spans_of(rule, axis), range)?;
+        }
+    }
+    Ok(())
+}
+
 /// Adds the numbers of a range at which spans begin or have just ended.
 fn push_ends(found: &mut Vec<i64>, spans: &[Span], range: Span) -> Result<(), AllocError> {
     for span in spans {
-        for end in [span.low, span.high.saturating_add(1)] {
-            if range.low < end && end <= range.high {
-                found.push(end)?;
-            }
-        }
+        push_end(found, span.low, range)?;
+        push_end(found, span.high.saturating_add(1), range)?;
+    }
+    Ok(())
+}
+
+fn push_end(found: &mut Vec<i64>, end: i64, range: Span) -> Result<(), AllocError> {
+    if range.low < end && end <= range.high {
+        found.push(end)?;
     }
     Ok(())
 }
@@ -227,39 +246,42 @@ fn spans_of(rule: &Rule, axis: Axis) -> &[Span] {
 impl Corners {
     /// How many acts there are at corners.
     fn count(&self) -> u64 {
-        let values = self.values.as_ref().map_or(1, |values| values.len());
+        let values = match &self.values {
+            Some(values) => values.len(),
+            None => 1,
+        };
         (self.clients.len() as u64)
             .saturating_mul(self.groups.len() as u64)
             .saturating_mul(self.points.len() as u64)
             .saturating_mul(values as u64)
     }
 
-    /// The act of a number, counted from 0 by value, point, group and client.
-    fn at(&self, code: u16, number: u64) -> Option<Shown> {
+    /// The act of a number below how many there are, counted from 0 by value, point, group and client.
+    fn at(&self, code: u16, number: u64) -> Shown {
         let mut rest = number;
         let value = match &self.values {
-            Some(values) => Some(pick(values, &mut rest)?),
+            Some(values) => Some(pick(values, &mut rest)),
             None => None,
         };
-        let point = pick(&self.points, &mut rest)?;
-        let group = pick(&self.groups, &mut rest)?;
-        let client = pick(&self.clients, &mut rest)?;
-        Some(Shown {
-            client: u32::try_from(client).ok()?,
+        let point = pick(&self.points, &mut rest);
+        let group = pick(&self.groups, &mut rest);
+        let client = pick(&self.clients, &mut rest);
+        Shown {
+            client: u32::try_from(client).unwrap_or(0),
             act: Act {
                 code,
-                group: u16::try_from(group).ok()?,
-                point: u32::try_from(point).ok()?,
+                group: u16::try_from(group).unwrap_or(0),
+                point: u32::try_from(point).unwrap_or(0),
                 value,
             },
-        })
+        }
     }
 }
 
-/// The number at a place, which counts round; what is left counts the rounds.
-fn pick(numbers: &[i64], place: &mut u64) -> Option<i64> {
-    let count = numbers.len() as u64;
-    let index = place.checked_rem(count)?;
-    *place = place.checked_div(count)?;
-    numbers.get(index as usize).copied()
+/// The number at a place of a list, which is not empty: places count round, and what is left counts the rounds.
+fn pick(numbers: &[i64], place: &mut u64) -> i64 {
+    let count = (numbers.len() as u64).max(1);
+    let index = *place % count;
+    *place /= count;
+    numbers.get(index as usize).copied().unwrap_or(0)
 }

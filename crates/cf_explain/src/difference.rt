@@ -1,13 +1,11 @@
 //! Why one policy is not included in another: which rule of the first allows an act, and why the second refuses it.
-ghost use Rattle.cf_policy.specs.Within.{IsWithin};
-
 use crate::code_words::code_words;
 use crate::commands::{Found, Shown, first_of_commands};
 use crate::page::Page;
 use crate::policy::push_rule_place;
 use crate::quote::{push_quoted, push_titled};
 use cf_acts::{Groups, Kind, kinds};
-use cf_compare::{CompareFault, Compared, MOST_CELLS, compare};
+use cf_compare::{CompareFault, Compared, MOST_CELLS};
 use cf_policy::{Asset, Decider, Policy, Protocol, Span, Verdict, verdict};
 use cf_view::{Act, Reason};
 use std::alloc::{AllocError, Global};
@@ -21,18 +19,16 @@ pub struct PolicyFile<'a> {
 }
 
 /// Why the first policy is not included in the second, in two lines: of the first act that only the first allows, the rule that
-/// allows it there, and what refuses it here; or which asset has no partner, or makes too many cells. The policies are compared anew.
+/// allows it there, and what refuses it here; or which asset has no partner, or makes too many cells. `answer` is that of their
+/// comparison.
 pub fn inclusion_message(
     alloc: Global,
     ours: &PolicyFile<'_>,
     other: &PolicyFile<'_>,
-) -> Result<String, AllocError>
-    requires ours { IsWithin ours.now.policy.now }
-    requires other { IsWithin other.now.policy.now }
-{
+    answer: &Result<Compared, CompareFault>,
+) -> Result<String, AllocError> {
     let mut out = Page::new(alloc);
-    let answer = compare(alloc, ours.policy, other.policy);
-    push_answer(&mut out, ours, other, &answer);
+    push_answer(&mut out, ours, other, answer);
     out.finish()
 }
 
@@ -68,7 +64,7 @@ fn asset_at(policy: &Policy, place: u32) -> Option<&Asset> {
 }
 
 /// The asset of a name, with its place from 0.
-pub(crate) fn asset_named<'a>(policy: &'a Policy, name: &str) -> Option<(u32, &'a Asset)> {
+pub fn asset_named<'a>(policy: &'a Policy, name: &str) -> Option<(u32, &'a Asset)> {
     let mut place = 0u32;
     for asset in policy.assets.as_slice() {
         if asset.name.as_str() == name {
@@ -284,9 +280,12 @@ fn push_address(out: &mut Page, address: u32) {
 
 /// Whether some command of the protocol has the act.
 fn is_of_command(protocol: Protocol, act: &Act) -> bool {
-    kinds(protocol, act.code)
-        .iter()
-        .any(|kind| is_of_kind(kind, act))
+    for kind in kinds(protocol, act.code) {
+        if is_of_kind(kind, act) {
+            return true;
+        }
+    }
+    false
 }
 
 fn is_of_kind(kind: &Kind, act: &Act) -> bool {

@@ -11,11 +11,13 @@ const MOST: usize = 20;
 /// Two lines for each code of each asset of the first policy of which a command has an act that the asset allows and its partner refuses:
 /// the first such act by client, group, point and value, the rule that allows it, and what refuses it. They stand in the order of the
 /// assets and then of the codes, behind a line that says so; twenty are written out. Where not all acts can be looked at for them, a last line
-/// says so. The text is empty where there are fewer than two.
+/// says so. The text is empty where there are fewer than two. The assets before place `from`, counted from 0, have none, and are not looked
+/// at.
 pub fn differences_text(
     alloc: Global,
     ours: &PolicyFile<'_>,
     other: &PolicyFile<'_>,
+    from: u32,
 ) -> Result<String, AllocError> {
     let mut lines = Page::new(alloc);
     lines.push_all(&[
@@ -30,7 +32,9 @@ pub fn differences_text(
     let mut left = MOST_OF_CODES;
     let mut place = 0u32;
     for asset in ours.policy.assets.as_slice() {
-        if let Some(partner) = partner_of(asset, other.policy) {
+        if place >= from
+            && let Some(partner) = partner_of(asset, other.policy)
+        {
             let there = asset_named(other.policy, asset.name.as_str());
             let most = MOST.saturating_sub(count);
             for shown in firsts_of_commands(alloc, asset, partner, most, &mut left)?.iter() {

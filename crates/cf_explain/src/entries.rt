@@ -1,5 +1,5 @@
 //! What is wrong with an entry of a list, or with a name.
-use crate::naming::{Scope, code_fault, group_fault, is_group_name};
+use crate::naming::{Scope, code_fault, group_fault, is_digits, is_group_name};
 use cf_policy::{
     HIGHEST_CODE, HIGHEST_GROUP, HIGHEST_POINT, HIGHEST_VALUE, LONGEST_NAME, LOWEST_VALUE,
 };
@@ -40,7 +40,7 @@ fn front_fault(text: &str) -> Option<&'static str> {
 /// Whether a text is digits, behind a minus sign or without, of which the first is a zero too many.
 fn has_leading_zero(text: &str) -> bool {
     let digits = text.strip_prefix("-").unwrap_or(text);
-    digits.len() > 1 && digits.starts_with("0") && digits.bytes().all(|byte| byte.is_ascii_digit())
+    digits.len() > 1 && digits.starts_with("0") && is_digits(digits)
 }
 
 /// On which side a number is outside a range, if it is.
@@ -77,7 +77,7 @@ fn misread(key: Key, text: &str) -> &'static str {
 
 /// What a text is that is no number, and has none of the parts by which one is misread.
 fn no_number(text: &str) -> &'static str {
-    if text.bytes().all(|byte| byte.is_ascii_digit()) {
+    if is_digits(text) {
         "the number is too high"
     } else {
         "it is no number"
@@ -159,12 +159,19 @@ fn point_fault(names_sets: bool, text: &str) -> Option<&'static str> {
     }
 }
 
+/// Whether a text is a word for every number of a list.
+fn is_every(text: &str) -> bool {
+    for word in EVERY.split(", ") {
+        if word.eq_ignore_ascii_case(text) {
+            return true;
+        }
+    }
+    false
+}
+
 /// What is said of a word that means every number of a list, which no list has.
 pub(crate) fn every_fault(key: Key, scope: &Scope, text: &str) -> Option<&'static str> {
-    if !EVERY
-        .split(", ")
-        .any(|word| word.eq_ignore_ascii_case(text))
-    {
+    if !is_every(text) {
         return None;
     }
     match key {
@@ -223,13 +230,13 @@ pub(crate) fn name_fault(text: &str) -> Option<&'static str> {
     if text.is_empty() {
         return Some("it is empty");
     }
-    if text.bytes().any(|byte| byte.is_ascii_uppercase()) {
+    if has_capital(text) {
         return Some("it has capital letters");
     }
     if text.contains(" ") {
         return Some("it has a space");
     }
-    if !text.bytes().all(is_name_byte) {
+    if !has_name_bytes(text) {
         return Some("it has a character that names do not have");
     }
     if text.len() > LONGEST_NAME {
@@ -238,8 +245,23 @@ pub(crate) fn name_fault(text: &str) -> Option<&'static str> {
     None
 }
 
-fn is_name_byte(byte: u8) -> bool {
-    matches!(byte, b'a'..=b'z' | b'0'..=b'9' | b'_' | b'-')
+fn has_capital(text: &str) -> bool {
+    for byte in text.bytes() {
+        if byte.is_ascii_uppercase() {
+            return true;
+        }
+    }
+    false
+}
+
+/// Whether each byte of a text is one that names have.
+fn has_name_bytes(text: &str) -> bool {
+    for byte in text.bytes() {
+        if !matches!(byte, b'a'..=b'z' | b'0'..=b'9' | b'_' | b'-') {
+            return false;
+        }
+    }
+    true
 }
 
 /// Why a text is no address, if it is none.
@@ -261,11 +283,15 @@ pub(crate) fn address_fault(text: &str) -> Option<&'static str> {
     if text.split(".").count() != 4 {
         return Some("it has not four numbers");
     }
-    if text
-        .split(".")
-        .any(|part| part.len() > 1 && part.starts_with("0"))
-    {
-        return Some("a number has no leading zero");
+    Some(part_fault(text))
+}
+
+/// Why one of four numbers with points between them is none of an address.
+fn part_fault(text: &str) -> &'static str {
+    for part in text.split(".") {
+        if part.len() > 1 && part.starts_with("0") {
+            return "a number has no leading zero";
+        }
     }
-    Some("one of its four numbers is not from 0 to 255")
+    "one of its four numbers is not from 0 to 255"
 }

@@ -7,7 +7,7 @@ use cf_covered::{
     Cover, Earlier, Slip, code_end, cover_of, covering, have_common, highest_point, likely_slip,
     outlines,
 };
-use cf_policy::{Action, Asset, Policy, Rule, takes};
+use cf_policy::{Action, Asset, Policy, Rule, Span, takes};
 use std::alloc::{AllocError, Global};
 
 /// What is warned of a rule.
@@ -159,12 +159,22 @@ fn passed_point(asset: &Asset, rule: &Rule, code: u16) -> Option<i64> {
         return None;
     }
     let high = highest_point(asset.protocol, code)?;
-    let spans = rule.points.as_slice();
-    if spans.iter().any(|span| span.low <= high) && spans.iter().any(|span| high < span.high) {
+    if are_beyond(rule.points.as_slice(), high) {
         Some(high)
     } else {
         None
     }
+}
+
+/// Whether spans have a number up to this one and a number above it.
+fn are_beyond(spans: &[Span], high: i64) -> bool {
+    let mut some_below = false;
+    let mut some_above = false;
+    for span in spans {
+        some_below |= span.low <= high;
+        some_above |= high < span.high;
+    }
+    some_below && some_above
 }
 
 /// What earlier rules do of all that a rule would refuse, where one of them allows.
@@ -206,7 +216,10 @@ fn silence_among(earlier: &[Rule], rule: &Rule) -> Option<Silence> {
 
 /// Whether some of the rules that may have an act in common with another do this.
 fn some_do(earlier: &[Rule], rule: &Rule, action: Action) -> bool {
-    earlier
-        .iter()
-        .any(|first| first.action == action && have_common(first, rule))
+    for first in earlier {
+        if first.action == action && have_common(first, rule) {
+            return true;
+        }
+    }
+    false
 }

@@ -89,11 +89,12 @@ fn push_rules(report: &mut Report, here: &Seat<'_>, there: &Seat<'_>, side: Side
 }
 
 fn rule_named<'a>(asset: &'a Asset, name: &str) -> Option<&'a Rule> {
-    asset
-        .rules
-        .as_slice()
-        .iter()
-        .find(|rule| rule.name.as_str() == name)
+    for rule in asset.rules.as_slice() {
+        if rule.name.as_str() == name {
+            return Some(rule);
+        }
+    }
+    None
 }
 
 /// Whether two rules have the same rate and the same log.

@@ -33,7 +33,7 @@ mod words;
 mod wrong;
 
 pub use capture::capture_message;
-pub use difference::{PolicyFile, inclusion_message};
+pub use difference::{PolicyFile, asset_named, inclusion_message};
 pub use differences::differences_text;
 pub use found::{What, findings, sound_rules_have_reads};
 pub use kept::kept_text;

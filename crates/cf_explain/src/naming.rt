@@ -89,7 +89,7 @@ pub(crate) fn code_fault(scope: &Scope, text: &str) -> Option<&'static str> {
     if text.is_empty() {
         return Some("a name is missing");
     }
-    if text.bytes().all(|byte| byte.is_ascii_digit()) {
+    if is_digits(text) {
         return Some("a number among codes stands without quotation marks");
     }
     Some(other_name(Key::Codes, own, text).unwrap_or("no code of the protocol has this name"))
@@ -123,8 +123,22 @@ pub(crate) fn group_fault(scope: &Scope, text: &str) -> Option<&'static str> {
 
 /// Whether a text has nothing but what numbers have.
 fn is_numeric(text: &str) -> bool {
-    text.bytes()
-        .all(|byte| matches!(byte, b'0'..=b'9' | b'+' | b'-' | b'.'))
+    for byte in text.bytes() {
+        if !matches!(byte, b'0'..=b'9' | b'+' | b'-' | b'.') {
+            return false;
+        }
+    }
+    true
+}
+
+/// Whether a text has nothing but digits.
+pub(crate) fn is_digits(text: &str) -> bool {
+    for byte in text.bytes() {
+        if !byte.is_ascii_digit() {
+            return false;
+        }
+    }
+    true
 }
 
 /// Asks whether a name of the protocol was meant by an entry that is none: the same in another case, else the nearest.

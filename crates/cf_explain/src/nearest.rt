@@ -11,24 +11,41 @@ const EDITS: usize = 2;
 /// The first of the known words that are nearest to this one: at most two letters are added, left out, changed or swapped,
 /// and fewer than it has. Where memory runs out, the text does not become whole.
 pub(crate) fn nearest<'a>(out: &mut Page, word: &str, known: &[&'a str]) -> Option<&'a str> {
-    if word.len() > LONGEST {
-        return None;
-    }
     let mut best = None;
-    let mut least = word.len().min(EDITS + 1);
+    let mut least = most_edits(word);
     for candidate in known {
-        let edits = distance(out, word, candidate);
-        if edits < least {
-            least = edits;
+        if is_nearer(out, word, candidate, &mut least) {
             best = Some(*candidate);
         }
     }
     best
 }
 
+/// How many edits are too many between a word and what was meant by it: any, where the word is too long.
+fn most_edits(word: &str) -> usize {
+    if word.len() > LONGEST {
+        0
+    } else {
+        word.len().min(EDITS + 1)
+    }
+}
+
+/// Whether fewer edits lie between two words than the least so far, which then are the least.
+fn is_nearer(out: &mut Page, word: &str, other: &str, least: &mut usize) -> bool {
+    if *least == 0 {
+        return false;
+    }
+    let edits = distance(out, word, other);
+    let is_nearer = edits < *least;
+    if is_nearer {
+        *least = edits;
+    }
+    is_nearer
+}
+
 /// Whether a known word alone may be meant by this one.
 pub(crate) fn is_near(out: &mut Page, word: &str, known: &str) -> bool {
-    word.len() <= LONGEST && distance(out, word, known) < word.len().min(EDITS + 1)
+    is_nearer(out, word, known, &mut most_edits(word))
 }
 
 /// How many edits lie between two words; more than any word has where memory runs out.
@@ -45,18 +62,29 @@ fn distance(out: &mut Page, word: &str, other: &str) -> usize {
 /// Asks whether the word that is nearest to this one was meant, between marks, if there is one among known words with commas between
 /// them.
 pub(crate) fn push_meant(out: &mut Page, word: &str, known: &str, mark: &str) {
-    let mut words = Vec::new(out.alloc);
-    for candidate in known.split(", ") {
-        if words.push(candidate).is_err() {
-            out.run_out();
-        }
-    }
-    if let Some(meant) = nearest(out, word, words.as_slice()) {
+    if let Some(meant) = nearest_listed(out, word, known) {
         out.push_all(&["; did you mean ", mark, meant, mark, "?"]);
     }
 }
 
+/// The same of known words with commas between them.
+fn nearest_listed<'a>(out: &mut Page, word: &str, known: &'a str) -> Option<&'a str> {
+    let mut best = None;
+    let mut least = most_edits(word);
+    for candidate in known.split(", ") {
+        if is_nearer(out, word, candidate, &mut least) {
+            best = Some(candidate);
+        }
+    }
+    best
+}
+
 /// Whether a word is among known ones with commas between them.
 pub(crate) fn has_word(known: &str, word: &str) -> bool {
-    known.split(", ").any(|other| other == word)
+    for other in known.split(", ") {
+        if other == word {
+            return true;
+        }
+    }
+    false
 }

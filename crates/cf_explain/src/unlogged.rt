@@ -44,12 +44,7 @@ const IEC104: [Span; 5] = [
 pub(crate) fn push_unlogged(out: &mut Page, file: &str, policy: &Policy) {
     let mut count = 0u64;
     for (index, asset) in policy.assets.as_slice().iter().enumerate() {
-        if asset
-            .rules
-            .as_slice()
-            .iter()
-            .any(|rule| is_unlogged(asset.protocol, rule))
-        {
+        if has_unlogged(asset) {
             if count < MOST {
                 let number = (index as u64).saturating_add(1);
                 push_titled_note(out, file, number, asset);
@@ -91,6 +86,15 @@ fn push_numbers(out: &mut Page, asset: &Asset) {
     }
 }
 
+fn has_unlogged(asset: &Asset) -> bool {
+    for rule in asset.rules.as_slice() {
+        if is_unlogged(asset.protocol, rule) {
+            return true;
+        }
+    }
+    false
+}
+
 /// Whether a rule allows a code other than that of a read, and has no log.
 fn is_unlogged(protocol: Protocol, rule: &Rule) -> bool {
     rule.action == Action::Allow && !rule.log && has_more_than_reads(protocol, rule)
@@ -102,8 +106,10 @@ fn has_more_than_reads(protocol: Protocol, rule: &Rule) -> bool {
         Protocol::Dnp3 => &DNP3,
         Protocol::Iec104 => &IEC104,
     };
-    codes
-        .iter()
-        .any(|span| some_overlap(rule.codes.as_slice(), span))
-        || (protocol == Protocol::Modbus && takes(&rule.codes, 23) && takes(&rule.groups, 1))
+    for span in codes {
+        if some_overlap(rule.codes.as_slice(), span) {
+            return true;
+        }
+    }
+    protocol == Protocol::Modbus && takes(&rule.codes, 23) && takes(&rule.groups, 1)
 }

@@ -47,21 +47,43 @@ fn some_meets(rule: &Rule, kinds: &[Kind]) -> bool
 fn first_missed(rule: &Rule, kinds: &[Kind]) -> Unmet {
     if kinds.is_empty() {
         Unmet::Code
-    } else if !kinds
-        .iter()
-        .any(|kind| reaches_groups(&rule.groups, kind.groups))
-    {
+    } else if !reaches_some_groups(rule, kinds) {
         Unmet::Group
-    } else if !kinds.iter().any(|kind| reaches_place(rule, kind)) {
+    } else if !reaches_some_place(rule, kinds) {
         Unmet::Point
-    } else if kinds
-        .iter()
-        .any(|kind| reaches_place(rule, kind) && kind.values.is_some())
-    {
+    } else if reaches_some_value(rule, kinds) {
         Unmet::Value
     } else {
         Unmet::NoValue
     }
+}
+
+fn reaches_some_groups(rule: &Rule, kinds: &[Kind]) -> bool {
+    for kind in kinds {
+        if reaches_groups(&rule.groups, kind.groups) {
+            return true;
+        }
+    }
+    false
+}
+
+fn reaches_some_place(rule: &Rule, kinds: &[Kind]) -> bool {
+    for kind in kinds {
+        if reaches_place(rule, kind) {
+            return true;
+        }
+    }
+    false
+}
+
+/// Whether the rule's groups and points meet a kind of acts that have values.
+fn reaches_some_value(rule: &Rule, kinds: &[Kind]) -> bool {
+    for kind in kinds {
+        if kind.values.is_some() && reaches_place(rule, kind) {
+            return true;
+        }
+    }
+    false
 }
 
 /// Whether the rule's groups and points meet a kind of acts.

@@ -138,8 +138,16 @@ fn may_have_logs(text: &[u8]) -> bool {
 }
 
 fn may_be_third(line: &[u8]) -> bool {
-    (line.contains(&b'3') || line.contains(&b'b'))
-        && line.windows(VERSION.len()).any(|octets| octets == VERSION)
+    (line.contains(&b'3') || line.contains(&b'b')) && has_version(line)
+}
+
+fn has_version(line: &[u8]) -> bool {
+    for octets in line.windows(VERSION.len()) {
+        if octets == VERSION {
+            return true;
+        }
+    }
+    false
 }
 
 /// Whether octets end with the key of sets and begin with none that a longer key would have there.
@@ -357,13 +365,13 @@ fn push_together(out: &mut Page, subject: &Subject<'_>) {
 
 /// Whether some rule before this one has a rate.
 fn some_rated(subject: &Subject<'_>) -> bool {
-    subject
-        .asset
-        .rules
-        .as_slice()
-        .iter()
-        .take((subject.rule_number as usize).saturating_sub(1))
-        .any(|rule| rule.rate.is_some())
+    let before = (subject.rule_number as usize).saturating_sub(1);
+    for rule in subject.asset.rules.as_slice().iter().take(before) {
+        if rule.rate.is_some() {
+            return true;
+        }
+    }
+    false
 }
 
 /// The points of a rule that never come with a code, and those that do.
@@ -374,7 +382,7 @@ fn push_passed(out: &mut Page, rule: &Rule, code: u16, high: i64) {
     for (index, span) in spans.iter().enumerate() {
         let told = above(span, high);
         let earlier = spans.get(..index).unwrap_or(spans);
-        if high < span.high && !earlier.iter().any(|other| above(other, high) == told) {
+        if high < span.high && !is_above(earlier, high, told) {
             if !is_first {
                 out.push(", ");
             }
@@ -384,6 +392,16 @@ fn push_passed(out: &mut Page, rule: &Rule, code: u16, high: i64) {
     }
     out.push_number_after(" never come with code ", u64::from(code));
     push_range(out, high);
+}
+
+/// Whether the numbers of one of these spans that are above a number are those told.
+fn is_above(spans: &[Span], number: i64, told: Span) -> bool {
+    for span in spans {
+        if above(span, number) == told {
+            return true;
+        }
+    }
+    false
 }
 
 /// The numbers of a span that are above a number, if some are.

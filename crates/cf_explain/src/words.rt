@@ -16,43 +16,47 @@ enum Role {
     Client,
     /// A decimal number from a lowest to a highest, without leading zeros.
     Number(u64, u64),
-    /// An asset and an endpoint, `NAME=A.B.C.D:PORT`. It is the last, and more of them may follow.
+    /// An asset and an endpoint, `NAME=A.B.C.D:PORT`.
     Place,
 }
-
-/// What help calls a place of a service.
-const PLACE: &str = "NAME=A.B.C.D:PORT";
 
 const COMMANDS: &str =
     "sift, check, compare, learn, draft, migrate, packets, judge, review, run, relay, serve, world";
 
-/// What help calls a capture of a draft.
-const CAPTURE: &str = "CAPTURE";
+/// What stands behind the word of a form of which there may be more.
+const MORE: &str = "..";
 
-/// The most captures of a draft.
+/// The most captures of a recording.
 const CAPTURE_LIMIT: usize = 64;
 
 /// The most places of a service.
 const PLACE_LIMIT: usize = 256;
 
-/// What help calls the words after a command, with a space between two, if it is one.
+/// Each command, and behind it what help calls its words, with a space between two.
+const FORMS: &str = "\
+sift POLICY ASSET CLIENT STREAM OUT REPLIES LOG
+check POLICY
+compare POLICY OTHER
+learn POLICY CAPTURE OUT
+draft POLICY OUT CAPTURE..
+migrate POLICY OUT
+judge POLICY CAPTURE
+review POLICY CAPTURE.. LOG
+packets CAPTURE
+run POLICY CAPTURE OUT LOG
+relay POLICY ASSET PORT IDLES LOG
+serve POLICY SECONDS LOG NAME=A.B.C.D:PORT..
+world SEED SESSIONS POLICY CAPTURE OUT LOG";
+
+/// What help calls the words after a command, with a space between two, if it is one; of one at most there may be more.
 fn form_of(command: &str) -> Option<&'static str> {
-    match command {
-        "sift" => Some("POLICY ASSET CLIENT STREAM OUT REPLIES LOG"),
-        "check" => Some("POLICY"),
-        "compare" => Some("POLICY OTHER"),
-        "learn" => Some("POLICY CAPTURE OUT"),
-        "draft" => Some("POLICY OUT CAPTURE"),
-        "migrate" => Some("POLICY OUT"),
-        "judge" => Some("POLICY CAPTURE"),
-        "review" => Some("POLICY CAPTURE LOG"),
-        "packets" => Some("CAPTURE"),
-        "run" => Some("POLICY CAPTURE OUT LOG"),
-        "relay" => Some("POLICY ASSET PORT IDLES LOG"),
-        "serve" => Some("POLICY SECONDS LOG NAME=A.B.C.D:PORT"),
-        "world" => Some("SEED SESSIONS POLICY CAPTURE OUT LOG"),
-        _ => None,
+    for line in FORMS.lines() {
+        let (name, form) = line.split_once(' ').unwrap_or((line, ""));
+        if name == command {
+            return Some(form);
+        }
     }
+    None
 }
 
 /// How many words a form has.
@@ -60,10 +64,32 @@ fn count_of(form: &str) -> usize {
     form.split(' ').count()
 }
 
-/// What help calls the word at an index of a form: behind the last another place, or another capture.
-fn name_at(form: &str, index: usize) -> &str {
-    let last = if has_places(form) { PLACE } else { CAPTURE };
-    form.split(' ').nth(index).unwrap_or(last)
+/// What help calls the word at an index of so many words, which have a form.
+fn name_at(form: &str, count: usize, index: usize) -> &str {
+    let place = place_in(form, count, index);
+    let name = form.split(' ').nth(place).unwrap_or("");
+    name.strip_suffix(MORE).unwrap_or(name)
+}
+
+/// The place in a form of the word at an index: those that there are more of stand at one place.
+fn place_in(form: &str, count: usize, index: usize) -> usize {
+    let first = place_of_more(form);
+    let more = count.saturating_sub(count_of(form));
+    if index <= first {
+        index
+    } else if index <= first.saturating_add(more) {
+        first
+    } else {
+        index.saturating_sub(more)
+    }
+}
+
+/// The place of the word of which there may be more, or the number of words.
+fn place_of_more(form: &str) -> usize {
+    match form.split(' ').position(|name| name.ends_with(MORE)) {
+        Some(place) => place,
+        None => count_of(form),
+    }
 }
 
 /// What a word is, by what help calls it.
@@ -131,23 +157,22 @@ fn push_command_fault(out: &mut Page, command: &str, form: &str, words: &[String
     } else {
         push_wrong_count(out, command, form, words.len());
     }
-    let more = if goes_on { ".." } else { "" };
-    out.push_all(&["\n  cmdwall ", command, " ", form, more]);
+    out.push_all(&["\n  cmdwall ", command, " ", form]);
 }
 
-/// Whether more words may follow the last one.
+/// Whether there may be more words.
 fn goes_on(form: &str) -> bool {
-    has_places(form) || has_captures(form)
+    form.contains(MORE)
 }
 
-/// Whether more captures may follow the last word.
+/// Whether there may be more captures.
 fn has_captures(form: &str) -> bool {
-    form.ends_with(" OUT CAPTURE")
+    form.contains("CAPTURE..")
 }
 
-/// Whether more places may follow the last word.
+/// Whether there may be more places.
 fn has_places(form: &str) -> bool {
-    form.ends_with(PLACE)
+    form.contains("PORT..")
 }
 
 /// Too few or too many words.
@@ -182,7 +207,7 @@ fn push_words_fault(out: &mut Page, command: &str, form: &str, words: &[String])
 /// Says what is wrong with the first word that is none of its role, if there is one, and whether it did.
 fn push_word_faults(out: &mut Page, form: &str, words: &[String]) -> bool {
     for (index, word) in words.iter().enumerate() {
-        let name = name_at(form, index);
+        let name = name_at(form, words.len(), index);
         if !has_role(role_of(name), word.as_str()) {
             push_word_fault(out, name, word.as_str());
             push_exchange(out, form, words, name, word.as_str());
@@ -228,7 +253,7 @@ fn push_word_fault(out: &mut Page, name: &str, word: &str) {
 /// Asks whether a word that is none of its role was exchanged with that of a file or an asset: each can be what the other is not.
 fn push_exchange(out: &mut Page, form: &str, words: &[String], name: &str, word: &str) {
     for (index, other) in words.iter().enumerate() {
-        let place = name_at(form, index);
+        let place = name_at(form, words.len(), index);
         if is_free(place) && !word.is_empty() && has_role(role_of(name), other.as_str()) {
             out.push_all(&["; ", place, " is "]);
             push_quoted(out, other.as_str());
@@ -276,9 +301,9 @@ fn push_twins(out: &mut Page, form: &str, words: &[String]) -> bool {
     for (index, word) in words.iter().enumerate() {
         if let Some(earlier) = twin_of(form, words, index) {
             out.push_all(&[
-                name_at(form, earlier),
+                name_at(form, words.len(), earlier),
                 " and ",
-                name_at(form, index),
+                name_at(form, words.len(), index),
                 " are both ",
             ]);
             push_quoted(out, word.as_str());
@@ -334,8 +359,12 @@ fn first_again(places: &[String]) -> Option<&str> {
 
 /// Whether one of the places has this asset or endpoint.
 fn some_has(places: &[String], part: Option<&str>) -> bool {
-    places.iter().any(|place| name_of(place.as_str()) == part
-        || endpoint_of(place.as_str()) == part)
+    for place in places {
+        if name_of(place.as_str()) == part || endpoint_of(place.as_str()) == part {
+            return true;
+        }
+    }
+    false
 }
 
 /// The name of a place's asset.
@@ -346,15 +375,26 @@ fn name_of(word: &str) -> Option<&str> {
 
 /// The first file before that of an index that has the same name.
 fn twin_of(form: &str, words: &[String], index: usize) -> Option<usize> {
-    let word = words.get(index)?;
-    let earlier = words
-        .iter()
-        .position(|other| other.as_str() == word.as_str())?;
-    if earlier < index && is_file(name_at(form, index)) && is_file(name_at(form, earlier)) {
+    let earlier = first_equal(words, words.get(index)?.as_str())?;
+    let count = words.len();
+    if earlier < index
+        && is_file(name_at(form, count, index))
+        && is_file(name_at(form, count, earlier))
+    {
         Some(earlier)
     } else {
         None
     }
+}
+
+/// The index of the first word that is this one.
+fn first_equal(words: &[String], word: &str) -> Option<usize> {
+    for (index, other) in words.iter().enumerate() {
+        if other.as_str() == word {
+            return Some(index);
+        }
+    }
+    None
 }
 
 fn is_file(name: &str) -> bool {

@@ -144,12 +144,22 @@ fn first_unknown<'a>(sets: &[Value], entries: &'a [Value]) -> Option<(usize, &'a
     for entry in entries {
         number = number.saturating_add(1);
         if let Some(name) = set_named(entry) {
-            if !sets.iter().any(|set| name_of(set) == name) {
+            if !is_set(sets, name) {
                 return Some((number, entry, name));
             }
         }
     }
     None
+}
+
+/// Whether one of the sets has this name.
+fn is_set(sets: &[Value], name: &str) -> bool {
+    for set in sets {
+        if name_of(set) == name {
+            return true;
+        }
+    }
+    false
 }
 
 /// The name after `@` of an entry that names a set.

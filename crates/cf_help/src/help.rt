@@ -49,9 +49,9 @@ usage:
   cmdwall judge POLICY CAPTURE
       says whether what clients sent to the assets in a capture keeps POLICY, whoever recorded
       it, and else prints the first record with which something is wrong
-  cmdwall review POLICY CAPTURE LOG
-      writes a line for all that POLICY objects to in what clients sent in a capture: each
-      command that it refuses, and all else with which something is wrong
+  cmdwall review POLICY CAPTURE.. LOG
+      writes a line for all that POLICY objects to in what clients sent in 1 to 64 captures:
+      each command that it refuses, and all else with which something is wrong
   cmdwall help COMMAND
       says more of one command, with an example
   cmdwall --help
@@ -71,8 +71,8 @@ status:
    6  the capture is refused: 1 it is short, 2 its magic, 3 its version, 4 its link type,
       5 a record of more than 262,144 bytes, 6 a moment of 2^32 seconds or more, 7 a byte
       at place 2^40, 9 the length of a pcapng block or what stands in it, 10 a section
-      header, 11 an interface, 12 a unit of time; and for judge, review, learn and draft 8
-      more than 67,108,864 bytes
+      header, 11 an interface, 12 a unit of time; and for judge and learn 8 more than
+      67,108,864 bytes
    7  the capture ends inside the record or the block that begins at the printed place
    8  the port, the client or the controller of a relay failed; or a place of serve cannot be
       listened at, or its wait or clock failed
@@ -179,8 +179,8 @@ writes a first policy that allows what captures show, as a person would have wri
 
   POLICY    a text in the policy language (docs/POLICY.md) with the assets; its rules play no part
   OUT       is created behind all else, and gets the policy, of version 3
-  CAPTURE   1 to 64 pcap or pcapng files in their order, each of at most 67,108,864 bytes, of
-            Ethernet, raw IP or Linux cooked, which are read as review reads them
+  CAPTURE   1 to 64 pcap or pcapng files in the order in which they were recorded, of Ethernet,
+            raw IP or Linux cooked, which are read as one recording, as review reads them
 
 All names differ. A rule has all codes, groups, points, values and clients that belong together.
 Above it stands how many commands it would have let through, from when to when (UTC), and how the
@@ -242,18 +242,18 @@ example:
 ";
 
 const REVIEW: &str = "\
-cmdwall review POLICY CAPTURE LOG
+cmdwall review POLICY CAPTURE.. LOG
 
-writes all that POLICY objects to in what clients sent to its assets in a capture, a line each
+writes all that POLICY objects to in what clients sent to its assets in a recording, a line each
 (docs/REVIEW.md): what a box with POLICY would have met there
 
   POLICY   a text in the policy language (docs/POLICY.md)
-  CAPTURE  a pcap or pcapng file, of Ethernet, raw IP or 'tcpdump -i any', of at most
-           67,108,864 bytes
+  CAPTURE  1 to 64 pcap or pcapng files, of Ethernet, raw IP or 'tcpdump -i any', in the order in
+           which they were recorded: a flow goes on from one to the next
   LOG      is created behind all else, and gets the lines, in the order of the records
 
-The three names differ. A flow is what one client sends to one asset, from a SYN on, or from its
-first data in the capture on; VLAN tags are passed over, and a TCP sum of the pseudo header
+All names differ. A flow is what one client sends to one asset, from a SYN on, or from its
+first data in the captures on; VLAN tags are passed over, and a TCP sum of the pseudo header
 alone, as a sending host records it, counts as right. Each line has the moment of the record
 with which the thing was whole, the client, the asset, and one of
 
@@ -261,7 +261,7 @@ with which the thing was whole, the client, the asset, and one of
   stray client WHY      a frame, segment or fragment of DNP3 that belongs to nothing
   broken WHY            the bytes are no units of the protocol; the flow is read up to here
   conflict POSITION     two packets carry different bytes at one position of the flow
-  begins midstream      the SYN of the flow is not in the capture; it is read from the first place
+  begins midstream      the SYN of the flow is not in the captures; it is read from the first place
                         on at which a unit of the protocol begins
   gap POSITION          the flow's first bytes end here, as where a packet was not recorded, and
                         it has others, which are read so too; one line a flow
@@ -269,7 +269,7 @@ with which the thing was whole, the client, the asset, and one of
 Standard output has the numbers of flows, of commands, of those that POLICY allows and refuses,
 by what refuses them, of strays and conflicts, and of flows that are broken. The status is 0
 where there is no line, and 15 where there is one. How often a rule lets commands through plays no part, nor do the numbers of
-IEC 60870-5-104. Nothing is written where the capture is refused or cut.
+IEC 60870-5-104. Nothing is written where a capture is refused or cut.
 
 example:
   cmdwall review examples/pump.toml examples/four.pcap log.txt

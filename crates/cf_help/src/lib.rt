@@ -1,6 +1,7 @@
 //! What the program says of itself, and on standard error beside what its work prints.
 #![tactic(auto)]
 
+mod compared;
 mod help;
 mod remark;
 mod say;

@@ -1,26 +1,129 @@
 //! What standard error says after work that was done: what a run cannot know, and why a capture shows nothing.
 
-use crate::say::say_lines;
+use crate::compared::explain_comparison;
+use crate::say::{print_lines, say_lines};
 use crate::why::policy_again;
-use cf_explain::{PolicyFile, kept_text};
+use cf_ending::{Denial, Done, Stop};
+use cf_explain::policy_warnings;
 use cf_machine::RealFiles;
 use cf_policy::Asset;
 use cf_remarks::{Reading, learned_text, run_text, survey_capture, survey_text};
 use cf_run::Summary;
+use cf_words::Command;
 use std::rt::Files as FileSystem;
 use std::{fs, io};
 
-/// Says what a run cannot know of its capture, by what it counted. CAPTURE is read again only where records were dropped, for why they
-/// were.
-pub(crate) fn remark_on_run<R: FileSystem + Eprint + AllocGlobal>(
+/// Says what there is to say of work that was done.
+pub(crate) fn remark<R: FileSystem + Eprint + AllocGlobal>(
     rt: &R,
-    capture: &str,
-    told: Option<&Summary>,
+    command: &Command<'_>,
+    done: &Done,
     files: &mut RealFiles<'_, R>,
 ) -> io::Result<()> {
-    let Some(summary) = told else {
+    match (command, done) {
+        (Command::Check { policy }, _) => warn(rt, policy, files),
+        (Command::Compare { policy, other }, _) => {
+            explain_comparison(rt, [*policy, *other], None, files)
+        }
+        (
+            Command::Learn {
+                policy,
+                capture,
+                out,
+            },
+            Done::Checked { rules, .. },
+        ) => {
+            remark_on_learned(rt, policy, capture, *rules, files)?;
+            warn_of_learned(rt, out)
+        }
+        (Command::Draft { out, .. }, Done::Drafted { widened, .. }) => {
+            remark_on_drafted(rt, out, *widened)?;
+            warn_of_learned(rt, out)
+        }
+        (Command::Judge { policy, capture }, Done::Unobjected { flows, .. }) => {
+            remark_on_judged(rt, policy, capture, *flows, files)
+        }
+        (
+            Command::Review {
+                policy,
+                captures,
+                ..
+            },
+            Done::Reviewed(counts),
+        ) => { remark_on_reviewed(rt, policy, captures, counts.flows, files) }
+        (Command::Packets { capture }, Done::Listed { dropped }) => {
+            remark_on_listed(rt, capture, *dropped, files)
+        }
+        (Command::Run { names, .. }, Done::Ran(summary)) => {
+            remark_on_run(rt, names.capture, summary, files)
+        }
+        _ => Ok(()),
+    }
+}
+
+/// Says what there is to say where a judge or a review objects to something.
+pub(crate) fn remark_on_objected<R: FileSystem + Eprint + AllocGlobal>(
+    rt: &R,
+    command: &Command<'_>,
+    stop: &Stop,
+    files: &mut RealFiles<'_, R>,
+) -> io::Result<()> {
+    match (command, stop) {
+        (Command::Judge { policy, capture }, _) => {
+            remark_on_capture(rt, policy, capture, Reading::FromSyn, files)
+        }
+        (
+            Command::Review {
+                policy,
+                captures,
+                ..
+            },
+            Stop::Denied(Denial::Remarks(counts)),
+        ) => { remark_on_reviewed(rt, policy, captures, counts.flows, files) }
+        _ => Ok(()),
+    }
+}
+
+/// Warns of rules that decide nothing.
+fn warn<R: FileSystem + Eprint + AllocGlobal>(
+    rt: &R,
+    name: &str,
+    files: &RealFiles<'_, R>,
+) -> io::Result<()> {
+    match policy_again(rt, name, files) {
+        Some(policy) => {
+            let text = files.text_of(name).unwrap_or(&[]);
+            say_lines(rt, policy_warnings(rt.alloc(), name, text, &policy))
+        }
+        None => Ok(()),
+    }
+}
+
+/// What a learned policy is not.
+fn warn_of_learned<R: Eprint>(rt: &R, out: &str) -> io::Result<()> {
+    eprintln!(rt;
+        "cmdwall: {out} also allows what an intruder did while the capture was taken: read it before use"
+    )
+}
+
+/// That a draft has assets that were widened, if it has.
+fn remark_on_drafted<R: Eprint>(rt: &R, out: &str, widened: u64) -> io::Result<()> {
+    if widened == 0 {
         return Ok(());
-    };
+    }
+    eprintln!(rt;
+        "cmdwall: {out} allows more than was recorded, of each asset that would have more than 32 rules: its comments say what was widened"
+    )
+}
+
+/// Says what a run cannot know of its capture, by what it counted. CAPTURE is read again only where records were dropped, for why they
+/// were.
+fn remark_on_run<R: FileSystem + Eprint + AllocGlobal>(
+    rt: &R,
+    capture: &str,
+    summary: &Summary,
+    files: &mut RealFiles<'_, R>,
+) -> io::Result<()> {
     if summary.dropped > 0 {
         remark_on_dropped(rt, capture, files)?;
     }
@@ -40,14 +143,14 @@ fn remark_on_dropped<R: FileSystem + Eprint + AllocGlobal>(
     }
 }
 
-/// Says why records were dropped, where the end of a listing has one.
-pub(crate) fn remark_on_listed<R: FileSystem + Eprint + AllocGlobal>(
+/// Says why records were dropped, where a listing has such ones.
+fn remark_on_listed<R: FileSystem + Eprint + AllocGlobal>(
     rt: &R,
     capture: &str,
-    printed: &str,
+    dropped: u64,
     files: &mut RealFiles<'_, R>,
 ) -> io::Result<()> {
-    if !printed.contains(" dropped ") {
+    if dropped == 0 {
         return Ok(());
     }
     remark_on_unread(rt, &[], capture, Reading::FromSyn, files)
@@ -78,25 +181,22 @@ fn remark_on_capture<R: FileSystem + Eprint + AllocGlobal>(
     reading: Reading,
     files: &mut RealFiles<'_, R>,
 ) -> io::Result<()> {
-    if !is_file(rt, policy) {
-        return Ok(());
-    }
     match policy_again(rt, policy, files) {
-        Some((read, _)) => remark_on_unread(rt, read.assets.as_slice(), capture, reading, files),
+        Some(read) => remark_on_unread(rt, read.assets.as_slice(), capture, reading, files),
         None => Ok(()),
     }
 }
 
 /// Says first, where nothing was judged, that a capture has no connection to an asset from its beginning on; then what of it is not
 /// read.
-pub(crate) fn remark_on_judged<R: FileSystem + Eprint + AllocGlobal>(
+fn remark_on_judged<R: FileSystem + Eprint + AllocGlobal>(
     rt: &R,
     policy: &str,
     capture: &str,
-    printed: &str,
+    flows: u64,
     files: &mut RealFiles<'_, R>,
 ) -> io::Result<()> {
-    if printed == "yes flows 0 commands 0\n" {
+    if flows == 0 {
         eprintln!(rt;
             "cmdwall: note: no connection to an asset of POLICY begins in CAPTURE: no SYN goes to an asset's address and port"
         )?;
@@ -104,84 +204,79 @@ pub(crate) fn remark_on_judged<R: FileSystem + Eprint + AllocGlobal>(
     remark_on_capture(rt, policy, capture, Reading::FromSyn, files)
 }
 
-/// Says first, where nothing was reviewed, that a capture has no connection to an asset at all; then what of it is not read.
-pub(crate) fn remark_on_reviewed<R: FileSystem + Eprint + AllocGlobal>(
+/// Says first, where nothing was reviewed, that the captures have no connection to an asset at all; then what of them is not read: of several
+/// of each by itself, behind its name.
+fn remark_on_reviewed<R: FileSystem + Eprint + AllocGlobal>(
     rt: &R,
     policy: &str,
-    capture: &str,
-    printed: &str,
+    captures: &[String],
+    flows: u64,
     files: &mut RealFiles<'_, R>,
 ) -> io::Result<()> {
-    if printed.starts_with("flows 0\n") {
+    if flows == 0 {
         eprintln!(rt;
             "cmdwall: note: no connection to an asset of POLICY is in CAPTURE: neither a SYN nor data goes to an asset's address and port"
         )?;
     }
-    remark_on_capture(rt, policy, capture, Reading::Amid, files)
+    match policy_again(rt, policy, files) {
+        Some(read) => remark_on_each(rt, read.assets.as_slice(), captures, files),
+        None => Ok(()),
+    }
+}
+
+/// Says what of each capture is not read.
+fn remark_on_each<R: FileSystem + Eprint + AllocGlobal>(
+    rt: &R,
+    assets: &[Asset],
+    captures: &[String],
+    files: &mut RealFiles<'_, R>,
+) -> io::Result<()> {
+    for capture in captures {
+        let name = capture.as_str();
+        if let Some(text) = unread_text(rt, assets, name, files) {
+            if captures.len() > 1 && !text.is_empty() {
+                eprintln!(rt; "cmdwall: note: of {name}, read by itself:")?;
+            }
+            print_lines(rt, &text)?;
+        }
+    }
+    Ok(())
+}
+
+/// What is said of what is not read of a capture of a recording, if it can be read again.
+fn unread_text<R: FileSystem + AllocGlobal>(
+    rt: &R,
+    assets: &[Asset],
+    capture: &str,
+    files: &mut RealFiles<'_, R>,
+) -> Option<String> {
+    if !is_file(rt, capture) {
+        return None;
+    }
+    let found = survey_capture(rt.alloc(), assets, capture, Reading::Amid, files)?;
+    survey_text(rt.alloc(), &found, Reading::Amid).ok()
 }
 
 /// Says first, where nothing was learned, that a capture has no connection to an asset from its beginning on; then what of it is not
 /// read, and what each client sent.
-pub(crate) fn remark_on_learned<R: FileSystem + Eprint + AllocGlobal>(
+fn remark_on_learned<R: FileSystem + Eprint + AllocGlobal>(
     rt: &R,
     policy: &str,
     capture: &str,
-    printed: &str,
+    rules: u64,
     files: &mut RealFiles<'_, R>,
 ) -> io::Result<()> {
-    if printed.ends_with(" 0\n") {
+    if rules == 0 {
         eprintln!(rt;
             "cmdwall: note: nothing is learned: no command that can be read goes to an asset of POLICY in a connection that begins in CAPTURE"
         )?;
     }
     remark_on_capture(rt, policy, capture, Reading::FromSyn, files)?;
-    if !is_file(rt, policy) || !is_file(rt, capture) {
+    if !is_file(rt, capture) {
         return Ok(());
     }
     match policy_again(rt, policy, files) {
-        Some((read, _)) => say_lines(rt, learned_text(rt.alloc(), &read, capture, files)),
-        None => Ok(()),
-    }
-}
-
-/// Says of a policy that is included in another which rates and logs of their rules differ.
-pub(crate) fn remark_on_included<R: FileSystem + Eprint + AllocGlobal>(
-    rt: &R,
-    name: &str,
-    other: &str,
-    files: &mut RealFiles<'_, R>,
-) -> io::Result<()> {
-    if !is_file(rt, name) || !is_file(rt, other) {
-        return Ok(());
-    }
-    match policy_again(rt, name, files) {
-        Some((policy, text)) => {
-            let ours = PolicyFile {
-                name,
-                text: &text,
-                policy: &policy,
-            };
-            remark_on_kept(rt, &ours, other, files)
-        }
-        None => Ok(()),
-    }
-}
-
-fn remark_on_kept<R: FileSystem + Eprint + AllocGlobal>(
-    rt: &R,
-    ours: &PolicyFile<'_>,
-    name: &str,
-    files: &mut RealFiles<'_, R>,
-) -> io::Result<()> {
-    match policy_again(rt, name, files) {
-        Some((policy, text)) => {
-            let other = PolicyFile {
-                name,
-                text: &text,
-                policy: &policy,
-            };
-            say_lines(rt, kept_text(rt.alloc(), ours, &other))
-        }
+        Some(read) => say_lines(rt, learned_text(rt.alloc(), &read, capture, files)),
         None => Ok(()),
     }
 }

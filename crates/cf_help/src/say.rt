@@ -14,7 +14,8 @@ pub(crate) fn say_lines<R: Eprint>(rt: &R, text: Result<String, AllocError>) -> 
     print_lines(rt, &text?)
 }
 
-fn print_lines<R: Eprint>(rt: &R, text: &str) -> io::Result<()> {
+/// Says each line of a text.
+pub(crate) fn print_lines<R: Eprint>(rt: &R, text: &str) -> io::Result<()> {
     for line in text.lines() {
         eprintln!(rt; "cmdwall: {line}")?;
     }

@@ -2,11 +2,12 @@
 
 use crate::help::version_text;
 use crate::say::say;
-use crate::why::{explain_fault, explain_policy, explain_words, policy_again};
+use crate::why::{expect_policy, explain_fault, explain_policy, explain_words, policy_again};
 use cf_explain::{asset_message, own_endpoint_message};
 use cf_machine::{Announcement, RealFiles};
+use cf_outside::read_whole;
 use cf_policy::{Action, Asset, Policy};
-use cf_policylang::address;
+use cf_policylang::{LONGEST_TEXT, address};
 use cf_words::printed_number_in;
 use cf_words::status::{NO_MEMORY, POLICY_REFUSED, READ_FAULT, UNKNOWN_ASSET, USAGE, WRITE_FAULT};
 use std::alloc::Global;
@@ -14,13 +15,14 @@ use std::net::Ipv4Addr;
 use std::rt::Files as FileSystem;
 use std::{fs, io};
 
-/// Notes which files the names of a service's policy and log stand for.
+/// Notes which files the names of a service's policy and log stand for, and that what is read of the policy is kept.
 pub fn expect_service_files<R: FileSystem>(
     words: &[String],
     files: &mut RealFiles<'_, R>,
 ) -> io::Result<()> {
     if let [_, policy, _, log, ..] = words {
         files.expect(policy.as_str())?;
+        expect_policy(policy.as_str(), files)?;
         files.expect_output(log.as_str())?;
     }
     Ok(())
@@ -57,8 +59,8 @@ fn policy_before<R: FileSystem + AllocGlobal>(
     if !fs::metadata(rt, name).ok()?.is_file() {
         return None;
     }
-    let (policy, _) = policy_again(rt, name, files)?;
-    Some(policy)
+    read_whole(rt.alloc(), name, LONGEST_TEXT as u64, files).ok()?;
+    policy_again(rt, name, files)
 }
 
 /// What each place is for.
@@ -133,7 +135,7 @@ pub fn explain_service<R: FileSystem + Eprint + AllocGlobal>(
     rt: &R,
     words: &[String],
     status: u8,
-    files: &mut RealFiles<'_, R>,
+    files: &RealFiles<'_, R>,
 ) -> io::Result<()> {
     let [_, policy, _, _, places @ ..] = words else {
         return explain_words(rt, words);
@@ -141,7 +143,7 @@ pub fn explain_service<R: FileSystem + Eprint + AllocGlobal>(
     match status {
         USAGE => explain_unfit(rt, words, policy.as_str(), places, files),
         READ_FAULT | WRITE_FAULT => explain_fault(rt, files),
-        POLICY_REFUSED => explain_policy(rt, policy.as_str(), files).map(|_| ()),
+        POLICY_REFUSED => explain_policy(rt, policy.as_str(), files),
         UNKNOWN_ASSET => explain_places(rt, policy.as_str(), places, files),
         NO_MEMORY => eprintln!(rt; "cmdwall: memory ran out"),
         _ => Ok(()),
@@ -154,9 +156,9 @@ fn explain_unfit<R: FileSystem + Eprint + AllocGlobal>(
     words: &[String],
     name: &str,
     places: &[String],
-    files: &mut RealFiles<'_, R>,
+    files: &RealFiles<'_, R>,
 ) -> io::Result<()> {
-    if let Some(policy) = policy_before(rt, name, files) {
+    if let Some(policy) = policy_again(rt, name, files) {
         for place in places {
             if let Some(asset) = asset_at(&policy, place.as_str()) {
                 let alloc = rt.alloc();
@@ -182,10 +184,10 @@ fn explain_places<R: FileSystem + Eprint + AllocGlobal>(
     rt: &R,
     name: &str,
     places: &[String],
-    files: &mut RealFiles<'_, R>,
+    files: &RealFiles<'_, R>,
 ) -> io::Result<()> {
     match policy_again(rt, name, files) {
-        Some((policy, _)) => explain_missing(rt, name, &policy, places),
+        Some(policy) => explain_missing(rt, name, &policy, places),
         None => Ok(()),
     }
 }

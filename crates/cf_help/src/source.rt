@@ -1,7 +1,7 @@
 //! Which source the program was built from: the launcher writes this file as it makes dist/, and its own sum leaves it out.
 
 /// The day of the source, in UTC.
-pub(crate) const DATE: &str = "2026-11-30";
+pub(crate) const DATE: &str = "2026-12-01";
 
 /// The first twelve digits of the sum of the source.
-pub(crate) const SOURCE: &str = "e2d6d5aea5f2";
+pub(crate) const SOURCE: &str = "ce9b226bd805";

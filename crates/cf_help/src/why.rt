@@ -2,40 +2,27 @@
 ghost use Rattle.std.specs.Prelude.{IfSome};
 ghost use Rattle.cf_policy.specs.Within.{IsWithin};
 
-use crate::remark::{
-    remark_on_included, remark_on_judged, remark_on_learned, remark_on_listed, remark_on_reviewed,
-    remark_on_run,
-};
-use crate::say::{say, say_lines};
-use cf_explain::{
-    PolicyFile, asset_message, capture_message, differences_text, inclusion_message,
-    outputs_message, policy_message, policy_warnings, words_message,
-};
+use crate::compared::explain_comparison;
+use crate::remark::{remark, remark_on_objected};
+use crate::say::say;
+use cf_ending::{Denial, Done, Stop};
+use cf_explain::{asset_message, capture_message, outputs_message, policy_message, words_message};
 use cf_machine::{LinkFault, Part, RealFiles, Withheld};
-use cf_outside::{Files, ReadAnswer, WholeFault, read_whole};
+use cf_outside::{Files, ReadAnswer};
 use cf_policy::Policy;
-use cf_policylang::{Cause, Key, LONGEST_TEXT, PolicyFault, PolicyRefusal, read_policy};
-use cf_run::Summary;
+use cf_policylang::{LONGEST_TEXT, PolicyFault, PolicyRefusal, read_policy};
 use cf_view::LinkSet;
 use cf_watch::CAPTURE_LIMIT;
-use cf_words::status::{
-    CAPTURE_CUT, CAPTURE_REFUSED, DENIED, DONE, IDLE_END, LINK_FAULT, NO_MEMORY, POLICY_REFUSED,
-    READ_FAULT, STREAM_CUT, TOO_MANY_CELLS, TOO_MANY_RULES, UNKNOWN_ASSET, WRITE_FAULT,
-};
+use cf_words::status::{CAPTURE_CUT, CAPTURE_REFUSED, WRITE_FAULT};
 use cf_words::{Command, read_words};
 use std::alloc::AllocError;
 use std::io;
 use std::rt::Files as FileSystem;
 
-/// The refusal of a policy's file for its size.
-const TOO_LONG: PolicyRefusal = PolicyRefusal {
-    number: Cause::TooMany as u8,
-    key: Key::Nothing,
-    asset: 0,
-    rule: 0,
-};
+/// How many octets are kept of what is read of a policy: one more than it may have, so that it is seen where it has more.
+const MOST_KEPT: usize = LONGEST_TEXT + 1;
 
-/// The files that a command reads, but for the captures of a draft; an empty name stands for none.
+/// The files that a command reads, but for the captures of a recording; an empty name stands for none.
 fn inputs_of<'a>(command: &Command<'a>) -> [&'a str; 2] {
     match command {
         Command::Check { policy }
@@ -47,13 +34,8 @@ fn inputs_of<'a>(command: &Command<'a>) -> [&'a str; 2] {
             policy,
             capture,
             ..
-        }
-        | Command::Review {
-            policy,
-            capture,
-            ..
         } => [*policy, *capture],
-        Command::Draft { policy, .. } => [*policy, ""],
+        Command::Draft { policy, .. } | Command::Review { policy, .. } => [*policy, ""],
         Command::Packets { capture } => [*capture, ""],
         Command::Run { policy, names } => [*policy, names.capture],
         Command::Sift { policy, names, .. } => [*policy, names.stream],
@@ -61,10 +43,10 @@ fn inputs_of<'a>(command: &Command<'a>) -> [&'a str; 2] {
     }
 }
 
-/// The captures of a draft.
+/// The captures that a command reads as one recording.
 fn captures_of<'a>(command: &Command<'a>) -> &'a [String] {
     match command {
-        Command::Draft { captures, .. } => *captures,
+        Command::Draft { captures, .. } | Command::Review { captures, .. } => *captures,
         _ => &[],
     }
 }
@@ -86,7 +68,7 @@ fn outputs_of<'a>(command: &Command<'a>) -> [&'a str; 4] {
     }
 }
 
-/// Notes which files the names of a command stand for.
+/// Notes which files the names of a command stand for, and that what is read of its policies is kept.
 pub fn expect_files<R: FileSystem>(
     command: &Command<'_>,
     files: &mut RealFiles<'_, R>,
@@ -104,33 +86,40 @@ pub fn expect_files<R: FileSystem>(
             files.expect_output(name)?;
         }
     }
+    for name in policies_of(command) {
+        if !name.is_empty() {
+            expect_policy(name, files)?;
+        }
+    }
     Ok(())
 }
 
-/// Says why the work ended with this status, of a policy that was checked what is to be warned of, and what a run cannot know, which
-/// told these counts; `printed` is the end of what standard output has.
+/// Notes that what is read of a policy is kept.
+pub(crate) fn expect_policy<R: FileSystem>(
+    name: &str,
+    files: &mut RealFiles<'_, R>,
+) -> io::Result<()> {
+    files.keep_text(name, MOST_KEPT)
+}
+
+/// Says why the work ended so, of a policy that was checked what is to be warned of, and what a run cannot know. `told` is how it ended,
+/// nothing where the words have no form; the status is that of it, or that of a write fault behind it.
 pub fn explain<R: FileSystem + Eprint + AllocGlobal>(
     rt: &R,
     words: &[String],
+    told: Option<&Result<Done, Stop>>,
     status: u8,
-    printed: &str,
-    told: Option<&Summary>,
     files: &mut RealFiles<'_, R>,
     link: Option<&LinkFault>,
 ) {
-    let _ = match read_words(words) {
-        Some(_) if status == LINK_FAULT => explain_link(rt, link),
-        Some(command) if status == DONE || is_objection(&command, status) => {
-            remark(rt, &command, printed, told, files)
+    let _ = match (read_words(words), told) {
+        (Some(command), Some(_)) if status == WRITE_FAULT => {
+            explain_unwritten(rt, &command, files)
         }
-        Some(command) => explain_command(rt, &command, status, files),
-        None => explain_words(rt, words),
+        (Some(command), Some(Ok(done))) => remark(rt, &command, done, files),
+        (Some(command), Some(Err(stop))) => explain_stop(rt, &command, stop, files, link),
+        _ => explain_words(rt, words),
     };
-}
-
-/// Whether a judge or a review was done and objects to something.
-fn is_objection(command: &Command<'_>, status: u8) -> bool {
-    status == DENIED && matches!(command, Command::Judge { .. } | Command::Review { .. })
 }
 
 /// Which word is wrong, and how the words have to be.
@@ -138,83 +127,81 @@ pub(crate) fn explain_words<R: Eprint + AllocGlobal>(rt: &R, words: &[String]) -
     say(rt, words_message(rt.alloc(), words))
 }
 
-/// What is said of work that was done.
-fn remark<R: FileSystem + Eprint + AllocGlobal>(
+/// Why the work stopped.
+fn explain_stop<R: FileSystem + Eprint + AllocGlobal>(
     rt: &R,
     command: &Command<'_>,
-    printed: &str,
-    told: Option<&Summary>,
+    stop: &Stop,
     files: &mut RealFiles<'_, R>,
+    link: Option<&LinkFault>,
 ) -> io::Result<()> {
-    match command {
-        Command::Check { policy } => warn(rt, policy, files),
-        Command::Compare { policy, other } => remark_on_included(rt, policy, other, files),
-        Command::Learn {
-            policy,
-            capture,
-            out,
-        } => {
-            remark_on_learned(rt, policy, capture, printed, files)?;
-            warn_of_learned(rt, out)
+    match stop {
+        Stop::ReadFault => explain_fault(rt, files),
+        Stop::WriteFault => explain_unwritten(rt, command, files),
+        Stop::PolicyRefused(refusal) => explain_refused(rt, command, refusal, files),
+        Stop::CaptureRefused(_) => explain_bad_capture(rt, command, CAPTURE_REFUSED, files),
+        Stop::CaptureCut(_) | Stop::RunCut(..) => {
+            explain_bad_capture(rt, command, CAPTURE_CUT, files)
         }
-        Command::Draft { out, .. } => {
-            remark_on_drafted(rt, out, printed)?;
-            warn_of_learned(rt, out)
+        Stop::LinkFault => explain_link(rt, link),
+        Stop::UnknownAsset => explain_asset(rt, command, files),
+        Stop::NoMemory => explain_lack(rt, command, files),
+        Stop::Denied(Denial::Objects(_) | Denial::Remarks(_)) => {
+            remark_on_objected(rt, command, stop, files)
         }
-        Command::Judge { policy, capture } => {
-            remark_on_judged(rt, policy, capture, printed, files)
+        Stop::Denied(_) | Stop::TooManyCells(_) => {
+            explain_comparison(rt, policies_of(command), Some(stop), files)
         }
-        Command::Review {
-            policy,
-            capture,
-            ..
-        } => remark_on_reviewed(rt, policy, capture, printed, files),
-        Command::Packets { capture } => remark_on_listed(rt, capture, printed, files),
-        Command::Run { names, .. } => remark_on_run(rt, names.capture, told, files),
-        _ => Ok(()),
+        Stop::IdleEnd | Stop::Cut(_) | Stop::TooManyRules(_) => explain_words_of(rt, stop),
     }
 }
 
-/// Why the work ended with a status other than 0.
-fn explain_command<R: FileSystem + Eprint + AllocGlobal>(
-    rt: &R,
-    command: &Command<'_>,
-    status: u8,
-    files: &mut RealFiles<'_, R>,
-) -> io::Result<()> {
-    match status {
-        READ_FAULT => explain_fault(rt, files),
-        WRITE_FAULT => {
-            explain_fault(rt, files)?;
-            explain_outputs(rt, command, files)
-        }
-        POLICY_REFUSED => explain_refused(rt, command, files),
-        CAPTURE_REFUSED | CAPTURE_CUT => explain_bad_capture(rt, command, status, files),
-        NO_MEMORY => {
-            explain_status(rt, status)?;
-            explain_outputs(rt, command, files)
-        }
-        UNKNOWN_ASSET | DENIED | TOO_MANY_CELLS => explain_denial(rt, command, files),
-        _ => explain_status(rt, status),
-    }
+/// What a stop says by itself.
+fn explain_words_of<R: Eprint>(rt: &R, stop: &Stop) -> io::Result<()> {
+    let words = match stop {
+        Stop::IdleEnd =>
+            "nothing came for so long that the relay ended; the log has what came before",
+        Stop::Cut(_) => "the stream is cut; the outputs have what came before the cut",
+        Stop::TooManyRules(_) =>
+            "the asset would have more than 1,024 rules; a capture of fewer clients and acts has fewer",
+        _ => return Ok(()),
+    };
+    eprintln!(rt; "cmdwall: {words}")
 }
 
-/// The policy that is refused, the first of two that is.
+/// That memory ran out, and what stands in the files that the command makes.
+fn explain_lack<R: FileSystem + Eprint + AllocGlobal>(
+    rt: &R,
+    command: &Command<'_>,
+    files: &RealFiles<'_, R>,
+) -> io::Result<()> {
+    eprintln!(rt; "cmdwall: memory ran out")?;
+    explain_outputs(rt, command, files)
+}
+
+/// Which file could not be written, and what stands in those that the command makes.
+fn explain_unwritten<R: FileSystem + Eprint + AllocGlobal>(
+    rt: &R,
+    command: &Command<'_>,
+    files: &RealFiles<'_, R>,
+) -> io::Result<()> {
+    explain_fault(rt, files)?;
+    explain_outputs(rt, command, files)
+}
+
+/// The policy that is refused, and why. The second of two was read only where the first means one.
 fn explain_refused<R: FileSystem + Eprint + AllocGlobal>(
     rt: &R,
     command: &Command<'_>,
-    files: &mut RealFiles<'_, R>,
+    refusal: &PolicyRefusal,
+    files: &RealFiles<'_, R>,
 ) -> io::Result<()> {
-    let Some(policy) = policy_of(command) else {
-        return Ok(());
+    let [policy, other] = policies_of(command);
+    let name = match files.text_of(other) {
+        Some(_) => other,
+        None => policy,
     };
-    let is_told = explain_policy(rt, policy, files)?;
-    if let Command::Compare { other, .. } = command {
-        if !is_told {
-            explain_policy(rt, other, files)?;
-        }
-    }
-    Ok(())
+    say_refused(rt, name, files.text_of(name).unwrap_or(&[]), refusal)
 }
 
 /// Why a capture is refused, or where it is cut.
@@ -229,13 +216,9 @@ fn explain_bad_capture<R: FileSystem + Eprint + AllocGlobal>(
             explain_capture(rt, LinkSet::Plain, names.capture, true, files)
         }
         Command::Judge { capture, .. } | Command::Learn { capture, .. }
-            if status == CAPTURE_REFUSED => explain_watched(rt, LinkSet::Plain, capture, files),
-        Command::Draft { captures, .. } => explain_captures(rt, captures, status, files),
-        Command::Review { capture, .. } if status == CAPTURE_REFUSED => {
-            explain_watched(rt, LinkSet::Recorded, capture, files)
-        }
-        Command::Review { capture, .. } => {
-            explain_capture(rt, LinkSet::Recorded, capture, false, files)
+            if status == CAPTURE_REFUSED => explain_watched(rt, capture, files),
+        Command::Draft { captures, .. } | Command::Review { captures, .. } => {
+            explain_captures(rt, captures, files)
         }
         Command::Judge { capture, .. }
         | Command::Learn { capture, .. }
@@ -244,34 +227,6 @@ fn explain_bad_capture<R: FileSystem + Eprint + AllocGlobal>(
         }
         _ => Ok(()),
     }
-}
-
-/// What a policy has in place of what was asked for.
-fn explain_denial<R: FileSystem + Eprint + AllocGlobal>(
-    rt: &R,
-    command: &Command<'_>,
-    files: &mut RealFiles<'_, R>,
-) -> io::Result<()> {
-    match command {
-        Command::Sift { policy, asset, .. } | Command::Relay { policy, asset, .. } => {
-            explain_asset(rt, policy, asset, files)
-        }
-        Command::Compare { policy, other } => explain_inclusion(rt, policy, other, files),
-        _ => Ok(()),
-    }
-}
-
-/// What a status says by itself, if it says something.
-fn explain_status<R: Eprint>(rt: &R, status: u8) -> io::Result<()> {
-    let words = match status {
-        IDLE_END => "nothing came for so long that the relay ended; the log has what came before",
-        STREAM_CUT => "the stream is cut; the outputs have what came before the cut",
-        NO_MEMORY => "memory ran out",
-        TOO_MANY_RULES =>
-            "the asset would have more than 1,024 rules; a capture of fewer clients and acts has fewer",
-        _ => return Ok(()),
-    };
-    eprintln!(rt; "cmdwall: {words}")
 }
 
 /// Why an output was withheld, or the file that failed and what the system said.
@@ -359,47 +314,35 @@ fn outputs_that<'a, R: FileSystem + AllocGlobal>(
     Ok(found)
 }
 
-/// The policy's file of a command.
-fn policy_of<'a>(command: &Command<'a>) -> Option<&'a str> {
+/// The policies that a command reads; an empty name stands for none.
+pub(crate) fn policies_of<'a>(command: &Command<'a>) -> [&'a str; 2] {
     match command {
-        Command::Packets { .. } => None,
+        Command::Packets { .. } | Command::World { .. } => ["", ""],
+        Command::Compare { policy, other } => [*policy, *other],
         Command::Check { policy }
-        | Command::Compare { policy, .. }
         | Command::Draft { policy, .. }
         | Command::Judge { policy, .. }
         | Command::Learn { policy, .. }
         | Command::Migrate { policy, .. }
         | Command::Review { policy, .. }
         | Command::Run { policy, .. }
-        | Command::World { policy, .. }
         | Command::Relay { policy, .. }
-        | Command::Sift { policy, .. } => Some(*policy),
+        | Command::Sift { policy, .. } => [*policy, ""],
     }
 }
 
-/// Why a policy is refused, and whether it is. A pipe cannot be read a second time, so no more is said of it.
+/// Why the policy that was read of a file is refused, if it is.
 pub(crate) fn explain_policy<R: FileSystem + Eprint + AllocGlobal>(
     rt: &R,
     name: &str,
-    files: &mut RealFiles<'_, R>,
-) -> io::Result<bool> {
-    match read_whole(rt.alloc(), name, LONGEST_TEXT as u64, files) {
-        Ok(text) => explain_text(rt, name, &text),
-        Err(WholeFault::TooLong) => say_refused(rt, name, &[], &TOO_LONG),
-        Err(_) => {
-            eprintln!(rt;
-                "cmdwall: {name}: its text cannot be read a second time, so no more is said"
-            )?;
-            Ok(false)
-        }
-    }
-}
-
-/// Why a text is refused, and whether it is.
-fn explain_text<R: Eprint + AllocGlobal>(rt: &R, name: &str, text: &[u8]) -> io::Result<bool> {
+    files: &RealFiles<'_, R>,
+) -> io::Result<()> {
+    let Some(text) = files.text_of(name) else {
+        return Ok(());
+    };
     match read_policy(rt.alloc(), text) {
         Err(PolicyFault::Refused(refusal)) => say_refused(rt, name, text, &refusal),
-        _ => Ok(false),
+        _ => Ok(()),
     }
 }
 
@@ -408,155 +351,58 @@ fn say_refused<R: Eprint + AllocGlobal>(
     name: &str,
     text: &[u8],
     refusal: &PolicyRefusal,
-) -> io::Result<bool> {
-    say(rt, policy_message(rt.alloc(), name, text, refusal))?;
-    Ok(true)
+) -> io::Result<()> {
+    say(rt, policy_message(rt.alloc(), name, text, refusal))
 }
 
-/// The policy of a file and its text, if it can be read a second time.
+/// The policy that was read of a file, read of its text once more; nothing where none was.
 pub(crate) fn policy_again<R: FileSystem + AllocGlobal>(
     rt: &R,
     name: &str,
-    files: &mut RealFiles<'_, R>,
-) -> Option<(Policy, Vec<u8>)>
-    ensures { IfSome result (λ p. IsWithin p.0) }
+    files: &RealFiles<'_, R>,
+) -> Option<Policy>
+    ensures { IfSome result (λ p. IsWithin p) }
 {
-    let alloc = rt.alloc();
-    let text = read_whole(alloc, name, LONGEST_TEXT as u64, files).ok()?;
-    let policy = read_policy(alloc, &text).ok()?;
-    Some((policy, text))
+    read_policy(rt.alloc(), files.text_of(name)?).ok()
 }
 
-/// Warns of rules that decide nothing.
-fn warn<R: FileSystem + Eprint + AllocGlobal>(
-    rt: &R,
-    name: &str,
-    files: &mut RealFiles<'_, R>,
-) -> io::Result<()> {
-    match policy_again(rt, name, files) {
-        Some((policy, text)) => say_lines(rt, policy_warnings(rt.alloc(), name, &text, &policy)),
-        None => Ok(()),
-    }
-}
-
-/// What a learned policy is not.
-fn warn_of_learned<R: Eprint>(rt: &R, out: &str) -> io::Result<()> {
-    eprintln!(rt;
-        "cmdwall: {out} also allows what an intruder did while the capture was taken: read it before use"
-    )
-}
-
-/// How many assets of a draft were widened, if any were.
-fn remark_on_drafted<R: Eprint>(rt: &R, out: &str, printed: &str) -> io::Result<()> {
-    if printed.ends_with(" widened 0\n") {
-        return Ok(());
-    }
-    eprintln!(rt;
-        "cmdwall: {out} allows more than was recorded, of each asset that would have more than 32 rules: its comments say what was widened"
-    )
-}
-
-/// The first of the captures of a draft that is refused or cut, with its number among them, and why. Of a pipe, which cannot be read a
-/// second time, no more is said.
+/// The first of the captures of a recording that is refused or cut, and why; where there are several, with its number among them. Of a
+/// pipe, which cannot be read a second time, no more is said.
 fn explain_captures<R: FileSystem + Eprint + AllocGlobal>(
     rt: &R,
     captures: &[String],
-    status: u8,
     files: &mut RealFiles<'_, R>,
 ) -> io::Result<()> {
     for (place, capture) in captures.iter().enumerate() {
         let name = capture.as_str();
-        if is_bad_capture(rt, name, status, files)? {
-            let number = place.saturating_add(1);
-            eprintln!(rt;
-                "cmdwall: capture {number} of the words, {name}, is at fault; nothing was written"
-            )?;
-            return explain_one(rt, name, status, files);
+        let message = capture_message(rt.alloc(), LinkSet::Recorded, name, false, files)?;
+        if let Some(message) = message {
+            if captures.len() > 1 {
+                let number = place.saturating_add(1);
+                eprintln!(rt;
+                    "cmdwall: capture {number} of the words, {name}, is at fault; nothing was written"
+                )?;
+            }
+            return eprintln!(rt; "cmdwall: {message}");
         }
     }
     Ok(())
 }
 
-fn is_bad_capture<R: FileSystem + AllocGlobal>(
-    rt: &R,
-    name: &str,
-    status: u8,
-    files: &mut RealFiles<'_, R>,
-) -> io::Result<bool> {
-    let mut octet = [0u8; 1];
-    if status == CAPTURE_REFUSED {
-        if let ReadAnswer::Got(_) = files.read_at(name, CAPTURE_LIMIT, &mut octet) {
-            return Ok(true);
-        }
-    }
-    let message = capture_message(rt.alloc(), LinkSet::Recorded, name, false, files)?;
-    Ok(message.is_some())
-}
-
-fn explain_one<R: FileSystem + Eprint + AllocGlobal>(
-    rt: &R,
-    name: &str,
-    status: u8,
-    files: &mut RealFiles<'_, R>,
-) -> io::Result<()> {
-    if status == CAPTURE_REFUSED {
-        explain_watched(rt, LinkSet::Recorded, name, files)
-    } else {
-        explain_capture(rt, LinkSet::Recorded, name, false, files)
-    }
-}
-
-/// Why one policy is not included in another.
-fn explain_inclusion<R: FileSystem + Eprint + AllocGlobal>(
-    rt: &R,
-    name: &str,
-    other: &str,
-    files: &mut RealFiles<'_, R>,
-) -> io::Result<()> {
-    match policy_again(rt, name, files) {
-        Some((policy, text)) => {
-            let ours = PolicyFile {
-                name,
-                text: &text,
-                policy: &policy,
-            };
-            explain_inclusion_of(rt, &ours, other, files)
-        }
-        None => Ok(()),
-    }
-}
-
-fn explain_inclusion_of<R: FileSystem + Eprint + AllocGlobal>(
-    rt: &R,
-    ours: &PolicyFile<'_>,
-    name: &str,
-    files: &mut RealFiles<'_, R>,
-) -> io::Result<()>
-    requires within { IsWithin ours.now.policy.now }
-{
-    match policy_again(rt, name, files) {
-        Some((policy, text)) => {
-            let other = PolicyFile {
-                name,
-                text: &text,
-                policy: &policy,
-            };
-            say(rt, inclusion_message(rt.alloc(), ours, &other))?;
-            say_lines(rt, differences_text(rt.alloc(), ours, &other))
-        }
-        None => Ok(()),
-    }
-}
-
-/// Which assets a policy has that has none of a name.
+/// Which assets a policy has that has none of the name that the command gives.
 fn explain_asset<R: FileSystem + Eprint + AllocGlobal>(
     rt: &R,
-    name: &str,
-    asset: &str,
-    files: &mut RealFiles<'_, R>,
+    command: &Command<'_>,
+    files: &RealFiles<'_, R>,
 ) -> io::Result<()> {
+    let (name, asset) = match command {
+        Command::Sift { policy, asset, .. } | Command::Relay { policy, asset, .. } => {
+            (*policy, *asset)
+        }
+        _ => return Ok(()),
+    };
     match policy_again(rt, name, files) {
-        Some((policy, _)) => say(rt, asset_message(rt.alloc(), name, &policy, asset)),
+        Some(policy) => say(rt, asset_message(rt.alloc(), name, &policy, asset)),
         None => Ok(()),
     }
 }
@@ -564,7 +410,6 @@ fn explain_asset<R: FileSystem + Eprint + AllocGlobal>(
 /// Why a capture is refused that is watched: it is too long, or its octets are at fault. A pipe cannot be read a second time.
 fn explain_watched<R: FileSystem + Eprint + AllocGlobal>(
     rt: &R,
-    kinds: LinkSet,
     name: &str,
     files: &mut RealFiles<'_, R>,
 ) -> io::Result<()> {
@@ -575,7 +420,9 @@ fn explain_watched<R: FileSystem + Eprint + AllocGlobal>(
                 "cmdwall: {name}: it has more than 67,108,864 bytes, and no longer capture is watched"
             )
         }
-        ReadAnswer::End | ReadAnswer::Failed => explain_capture(rt, kinds, name, false, files),
+        ReadAnswer::End | ReadAnswer::Failed => {
+            explain_capture(rt, LinkSet::Plain, name, false, files)
+        }
     }
 }
 

@@ -21,7 +21,7 @@ const PATIENCE: u64 = 300_000;
 const ROOM: usize = 8;
 
 /// How far a connection is.
-#[derive(Clone, Copy, PartialEq, Eq, Debug)]
+#[derive(Clone, Copy)]
 enum Phase {
     /// The controller waits for a SYN.
     Listens,
@@ -44,7 +44,7 @@ enum Said {
 }
 
 /// What a host took of a text.
-#[derive(Clone, Copy, PartialEq, Eq, Debug)]
+#[derive(Clone, Copy)]
 enum Taken {
     /// No whole unit stands there.
     Nothing,

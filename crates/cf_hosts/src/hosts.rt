@@ -46,7 +46,7 @@ impl Model for Hosts {
 }
 
 /// A host that has a segment ready.
-#[derive(Clone, Copy, Debug)]
+#[derive(Clone, Copy)]
 pub(crate) struct Voice {
     /// The moment at which it is ready, in microseconds.
     pub(crate) ready: u64,

@@ -27,7 +27,7 @@ const MOST_GAP: u64 = 10_000_000;
 pub(crate) const MOST_LOSSES: u32 = 1_000;
 
 /// What comes next.
-#[derive(Clone, Copy, PartialEq, Eq, Debug)]
+#[derive(Clone, Copy)]
 pub enum Next {
     /// A packet is sent at a moment, in microseconds, with which so many sessions have begun.
     Sends { moment: u64, begun: u32 },

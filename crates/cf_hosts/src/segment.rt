@@ -6,7 +6,7 @@ use crate::message::Message;
 use cf_packet::{ACK, FIN, PSH, SYN};
 
 /// What a segment is for.
-#[derive(Clone, Copy, PartialEq, Eq, Debug, Default)]
+#[derive(Clone, Copy, Default)]
 pub(crate) enum Purpose {
     /// It begins a session.
     Syn,

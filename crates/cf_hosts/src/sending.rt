@@ -2,7 +2,7 @@
 ghost use Rattle.std.specs.Prelude.{◌≡◌, ◌≢◌};
 
 /// How the text of a segment is sent.
-#[derive(Clone, Copy, PartialEq, Eq, Debug)]
+#[derive(Clone, Copy, PartialEq, Eq)]
 pub(crate) enum Sending {
     /// Whole.
     Whole,
@@ -19,7 +19,7 @@ pub(crate) enum Sending {
 }
 
 /// Whether the text of a segment may be lost.
-#[derive(Clone, Copy, PartialEq, Eq, Debug)]
+#[derive(Clone, Copy, PartialEq, Eq)]
 pub(crate) enum Chance {
     /// By its draw.
     MayLose,

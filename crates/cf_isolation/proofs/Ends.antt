@@ -1,13 +1,9 @@
 -- Where the packets of a session go: between its two endpoints.
 use Rattle.std.proofs.Common.{◌≡◌, List, refl, sym, subst}
-use Rattle.cf_leg.specs.Emits.{AllRight, IsGreeting, IsRight}
-use Rattle.cf_leg.specs.Event.{LegEvent}
-use Rattle.cf_leg.specs.declared.ends.Ends.{Ends}
-use Rattle.cf_leg.specs.declared.ends.Role.{Role}
+use Rattle.cf_isolation.proofs.Common.{AllRight, Endpoint, Ends, IsRight, LegEvent, PacketValue, Role}
+use Rattle.cf_leg.specs.Emits.{IsGreeting}
+use Rattle.cf_isolation.proofs.Writing.{Sends, sends_all}
 use Rattle.cf_leg.specs.declared.ends.Role.TheVariants as role
-use Rattle.cf_packet.specs.Packet.{PacketValue}
-use Rattle.cf_readback.proofs.Writing.{Sends, sends_all}
-use Rattle.cf_view.specs.declared.Endpoint.{Endpoint}
 
 abbrev pub GoesFrom : (source dest : Endpoint) → PacketValue → Type 0
 GoesFrom source dest p = (p.source ≡ source) × (p.dest ≡ dest)

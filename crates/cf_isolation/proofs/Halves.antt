@@ -1,22 +1,16 @@
 -- What the two halves of a session's event send and log, where one of them is not there.
-use Rattle.std.proofs.Common.{◌≡◌, ℕ, ◌&&◌, Bool, true, false, not, List, [], ◌∷◌, ◌++◌, length, drop, cond, Option, Some, None, refl, sym, ap, ◌∙◌}
-use Rattle.std.specs.Prelude.{nat_le, nat_lt}
+use Rattle.std.proofs.Common.{◌≡◌, ℕ, ◌&&◌, Bool, true, false, not, List, [], ◌∷◌, ◌++◌, length, drop, cond, Option, Some, None, refl, sym, ap, ◌∙◌, nat_le, nat_lt}
+use Rattle.cf_isolation.proofs.Common.{CutReason, Ends, Flow, IsBeginning, IsPacket, IsRight, IsTick, LegEvent, PacketValue, Role, SessionEvent, Side, append-nil, at, client_ends, controller_ends, is_first_half, logged_first, logged_second, moment, said_by, sent_first, sent_second}
 use Rattle.std.proofs.Math.Seq.{drop-length}
-use Rattle.std.proofs.lemmas.List.{append-nil}
 use Rattle.cf_audit.specs.Line.{Close, Cut}
-use Rattle.cf_audit.specs.declared.CutReason.{CutReason}
-use Rattle.cf_leg.specs.Emits.{IsRight, fired_at, repeats}
-use Rattle.cf_leg.specs.Event.{Ending, LegEvent, Nothing, Unspoken, is_idle, moment, said_by}
+use Rattle.cf_leg.specs.Emits.{fired_at, repeats}
+use Rattle.cf_leg.specs.Event.{Ending, Nothing, Unspoken, is_idle}
 use Rattle.cf_leg.specs.Heard.{acked, acked_by, end_state}
 use Rattle.cf_leg.specs.Timer.{armed, due, tries}
-use Rattle.cf_leg.specs.declared.ends.Ends.{Ends}
-use Rattle.cf_leg.specs.declared.ends.Role.{Role}
-use Rattle.cf_packet.specs.Packet.{PacketValue}
-use Rattle.cf_session.specs.Event.{EndsTick, GoesOnFromHalf, IsBeginning, IsPacket, IsTick}
-use Rattle.cf_session.specs.Sent.{at, cut_line, early, is_first_half, last_line, late, line, logged_first, logged_second, new_lines, sent_first, sent_second}
-use Rattle.cf_session.specs.Session.{Flow, SessionEvent, client_ends, clients, closed_at, controller_ends, controllers, history, is_closed, was_closed}
+use Rattle.cf_session.specs.Event.{EndsTick, GoesOnFromHalf}
+use Rattle.cf_session.specs.Sent.{cut_line, early, last_line, late, line, new_lines}
+use Rattle.cf_session.specs.Session.{clients, closed_at, controllers, history, is_closed, was_closed}
 use Rattle.cf_session.specs.Work.{Work}
-use Rattle.cf_view.specs.declared.Side.{Side}
 use Rattle.cf_view.specs.declared.Side.TheVariants as side
 
 -- ---- a leg

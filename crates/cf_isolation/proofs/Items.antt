@@ -1,7 +1,7 @@
 -- The moments of the items by which a history goes on.
-use Rattle.cf_lane.specs.Caller.{newcomer}
 use Rattle.std.proofs.Common.{◌≡◌, ℕ, zero, suc, Bool, true, false, None, Option, Some, List, [], ◌∷◌, ◌++◌, map, refl, sym, ap, ◌∙◌, subst}
-use Rattle.std.specs.List.{AllByRecursion}
+use Rattle.cf_isolation.proofs.Common.{AllByRecursion, Asset, Endpoint, Side}
+use Rattle.cf_lane.specs.Caller.{newcomer}
 use Rattle.cf_lane.proofs.Earlier.{in_turn-append}
 use Rattle.cf_lane.proofs.Growth.{further, items_split}
 use Rattle.cf_lane.proofs.Judgements.{one_items}
@@ -14,14 +14,11 @@ use Rattle.cf_lane.specs.Log.{admission_line, command_octets, end_lines, has_unf
 use Rattle.cf_lane.specs.Output.{output}
 use Rattle.cf_lane.specs.declared.fate.Fate.{Fate}
 use Rattle.cf_lane.specs.declared.fate.Shown.{Shown}
-use Rattle.cf_lane.specs.declared.fate.Fate.TheVariants as fate
 use Rattle.cf_audit.specs.Line.{Partial, Stray, WhatValue}
-use Rattle.cf_policy.specs.declared.Asset.{Asset}
 use Rattle.cf_policy.specs.declared.Protocol.{Protocol}
-use Rattle.cf_view.specs.declared.Endpoint.{Endpoint}
-use Rattle.cf_view.specs.declared.Side.{Side}
-use Rattle.cf_view.specs.declared.Side.TheVariants as side
 use Rattle.cf_isolation.proofs.Lists.{all_both, all_front}
+use Rattle.cf_lane.specs.declared.fate.Fate.TheVariants as fate
+use Rattle.cf_view.specs.declared.Side.TheVariants as side
 
 -- ---- moments
 

@@ -1,20 +1,25 @@
-mod EachLogged
-mod EachSent
+mod Common
 pub mod Ends
 mod Filing
 mod Halves
-mod Isolating
 mod Items
+pub mod Legs
 pub mod Lists
-mod Lives
+pub mod Lives
 mod Logging
+mod Moments
 mod Naming
 mod Order
+mod Output
 pub mod Packets
-mod Sending
-mod Stretch
+mod Ranges
+mod Reading
+pub mod Sending
 pub mod Tables
 mod Theirs
-pub mod Turns
+mod Turns
 mod Words
 mod Worked
+mod WorkedFile
+pub mod Writing
+mod Written

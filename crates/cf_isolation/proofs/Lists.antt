@@ -1,7 +1,6 @@
--- Filters of lists whose elements all pass, or none does.
-use Rattle.std.proofs.Common.{◌≡◌, ◌&&◌, Bool, true, false, List, [], ◌∷◌, ◌++◌, cond, refl, ap, ◌∙◌}
-use Rattle.std.specs.Prelude.{filter}
-use Rattle.std.specs.List.{AllByRecursion}
+-- Lists of which each element has something, in parts and filtered.
+use Rattle.std.proofs.Common.{◌≡◌, ◌&&◌, Bool, true, false, List, [], ◌∷◌, ◌++◌, cond, refl, ap, ◌∙◌, filter}
+use Rattle.cf_isolation.proofs.Common.{AllByRecursion}
 
 pub all_map : {X : Type 0} (P Q : X → Type 0) → ((x : X) → P x → Q x) → (xs : List X) → AllByRecursion P xs → AllByRecursion Q xs
 all_map P Q f [] h = tt
@@ -14,6 +13,10 @@ all_both P (x ∷ xs) ys h g = (h.0, all_both P xs ys h.1 g)
 pub all_front : {X : Type 0} (P : X → Type 0) (xs ys : List X) → AllByRecursion P (xs ++ ys) → AllByRecursion P xs
 all_front P [] ys h = tt
 all_front P (x ∷ xs) ys h = (h.0, all_front P xs ys h.1)
+
+pub all_back : {X : Type 0} (P : X → Type 0) (xs ys : List X) → AllByRecursion P (xs ++ ys) → AllByRecursion P ys
+all_back P [] ys h = h
+all_back P (x ∷ xs) ys h = all_back P xs ys h.1
 
 pub filter_all : {X : Type 0} (q : X → Bool) (b : Bool) (xs : List X) → AllByRecursion (λ x. q x ≡ b) xs → filter q xs ≡ cond b xs []
 filter_all q true [] h = refl

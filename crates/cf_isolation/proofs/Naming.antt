@@ -1,38 +1,28 @@
 -- Which lines of one event name a client and an asset: those of their session.
-use Rattle.std.proofs.Common.{◌≡◌, ◌≢◌, ℕ, ◌<◌, ◌==◌, ◌&&◌, inl, inr, Bool, true, false, not, List, [], ◌∷◌, ◌++◌, length, drop, if◌then◌else◌, Option, Some, None, refl, sym, ap, ◌∙◌, subst, arith}
-use Rattle.std.specs.Prelude.{bytes_eq, nat_lt, slice_get, slice_index_or}
-use Rattle.std.specs.List.{AllByRecursion, AllPairs, list_all}
+use Rattle.std.proofs.Common.{◌≡◌, ◌≢◌, ℕ, ◌<◌, ◌==◌, ◌&&◌, inl, inr, Bool, true, false, not, List, [], ◌∷◌, ◌++◌, length, drop, if◌then◌else◌, Option, Some, None, refl, sym, ap, ◌∙◌, subst, arith, bytes_eq, nat_lt, slice_get, slice_index_or}
+use Rattle.cf_isolation.proofs.Common.{AllByRecursion, Asset, CutReason, Endpoint, Flow, IsBeginning, IsPacket, PacketValue, SessionEvent, Side, and_parts, client_of, is_first_half, is_flow_of, logged_first, logged_second, moment, moment_in, names_both, nat_tests, same_endpoint, same_is, true≢false}
+use Rattle.std.specs.List.{AllPairs, list_all}
 use Rattle.std.proofs.Math.Seq.{drop-append_seam}
-use Rattle.std.proofs.lemmas.Bool.{and_parts, cases_Bool, true≢false}
-use Rattle.std.proofs.lemmas.Bool.Decides.{nat_tests}
+use Rattle.std.proofs.lemmas.Bool.{cases_Bool}
 use Rattle.std.proofs.lemmas.List.Elements.{All-get_or}
 use Rattle.std.proofs.lemmas.Option.{get_or_from_slice_get, slice_get_within}
 use Rattle.std.proofs.lemmas.Slice.Eq.{bytes_eq-Decides}
 use Rattle.cf_audit.specs.Line.{Close, Cut, LineValue}
-use Rattle.cf_audit.specs.Line as line
-use Rattle.cf_audit.specs.declared.CutReason.{CutReason}
 use Rattle.cf_lane.specs.History.{Element}
 use Rattle.cf_lane.specs.Log.{lines}
-use Rattle.cf_leg.specs.Event.{moment}
-use Rattle.cf_packet.specs.Packet.{PacketValue}
 use Rattle.cf_policy.specs.Names.{is_name_byte}
 use Rattle.cf_policy.specs.Within.{AreAssetsWithin, IsAssetWithin}
-use Rattle.cf_policy.specs.declared.Asset.{Asset}
-use Rattle.cf_session.specs.Event.{AreEvents as AreSessionEvents, AreFed, IsBeginning, IsPacket}
+use Rattle.cf_session.specs.Event.{AreEvents as AreSessionEvents, AreFed}
 use Rattle.cf_session.specs.Laws.{WorkIsOfTheTaken}
-use Rattle.cf_session.specs.Sent.{cut_line, first_line, is_first_half, last_line, logged_first, logged_second, new_lines}
-use Rattle.cf_session.specs.Session.{Flow, SessionEvent, client_of, history, is_closed, was_closed, work_of}
+use Rattle.cf_session.specs.Sent.{cut_line, first_line, last_line, new_lines}
+use Rattle.cf_session.specs.Session.{history, is_closed, was_closed, work_of}
 use Rattle.cf_session.specs.Work.{Work, Works}
 use Rattle.cf_stream.specs.Stream.{letter_count}
-use Rattle.cf_view.specs.declared.Endpoint.{Endpoint}
-use Rattle.cf_view.specs.declared.Side.{Side}
-use Rattle.cf_run.specs.Isolation.{is_flow_of}
-use Rattle.cf_view.specs.Endpoints.{same_endpoint}
-use Rattle.cf_isolation.specs.Lines.{moment_in, names_both}
 use Rattle.cf_isolation.proofs.Items.{AreAbout, IsAbout, new_about}
 use Rattle.cf_isolation.proofs.Lists.{all_both, all_map}
-use Rattle.cf_isolation.proofs.Tables.{IsAmong, same_is, same_self}
+use Rattle.cf_isolation.proofs.Tables.{IsAmong, same_self}
 use Rattle.cf_isolation.proofs.Words.{IsEndpoint, IsMoment, moment_is, names_is}
+use Rattle.cf_audit.specs.Line as line
 
 -- ---- the lines of a session's event are about it
 

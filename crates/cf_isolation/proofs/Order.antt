@@ -1,12 +1,6 @@
 -- Sessions that follow each other, each with what it put out at its own time; and what is selected by the life of one.
-use Rattle.std.proofs.Common.{◌≡◌, ℕ, ◌<◌, ◌≤◌, Bool, true, false, List, [], ◌∷◌, ◌++◌, sym, ap, ◌∙◌, subst, append_assoc, arith}
-use Rattle.std.specs.Prelude.{filter}
-use Rattle.std.specs.List.{AllByRecursion, flat_map}
-use Rattle.std.proofs.lemmas.Bool.Decides.{nat_tests}
-use Rattle.std.proofs.lemmas.List.{append-nil}
-use Rattle.std.proofs.lemmas.List.Elements.{filter-append}
-use Rattle.cf_run.specs.Table.{Session}
-use Rattle.cf_isolation.specs.Lives.{born_at, is_in_life}
+use Rattle.std.proofs.Common.{◌≡◌, ℕ, ◌<◌, ◌≤◌, Bool, true, false, List, [], ◌∷◌, ◌++◌, sym, ap, ◌∙◌, subst, append_assoc, arith, filter}
+use Rattle.cf_isolation.proofs.Common.{AllByRecursion, Session, append-nil, born_at, filter-append, flat_map, is_in_life, nat_tests}
 use Rattle.cf_isolation.proofs.Lists.{all_both, all_map, filter_all}
 
 abbrev pub born : Session → ℕ

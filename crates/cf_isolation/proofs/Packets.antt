@@ -1,34 +1,26 @@
 -- Which packets of one event go between a client and an asset: those of their session.
-use Rattle.std.proofs.Common.{◌≡◌, ℕ, Bool, true, false, List, [], ◌∷◌, ◌++◌, cond, if◌then◌else◌, Option, Some, None, Result, refl, sym, ap, ◌∙◌, subst}
-use Rattle.std.specs.Prelude.{filter, slice_get}
-use Rattle.std.specs.List.{AllByRecursion, flat_map}
+use Rattle.std.proofs.Common.{◌≡◌, ℕ, Bool, true, false, List, [], ◌∷◌, ◌++◌, cond, if◌then◌else◌, Option, Some, None, Result, refl, sym, ap, ◌∙◌, subst, filter, not, slice_get}
+use Rattle.cf_isolation.proofs.Common.{AllByRecursion, AreRight, AreRunEvents, AreTicks, Asset, Begun, CutReason, Dropped, Endpoint, EventsAreFixed, Flow, GoesOnAt, HasEvents, IsBeginning, IsPacket, IsRightSession, LegEvent, NoRoom, NoSession, PacketRefusal, PacketValue, Received, ReceivesRecord, RunEvent, Sent, Session, SessionEvent, SessionsAreRight, Side, Went, append-nil, at, begins_theirs, client_ends, client_of, controller_ends, filter-append, flat_map, found, goes_between, goes_to_theirs, gone_after, is_between, is_first_half, is_flow_of, is_theirs, kept, moment, said_by, same_endpoint, same_is, sent, sent_first, sent_received, sent_second, stays, table_after, tick_of, ticked, ticks_of, true≢false, with_events}
+use Rattle.std.specs.Option.{is_some}
 use Rattle.std.proofs.Math.Bool.{and_comm, or-false}
-use Rattle.std.proofs.lemmas.Bool.{false_from_ne_true, true≢false}
-use Rattle.std.proofs.lemmas.List.{append-nil}
-use Rattle.std.proofs.lemmas.List.Elements.{filter-append}
+use Rattle.std.proofs.lemmas.Bool.{false_from_ne_true}
 use Rattle.cf_policy.specs.AtEndpoint.{has_asset_at}
-use Rattle.cf_leg.specs.Event.{LegEvent, greeted_by, said_by}
-use Rattle.cf_packet.specs.Packet.{PacketValue}
-use Rattle.cf_packet.specs.declared.packet.PacketRefusal.{PacketRefusal}
-use Rattle.cf_policy.specs.declared.Asset.{Asset}
-use Rattle.cf_readback.proofs.Legs.{LegsRight, legs_right}
-use Rattle.cf_readback.proofs.Writing.{Sends}
-use Rattle.cf_session.specs.Event.{AreEvents as AreSessionEvents, AreRight, IsBeginning, IsPacket}
-use Rattle.cf_session.specs.Sent.{Sent, at, early, is_first_half, late, sent_first, sent_second}
-use Rattle.cf_session.specs.Session.{Flow, SessionEvent, client_ends, client_of, controller_ends}
-use Rattle.cf_view.specs.declared.Endpoint.{Endpoint}
-use Rattle.cf_view.specs.declared.Side.{Side}
-use Rattle.cf_run.specs.Isolation.{begins_theirs, goes_to_theirs, is_flow_of, is_theirs, ticks_of}
-use Rattle.cf_run.specs.Sessions.{HasEvents, HasRightEvents as IsRightSession}
-use Rattle.cf_run.specs.Table.{Session, is_between}
-use Rattle.cf_view.specs.Endpoints.{same_endpoint}
-use Rattle.cf_run.specs.Trace.{AreTicks, Begun, Dropped, GoesOnAt, GoesOnWith, NoRoom, NoSession, Received, ReceivesRecord, Went, kept, sent_received, stays, ticked, with_events}
-use Rattle.cf_isolation.specs.Records.{goes_between}
+use Rattle.cf_leg.specs.Event.{greeted_by}
+use Rattle.cf_isolation.proofs.Legs.{LegsRight, legs_right}
+use Rattle.cf_isolation.proofs.Writing.{Sends}
+use Rattle.cf_session.specs.Event.{AreEvents as AreSessionEvents}
+use Rattle.cf_session.specs.Sent.{early, late}
+use Rattle.cf_run.specs.Sessions.{AreAlike}
+use Rattle.cf_run.specs.Trace.{GoesOnWith}
 use Rattle.cf_isolation.proofs.Ends.{GoesFrom, leg_goes}
-use Rattle.cf_isolation.proofs.Lists.{all_both, all_map, filter_all}
-use Rattle.cf_isolation.proofs.Tables.{HasOwn, IsOwn, each_filter, each_get, receives, same_is}
+use Rattle.cf_isolation.proofs.Lists.{all_back, all_both, all_filtered, all_map, filter_all}
+use Rattle.cf_isolation.proofs.Tables.{HasOwn, IsOwn, all_own, begun_in, each_get, found_has_all, kept_has, receives, table_has}
 
 -- ---- sessions that had their first half
+
+pub uncut : (c : Option CutReason) → not (is_some c) ≡ true → c ≡ None
+uncut None h = refl
+uncut (Some r) h = absurd (true≢false (sym h))
 
 -- the newest event of a session ticked then, and those before it are right
 abbrev pub HasHalf : (limit tick : ℕ) → Flow → List SessionEvent → Type 0
@@ -49,7 +41,19 @@ halved limit tick (s ∷ ss) (t ∷ ts) h are = ((are.0.client_tick, right_event
 
 pub all_halved : (limit tick : ℕ) (ss : List Session) (ts : List SessionEvent) → AllByRecursion (IsRightSession limit) ss → AreTicks tick (kept tick ss) ts → AllByRecursion (IsHalved limit tick) (ticked ts tick ss)
 all_halved limit tick ss ts h are =
-    each_filter (IsHalved limit tick) stays (with_events (kept tick ss) ts) (halved limit tick (kept tick ss) ts (each_filter (IsRightSession limit) _ ss h) are)
+    all_filtered (IsHalved limit tick) stays (with_events (kept tick ss) ts) (halved limit tick (kept tick ss) ts (all_filtered (IsRightSession limit) _ ss h) are)
+
+module _ (law : SessionsAreRight) (assets : List Asset) (limit : ℕ) where
+  pub rights_after : (es : List RunEvent) → AreRunEvents assets limit es → AllByRecursion (IsRightSession limit) (table_after es)
+  rights_after es are = all_back (IsRightSession limit) (gone_after es) (table_after es) (law assets limit es are)
+
+  pub halves : (e : RunEvent) (es : List RunEvent) → AreRunEvents assets limit (e ∷ es) → AllByRecursion (IsHalved limit (tick_of e.input)) (found (table_after es) e)
+  halves e es h = all_halved limit (tick_of e.input) (table_after es) e.ticks (rights_after es h.1) h.0.ticks
+
+-- right events of one flow that are given the same are the same
+pub alike_events : EventsAreFixed → (limit : ℕ) (one other : Session) → IsRightSession limit one → IsRightSession limit other → AreAlike one other → one.events ≡ other.events
+alike_events fixed limit one other h g alike =
+    fixed other.flow limit one.events other.events (subst (λ f. AreSessionEvents f limit one.events) alike.flow (right_events limit one.flow one.events h)) (right_events limit other.flow other.events g) alike.same
 
 -- the packet of a record begins a session, or one of these goes on, or nothing happens
 module _ (assets : List Asset) (limit tick : ℕ) (table : List Session) (halved : AllByRecursion (IsHalved limit tick) table) (P : Received → Type 0) (nothing : P Dropped × P NoRoom × P NoSession)
@@ -77,6 +81,18 @@ early_all P false e h = all_both P e.fired [] h.fired tt
 pub late_all : (P : PacketValue → Type 0) (b : Bool) (e : LegEvent) → Sends P e → AllByRecursion P (late b e)
 late_all P true e h = all_both P _ [] h.greeted tt
 late_all P false e h = all_both P _ _ h.greeted h.said
+
+-- what holds of all that the two ends of a session send holds of what its event sends in each half
+module _ (P : PacketValue → Type 0) (Q : Sent → Type 0) (e : SessionEvent) (controller : Sends P e.controller) (client : Sends P e.client) where
+  at_all : (now : ℕ) → ((p : PacketValue) → P p → Q (record { moment = now; packet = p })) → (ps : List PacketValue) → AllByRecursion P ps → AllByRecursion Q (at now ps)
+  at_all now f [] h = tt
+  at_all now f (p ∷ ps) h = (f p h.0, at_all now f ps h.1)
+
+  pub first_all : ((p : PacketValue) → P p → Q (record { moment = e.client.tick; packet = p })) → AllByRecursion Q (sent_first e)
+  first_all f = at_all _ f _ (all_both P (early (is_first_half e) e.controller) _ (early_all P _ e.controller controller) (early_all P _ e.client client))
+
+  pub second_all : ((p : PacketValue) → P p → Q (record { moment = moment e.client; packet = p })) → AllByRecursion Q (sent_second e)
+  second_all f = at_all _ f _ (all_both P (late (is_first_half e) e.controller) _ (late_all P _ e.controller controller) (late_all P _ e.client client))
 
 module _ (assets : List Asset) (client asset : Endpoint) (none : has_asset_at assets client ≡ false) (some : has_asset_at assets asset ≡ true) where
   never_same : (x y : Endpoint) → has_asset_at assets x ≡ false → has_asset_at assets y ≡ true → x ≡ y → ⊥
@@ -109,10 +125,6 @@ module _ (assets : List Asset) (client asset : Endpoint) (none : has_asset_at as
     abbrev AreTold : List Sent → Type 0
     AreTold all = AllByRecursion (λ s. IsTold s.packet) all
 
-    at_told : (now : ℕ) (ps : List PacketValue) → AllByRecursion IsTold ps → AreTold (at now ps)
-    at_told now [] h = tt
-    at_told now (p ∷ ps) h = (h.0, at_told now ps h.1)
-
     module _ (es : List SessionEvent) (e : SessionEvent) (legs : LegsRight f es) (right : AreRight f es e) where
       controller_told : Sends IsTold e.controller
       controller_told = told_by _ _ to_controller e.controller (leg_goes (controller_ends f) _ e.controller legs.controller right.controller)
@@ -121,10 +133,10 @@ module _ (assets : List Asset) (client asset : Endpoint) (none : has_asset_at as
       client_told = told_by _ _ to_client e.client (leg_goes (client_ends f) _ e.client legs.client right.client)
 
       first_told : AreTold (sent_first e)
-      first_told = at_told _ _ (all_both IsTold (early (is_first_half e) e.controller) _ (early_all IsTold _ e.controller controller_told) (early_all IsTold _ e.client client_told))
+      first_told = first_all IsTold (λ s. IsTold s.packet) e controller_told client_told (λ p h. h)
 
       second_told : AreTold (sent_second e)
-      second_told = at_told _ _ (all_both IsTold (late (is_first_half e) e.controller) _ (late_all IsTold _ e.controller controller_told) (late_all IsTold _ e.client client_told))
+      second_told = second_all IsTold (λ s. IsTold s.packet) e controller_told client_told (λ p h. h)
 
   -- ---- the first half
 
@@ -158,3 +170,32 @@ module _ (assets : List Asset) (client asset : Endpoint) (none : has_asset_at as
       (λ i e s p x half es at is now before on new.
       subst (λ o. between (sent_second e) ≡ cond (is_theirs client asset o) (sent_second e) []) (sym at)
       (filter_all _ _ (sent_second e) (second_told x.flow (each_get (HasOwn assets) table i x own at) es e (legs_right x.flow limit es before) on.right)) ∙ sym (append-nil _)) p r g new
+
+-- ---- all that a run sends
+
+module _ (law : SessionsAreRight) (assets : List Asset) (limit : ℕ) (R : ℕ → Type 0) (Q : Sent → Type 0)
+    (first : (tick : ℕ) → R tick → (f : Flow) → IsOwn assets f → (es : List SessionEvent) (t : SessionEvent) → LegsRight f es → AreRight f es t → t.client.tick ≡ tick → AllByRecursion Q (sent_first t))
+    (second : (tick : ℕ) → R tick → (f : Flow) → IsOwn assets f → (es : List SessionEvent) (e : SessionEvent) → LegsRight f es → AreRight f es e → e.client.tick ≡ tick → AllByRecursion Q (sent_second e)) where
+  ticks_all : (tick : ℕ) → R tick → (ss : List Session) (ts : List SessionEvent) → AllByRecursion (IsRightSession limit) ss → AllByRecursion (HasOwn assets) ss → AreTicks tick ss ts → AllByRecursion Q (flat_map sent_first ts)
+  ticks_all tick m [] ts h own are = subst (λ xs. AllByRecursion Q (flat_map sent_first xs)) (sym are) tt
+  ticks_all tick m (s ∷ ss) [] h own are = absurd are
+  ticks_all tick m (s ∷ ss) (t ∷ ts) h own are =
+      let legs = legs_right s.flow limit s.events (right_events limit s.flow s.events h.0) in
+      all_both Q (sent_first t) _ (first tick m s.flow own.0 s.events t legs are.0.right are.0.client_tick) (ticks_all tick m ss ts h.1 own.1 are.1)
+
+  -- what holds of the packets of each session's event holds of all packets
+  pub sent_all : (es : List RunEvent) → AreRunEvents assets limit es → AllByRecursion (λ e. R (tick_of e.input)) es → AllByRecursion Q (sent es)
+  sent_all [] are m = tt
+  sent_all (e ∷ es) are m =
+      let tick = tick_of e.input in
+      let table = table_after es in
+      let own = table_has (IsOwn assets) es (all_own assets limit es are.1) in
+      all_both Q (sent es) _ (sent_all es are.1 m.1)
+      (all_both Q (flat_map sent_first e.ticks) _
+      (ticks_all tick m.0 (kept tick table) e.ticks (all_filtered (IsRightSession limit) _ table (rights_after law assets limit es are.1)) (kept_has (IsOwn assets) tick table own) are.0.ticks)
+      (receives_halved assets limit tick (found table e) (halves law assets limit e es are) (λ r. ((f : Flow) (b : SessionEvent) → r ≡ Begun f b → IsOwn assets f) → AllByRecursion Q (sent_received r))
+      ((λ new. tt), (λ new. tt), (λ new. tt))
+      (λ f b begins new. second tick m.0 f (new f b refl) [] b (record { controller = tt; client = tt }) begins.right (ap (λ x. x.tick) begins.client))
+      (λ i b s p x half before at is ticked right on new.
+      second tick m.0 x.flow (each_get (HasOwn assets) (found table e) i x (found_has_all (IsOwn assets) tick e.ticks table own) at) before b (legs_right x.flow limit before right) on.right (on.client_on.0 ∙ ticked))
+      e.input.packet e.received are.0.received (λ f b is. (begun_in assets limit e es are f b is).2.own)))

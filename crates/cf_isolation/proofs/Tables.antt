@@ -1,28 +1,14 @@
 -- The flows of a table's sessions: each goes from no asset's endpoint to an asset's.
-use Rattle.std.proofs.Common.{◌≡◌, ℕ, zero, suc, ◌&&◌, ◌||◌, Bool, true, false, not, List, [], ◌∷◌, ◌++◌, cond, if◌then◌else◌, Option, Some, None, Result, Ok, Err, refl, sym, ap, ◌∙◌, subst, arith}
-use Rattle.std.specs.Prelude.{filter, slice_get}
-use Rattle.std.specs.List.{AllByRecursion as Each, remove}
-use Rattle.std.proofs.lemmas.Bool.{true≢false}
-use Rattle.std.proofs.lemmas.Bool.Decides.{nat_tests}
+use Rattle.std.proofs.Common.{◌≡◌, ℕ, zero, suc, ◌&&◌, ◌||◌, Bool, true, false, not, List, [], ◌∷◌, ◌++◌, cond, if◌then◌else◌, Option, Some, None, Result, Ok, Err, refl, sym, ap, ◌∙◌, subst, arith, filter, slice_get}
+use Rattle.cf_isolation.proofs.Common.{AreRunEvents, Asset, Begun, Dropped, Endpoint, Flow, GoesOnAt, HasSession, IsBeginning, NoRoom, NoSession, PacketRefusal, PacketValue, Received, ReceivesRecord, RunEvent, Session, SessionEvent, Side, Went, client_of, gone_after, is_expired, kept, leaves, left_by_packet, nat_tests, remove, same_endpoint, same_is, session_at, sessions_of, stays, table_after, tick_of, ticked, true≢false, with_event_at, with_events}
+use Rattle.std.specs.List.{AllByRecursion as Each}
 use Rattle.cf_leg.specs.Segment.{is_opening}
 use Rattle.cf_policy.specs.AtEndpoint.{asset_at, has_asset_at}
-use Rattle.cf_packet.specs.Packet.{PacketValue}
-use Rattle.cf_packet.specs.declared.packet.PacketRefusal.{PacketRefusal}
-use Rattle.cf_policy.specs.declared.Asset.{Asset}
-use Rattle.cf_session.specs.Event.{IsBeginning}
-use Rattle.cf_session.specs.Session.{Flow, SessionEvent, client_of, is_expired}
-use Rattle.cf_view.specs.declared.Endpoint.{Endpoint}
-use Rattle.cf_view.specs.declared.Side.{Side}
-use Rattle.cf_run.specs.Sessions.{gone_after, leaves, left_by_packet, left_in, session_at, sessions_of}
-use Rattle.cf_run.specs.Table.{Begins, Full, Goes, Match, Session, begins, begins_or_full, goes, goes_from_client, match_of, may_begin, place_of, without}
-use Rattle.cf_view.specs.Endpoints.{same_endpoint}
-use Rattle.cf_run.specs.Trace.{AreRunEvents, Begun, Dropped, RunEvent, GoesOnAt, NoRoom, NoSession, Received, Receives, ReceivesRecord, Went, after_received, kept, stays, table_after, tick_of, ticked, with_event_at, with_events}
-
-pub same_is : (a b : Endpoint) → same_endpoint a b ≡ true → a ≡ b
-same_is a b e =
-    let p : a.address ≡ b.address = grind (arith, nat_tests, e) in
-    let q : a.port ≡ b.port = grind (arith, nat_tests, e) in
-    ap (λ x. let r : Endpoint = record { address = x; port = a.port } in r) p ∙ ap (λ y. let r : Endpoint = record { address = b.address; port = y } in r) q
+use Rattle.cf_run.specs.Sessions.{left_in}
+use Rattle.cf_run.specs.Table.{Begins, Full, Goes, Match, begins, begins_or_full, goes, goes_from_client, match_of, may_begin, place_of, without}
+use Rattle.cf_isolation.proofs.Lists.{all_both, all_filtered}
+use Rattle.cf_isolation.proofs.Moments.{back}
+use Rattle.cf_run.specs.Trace.{Receives, after_received}
 
 pub same_self : (e : Endpoint) → same_endpoint e e ≡ true
 same_self e = grind (arith, nat_tests)
@@ -40,19 +26,11 @@ HasOwn assets s = IsOwn assets s.flow
 
 -- ---- of each session of a list
 
-pub each_append : (P : Session → Type 0) (xs ys : List Session) → Each P xs → Each P ys → Each P (xs ++ ys)
-each_append P [] ys h g = g
-each_append P (x ∷ xs) ys h g = (h.0, each_append P xs ys h.1 g)
-
 each_remove : (P : Session → Type 0) (xs : List Session) (i : ℕ) → Each P xs → Each P (remove xs i)
 each_remove P [] zero h = tt
 each_remove P [] (suc i) h = tt
 each_remove P (x ∷ xs) zero h = h.1
 each_remove P (x ∷ xs) (suc i) h = (h.0, each_remove P xs i h.1)
-
-pub each_filter : (P : Session → Type 0) (p : Session → Bool) (xs : List Session) → Each P xs → Each P (filter p xs)
-each_filter P p [] h = tt
-each_filter P p (x ∷ xs) h = elim (p x) as (λ b. Each P (cond b (x ∷ filter p xs) (filter p xs))) [ true ↦ (h.0, each_filter P p xs h.1) | false ↦ each_filter P p xs h.1 ]
 
 each_without : (P : Session → Type 0) (xs : List Session) (place : Option ℕ) → Each P xs → Each P (elim place [ Some i ↦ remove xs i | None ↦ xs ])
 each_without P xs None h = h
@@ -65,7 +43,7 @@ each_get P (x ∷ xs) (suc i) s h e = each_get P xs i s h.1 e
 
 -- ---- a packet that begins a session
 
-found_has : (assets : List Asset) (endpoint : Endpoint) (asset : Asset) → asset_at assets endpoint ≡ Some asset → has_asset_at assets asset.endpoint ≡ true
+pub found_has : (assets : List Asset) (endpoint : Endpoint) (asset : Asset) → asset_at assets endpoint ≡ Some asset → has_asset_at assets asset.endpoint ≡ true
 found_has [] endpoint asset h = cc
 found_has (a ∷ assets) endpoint asset h = by (λ e. found_has assets endpoint asset e) (same_endpoint a.endpoint endpoint) h
   where
@@ -182,6 +160,13 @@ abbrev pub BegunHave : (Flow → Type 0) → List RunEvent → Type 0
 BegunHave K [] = Unit {0}
 BegunHave K (e ∷ es) = ((f : Flow) (b : SessionEvent) → e.received ≡ Begun f b → K f) × BegunHave K es
 
+-- of a session of these events it holds
+pub begun_has : (K : Flow → Type 0) (flow : Flow) (events : List RunEvent) → BegunHave K events → (has : HasSession flow events) → K flow
+begun_has K flow events all has =
+    let start = has.first ∷ has.earlier in
+    let own = back (BegunHave K) (λ e es h. h.1) has.after (has.later ++ start) (subst (BegunHave K) has.are all) in
+    (back (BegunHave K) (λ e es h. h.1) has.later start own).0 flow has.begun has.begins
+
 module _ (K : Flow → Type 0) where
   abbrev pub Has : Session → Type 0
   Has s = K s.flow
@@ -198,15 +183,15 @@ module _ (K : Flow → Type 0) where
 
   received_has : (table : List Session) (r : Received) → ((f : Flow) (b : SessionEvent) → r ≡ Begun f b → K f) → Each Has table → Each Has (after_received r table)
   received_has table (Begun f e) new h =
-      each_append Has (without (client_of f) f.asset.endpoint table) _ (each_without Has table (place_of (client_of f) f.asset.endpoint table) h) (new f e refl, tt)
-  received_has table (Went i e) new h = each_filter Has stays (with_event_at i e table) (went_has i e table h)
+      all_both Has (without (client_of f) f.asset.endpoint table) _ (each_without Has table (place_of (client_of f) f.asset.endpoint table) h) (new f e refl, tt)
+  received_has table (Went i e) new h = all_filtered Has stays (with_event_at i e table) (went_has i e table h)
   received_has table _ new h = h
 
   pub kept_has : (tick : ℕ) (table : List Session) → Each Has table → Each Has (kept tick table)
-  kept_has tick table h = each_filter Has _ table h
+  kept_has tick table h = all_filtered Has _ table h
 
   pub found_has_all : (tick : ℕ) (ts : List SessionEvent) (table : List Session) → Each Has table → Each Has (ticked ts tick table)
-  found_has_all tick ts table h = each_filter Has stays (with_events (kept tick table) ts) (next_has (kept tick table) ts (kept_has tick table h))
+  found_has_all tick ts table h = all_filtered Has stays (with_events (kept tick table) ts) (next_has (kept tick table) ts (kept_has tick table h))
 
   pub table_has : (es : List RunEvent) → BegunHave K es → Each Has (table_after es)
   table_has [] h = tt
@@ -222,7 +207,7 @@ module _ (K : Flow → Type 0) where
 
   left_has : (table : List Session) (r : Received) → Each Has table → Each Has (left_by_packet r table)
   left_has table (Begun f e) h = at_has table (place_of (client_of f) f.asset.endpoint table) h
-  left_has table (Went i e) h = each_filter Has leaves (with_event_at i e table) (went_has i e table h)
+  left_has table (Went i e) h = all_filtered Has leaves (with_event_at i e table) (went_has i e table h)
   left_has table _ h = tt
 
   -- of those that left it too
@@ -232,14 +217,14 @@ module _ (K : Flow → Type 0) where
       let tick = tick_of e.input in
       let table = table_after es in
       let here = table_has es h.1 in
-      each_append Has (gone_after es) (left_in table e) (gone_have es h.1)
-      (each_append Has (filter (λ s. is_expired s.flow s.events tick) table) _ (each_filter Has (λ s. is_expired s.flow s.events tick) table here)
-      (each_append Has (filter leaves (with_events (kept tick table) e.ticks)) (left_by_packet e.received (ticked e.ticks tick table))
-      (each_filter Has leaves (with_events (kept tick table) e.ticks) (next_has (kept tick table) e.ticks (kept_has tick table here)))
+      all_both Has (gone_after es) (left_in table e) (gone_have es h.1)
+      (all_both Has (filter (λ s. is_expired s.flow s.events tick) table) _ (all_filtered Has (λ s. is_expired s.flow s.events tick) table here)
+      (all_both Has (filter leaves (with_events (kept tick table) e.ticks)) (left_by_packet e.received (ticked e.ticks tick table))
+      (all_filtered Has leaves (with_events (kept tick table) e.ticks) (next_has (kept tick table) e.ticks (kept_has tick table here)))
       (left_has (ticked e.ticks tick table) e.received (found_has_all tick e.ticks table here))))
 
   pub sessions_have : (es : List RunEvent) → BegunHave K es → Each Has (sessions_of es)
-  sessions_have es h = each_append Has (gone_after es) (table_after es) (gone_have es h) (table_has es h)
+  sessions_have es h = all_both Has (gone_after es) (table_after es) (gone_have es h) (table_has es h)
 
 pub all_own : (assets : List Asset) (limit : ℕ) (es : List RunEvent) → AreRunEvents assets limit es → BegunHave (IsOwn assets) es
 all_own assets limit [] h = tt

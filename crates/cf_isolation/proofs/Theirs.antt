@@ -1,14 +1,12 @@
 -- The sessions of a client and an asset in a table, through the two halves of an event.
-use Rattle.std.proofs.Common.{◌≡◌, ℕ, zero, suc, Bool, true, false, List, [], ◌∷◌, ◌++◌, cond, Option, Some, None, refl, sym, ap, ◌∙◌, subst}
-use Rattle.std.specs.Prelude.{filter, position, slice_get}
-use Rattle.std.specs.List.{remove}
+use Rattle.std.proofs.Common.{◌≡◌, ℕ, zero, suc, Bool, true, false, List, [], ◌∷◌, ◌++◌, cond, Option, Some, None, refl, sym, ap, ◌∙◌, subst, filter, position, slice_get}
+use Rattle.cf_isolation.proofs.Common.{AllByRecursion, Endpoint, RunEvent, Session, SessionEvent, client_of, is_between, remove, session_at, sessions_of, with_event_at}
 use Rattle.cf_policy.proofs.FirstPlace.{first_at}
-use Rattle.cf_session.specs.Session.{SessionEvent}
-use Rattle.cf_view.specs.declared.Endpoint.{Endpoint}
-use Rattle.cf_run.specs.Sessions.{session_at}
-use Rattle.cf_run.specs.Table.{Session, is_between}
-use Rattle.cf_run.specs.Trace.{replaced, with_event_at}
+use Rattle.cf_run.specs.Trace.{replaced}
 use Rattle.cf_run.proofs.Pairs.{none_there}
+use Rattle.cf_isolation.specs.Lives.{EachHasALife, HasLife}
+use Rattle.cf_isolation.proofs.Lists.{all_back, all_filtered}
+use Rattle.cf_isolation.proofs.Tables.{same_self}
 
 -- ---- filters
 
@@ -147,3 +145,16 @@ module _ (client asset : Endpoint) where
   other_changes table i e x at other =
       let a = around_theirs table i x at in
       a.changed e ∙ ap (λ b. a.front ++ cond b (record x { events = replaced e x.events } ∷ a.back) a.back) other ∙ sym (a.is ∙ ap (λ b. a.front ++ cond b (x ∷ a.back) a.back) other)
+
+-- ---- lives
+
+pub each_has_a_life : EachHasALife
+each_has_a_life events place s h =
+    let own : is_between (client_of s.flow) s.flow.asset.endpoint s ≡ true = let x = same_self (client_of s.flow) in let y = same_self s.flow.asset.endpoint in rw (x, y) refl in
+    let a = around_theirs (client_of s.flow) s.flow.asset.endpoint (sessions_of events) place s h in
+    record { before = a.front; later = a.back; are = a.is ∙ ap (λ b. a.front ++ cond b (s ∷ a.back) a.back) own }
+
+-- what holds of each session holds of one that has a life
+pub of_life : (P : Session → Type 0) (s : Session) (events : List RunEvent) (life : HasLife s events) → AllByRecursion P (sessions_of events) → P s
+of_life P s events life all =
+    (all_back P life.before (s ∷ life.later) (subst (AllByRecursion P) life.are (all_filtered P (is_between (client_of s.flow) s.flow.asset.endpoint) (sessions_of events) all))).0

@@ -1,28 +1,14 @@
 -- What the two halves of an event do to the sessions of a client and an asset, and what these put out.
-use Rattle.std.proofs.Common.{◌≡◌, ℕ, ◌+◌, ◌<◌, ◌≤◌, ◌&&◌, Bool, true, false, not, List, [], ◌∷◌, ◌++◌, cond, Option, Some, None, Result, refl, sym, ap, ◌∙◌, subst, append_assoc, arith}
-use Rattle.std.specs.Prelude.{filter, slice_get}
-use Rattle.std.specs.List.{AllByRecursion, remove}
-use Rattle.std.proofs.lemmas.Bool.{and_parts, true≢false}
-use Rattle.std.proofs.lemmas.List.{append-nil}
-use Rattle.std.proofs.lemmas.List.Elements.{filter-append}
+use Rattle.std.proofs.Common.{◌≡◌, ℕ, ◌+◌, ◌<◌, ◌≤◌, ◌&&◌, Bool, true, false, not, List, [], ◌∷◌, ◌++◌, cond, Option, Some, None, Result, refl, sym, ap, ◌∙◌, subst, append_assoc, arith, filter, slice_get}
+use Rattle.cf_isolation.proofs.Common.{AllByRecursion, AreTicks, Asset, Begun, Dropped, Endpoint, Flow, GoesOnAt, HasEvents, IsBeginning, IsPacket, IsTick, NoRoom, NoSession, PacketRefusal, PacketValue, Received, ReceivesRecord, Session, SessionEvent, Side, Went, and_parts, append-nil, begins_theirs, born_at, client_of, filter-append, goes_to_theirs, is_between, is_expired, is_flow_of, is_theirs, kept, leaves, left_by_packet, remove, same_endpoint, same_is, session_at, stays, ticked, ticks_of, with_event_at, with_events}
 use Rattle.std.specs.Option.{is_some}
-use Rattle.cf_audit.specs.declared.CutReason.{CutReason}
-use Rattle.cf_packet.specs.Packet.{PacketValue}
-use Rattle.cf_packet.specs.declared.packet.PacketRefusal.{PacketRefusal}
-use Rattle.cf_policy.specs.declared.Asset.{Asset}
-use Rattle.cf_session.specs.Event.{IsBeginning, IsPacket, IsTick}
-use Rattle.cf_session.specs.Session.{Flow, SessionEvent, client_of, is_expired}
-use Rattle.cf_view.specs.declared.Endpoint.{Endpoint}
-use Rattle.cf_view.specs.declared.Side.{Side}
-use Rattle.cf_run.specs.Isolation.{begins_theirs, goes_to_theirs, is_flow_of, is_theirs, ticks_of}
-use Rattle.cf_run.specs.Sessions.{HasEvents, leaves, left_by_packet, session_at}
-use Rattle.cf_run.specs.Table.{Session, is_between, place_of, without}
-use Rattle.cf_view.specs.Endpoints.{same_endpoint}
-use Rattle.cf_run.specs.Trace.{AreTicks, Begun, Dropped, GoesOnAt, GoesOnWith, NoRoom, NoSession, Received, ReceivesRecord, Went, after_received, behind, kept, stays, ticked, with_event_at, with_events}
-use Rattle.cf_isolation.specs.Lives.{born_at}
+use Rattle.cf_run.specs.Table.{place_of, without}
+use Rattle.cf_run.specs.Trace.{GoesOnWith, after_received, behind}
 use Rattle.cf_isolation.proofs.Lists.{all_map}
+use Rattle.cf_isolation.proofs.Output.{Output}
 use Rattle.cf_isolation.proofs.Order.{IsWithin, Moves, born, comes, grows, stays_so}
-use Rattle.cf_isolation.proofs.Tables.{receives, same_is}
+use Rattle.cf_isolation.proofs.Packets.{uncut}
+use Rattle.cf_isolation.proofs.Tables.{receives}
 use Rattle.cf_run.proofs.Pairs.{filter_swap, next_are, ticks_are}
 use Rattle.cf_isolation.proofs.Theirs.{filter_one, gives_none, gives_other, gives_theirs, none_changes, other_changes, own_changes}
 
@@ -30,27 +16,18 @@ pub data AtMostOne (ss : List Session) : Type 0 where
   none_there : ss ≡ [] → AtMostOne ss
   one_there : (s : Session) → ss ≡ s ∷ [] → AtMostOne ss
 
-pub uncut : (c : Option CutReason) → not (is_some c) ≡ true → c ≡ None
-uncut None h = refl
-uncut (Some r) h = absurd (true≢false (sym h))
-
-module _ {X : Type 0} (at : X → ℕ) (first : Flow → SessionEvent → List X) (second : Flow → List SessionEvent → SessionEvent → List X) (own : Flow → List SessionEvent → List X)
-    (own_none : (f : Flow) → own f [] ≡ []) (own_more : (f : Flow) (e : SessionEvent) (es : List SessionEvent) → own f (e ∷ es) ≡ own f es ++ (first f e ++ second f es e))
-    (same_first : (f : Flow) (limit tick : ℕ) (es : List SessionEvent) (half : SessionEvent) (s : Side) (p : PacketValue) (e : SessionEvent) → IsTick f es tick half → half.cut ≡ None →
-    IsPacket f limit es half s p e → first f e ≡ first f half)
-    (no_second : (f : Flow) (d : SessionEvent) (es : List SessionEvent) (tick : ℕ) (t : SessionEvent) → IsTick f (d ∷ es) tick t → second f (d ∷ es) t ≡ [])
-    (no_first : (f : Flow) (tick : ℕ) (e : SessionEvent) → IsBeginning f tick e → first f e ≡ []) where
+module _ {X : Type 0} (o : Output X) where
   abbrev pub own_of : Session → List X
-  own_of s = own s.flow s.events
+  own_of s = o.own s.flow s.events
 
   abbrev pub AllAt : ℕ → List X → Type 0
-  AllAt m xs = AllByRecursion (λ x. at x ≡ m) xs
+  AllAt m xs = AllByRecursion (λ x. o.at x ≡ m) xs
 
-  at_within : (m low high : ℕ) (xs : List X) → low ≤ m → m < high → AllAt m xs → AllByRecursion (IsWithin at own_of low high) xs
-  at_within m low high xs a b h = all_map (λ x. at x ≡ m) (IsWithin at own_of low high) (λ x g. (omega (arith, g, a), omega (arith, g, b))) xs h
+  at_within : (m low high : ℕ) (xs : List X) → low ≤ m → m < high → AllAt m xs → AllByRecursion (IsWithin o.at own_of low high) xs
+  at_within m low high xs a b h = all_map (λ x. o.at x ≡ m) (IsWithin o.at own_of low high) (λ x g. (omega (arith, g, a), omega (arith, g, b))) xs h
 
   abbrev MovesTo : List Session → List Session → List X → ℕ → ℕ → Type 0
-  MovesTo before after more until now = Moves at own_of before after more until now
+  MovesTo before after more until now = Moves o.at own_of before after more until now
 
   module _ (limit : ℕ) (client asset : Endpoint) (tick : ℕ) where
     abbrev mine : List Session → List Session
@@ -66,10 +43,10 @@ module _ {X : Type 0} (at : X → ℕ) (first : Flow → SessionEvent → List X
       going : (s : Session) (t : SessionEvent) → mine found ≡ ticked_one s t ∷ [] → HasEvents limit s.flow s.events → IsTick s.flow s.events tick t → t.cut ≡ None → Here found
 
     -- what a session put out, its first half included
-    ticked_own : (f : Flow) (es : List SessionEvent) (t : SessionEvent) → HasEvents limit f es → IsTick f es tick t → own f (t ∷ es) ≡ own f es ++ first f t
+    ticked_own : (f : Flow) (es : List SessionEvent) (t : SessionEvent) → HasEvents limit f es → IsTick f es tick t → o.own f (t ∷ es) ≡ o.own f es ++ o.first f t
     ticked_own f [] t h is = absurd h
     ticked_own f (d ∷ es) t h is =
-        own_more f t (d ∷ es) ∙ ap (λ xs. own f (d ∷ es) ++ (first f t ++ xs)) (no_second f d es tick t is) ∙ ap (λ xs. own f (d ∷ es) ++ xs) (append-nil (first f t))
+        o.own_more f t (d ∷ es) ∙ ap (λ xs. o.own f (d ∷ es) ++ (o.first f t ++ xs)) (o.no_second f d es tick t is) ∙ ap (λ xs. o.own f (d ∷ es) ++ xs) (append-nil (o.first f t))
 
     ticked_born : (f : Flow) (es : List SessionEvent) (t : SessionEvent) → HasEvents limit f es → born_at (t ∷ es) ≡ born_at es
     ticked_born f [] t h = absurd h
@@ -77,10 +54,10 @@ module _ {X : Type 0} (at : X → ℕ) (first : Flow → SessionEvent → List X
 
     -- and the second half with it
     went_own : (f : Flow) (es : List SessionEvent) (t e : SessionEvent) (s : Side) (p : PacketValue) → HasEvents limit f es → IsTick f es tick t → t.cut ≡ None → IsPacket f limit es t s p e →
-        own f (e ∷ es) ≡ own f (t ∷ es) ++ second f es e
+        o.own f (e ∷ es) ≡ o.own f (t ∷ es) ++ o.second f es e
     went_own f es t e s p h is none on =
-        own_more f e es ∙ ap (λ xs. own f es ++ (xs ++ second f es e)) (same_first f limit tick es t s p e is none on) ∙ sym (append_assoc (own f es) (first f t) (second f es e))
-        ∙ ap (λ xs. xs ++ second f es e) (sym (ticked_own f es t h is))
+        o.own_more f e es ∙ ap (λ xs. o.own f es ++ (xs ++ o.second f es e)) (o.same_first f limit tick es t s p e is none on) ∙ sym (append_assoc (o.own f es) (o.first f t) (o.second f es e))
+        ∙ ap (λ xs. xs ++ o.second f es e) (sym (ticked_own f es t h is))
 
     -- ---- the first half
 
@@ -133,12 +110,12 @@ module _ {X : Type 0} (at : X → ℕ) (first : Flow → SessionEvent → List X
                 let same : past ++ (one ++ mine (ticked ticks tick table)) ≡ past ++ mine table =
                 ap (λ l. past ++ (one ++ l)) found_none ∙ ap (λ l. past ++ l) (append-nil one) ∙ ap (λ l. past ++ l) (sym is) in
                 subst (λ l. MovesTo (past ++ mine table) l c until (tick + 1)) (sym same)
-                (subst (λ xs. MovesTo (past ++ mine table) (past ++ mine table) xs until (tick + 1)) (sym empty) (stays_so at own_of (past ++ mine table) until (tick + 1) (omega (arith, soon))));
+                (subst (λ xs. MovesTo (past ++ mine table) (past ++ mine table) xs until (tick + 1)) (sym empty) (stays_so o.at own_of (past ++ mine table) until (tick + 1) (omega (arith, soon))));
           }
 
       -- their session has one
       module _ (s : Session) (is : mine table ≡ s ∷ []) (right : HasEvents limit s.flow s.events) (lives : exp s ≡ false) (t : SessionEvent) (one : U ≡ t ∷ []) (tick_is : IsTick s.flow s.events tick t)
-          (c_is : c ≡ first s.flow t) (c_at : AllAt tick c) where
+          (c_is : c ≡ o.first s.flow t) (c_at : AllAt tick c) where
         kept_one : mine (kept tick table) ≡ s ∷ []
         kept_one = kept_mine ∙ ap (filter (λ x. not (exp x))) is ∙ filter_one (λ x. not (exp x)) true s (ap not lives)
 
@@ -151,7 +128,7 @@ module _ {X : Type 0} (at : X → ℕ) (first : Flow → SessionEvent → List X
         moves_one : (past : List Session) → MovesTo (past ++ mine table) (past ++ ticked_one s t ∷ []) c until (tick + 1)
         moves_one past =
             subst (λ l. MovesTo (past ++ l) (past ++ ticked_one s t ∷ []) c until (tick + 1)) (sym is)
-            (grows at own_of past s (ticked_one s t) c until (tick + 1) (ticked_born s.flow s.events t right) (ticked_own s.flow s.events t right tick_is ∙ ap (λ xs. own s.flow s.events ++ xs) (sym c_is))
+            (grows o.at own_of past s (ticked_one s t) c until (tick + 1) (ticked_born s.flow s.events t right) (ticked_own s.flow s.events t right tick_is ∙ ap (λ xs. o.own s.flow s.events ++ xs) (sym c_is))
             (at_within tick until (tick + 1) c soon (omega arith) c_at) (omega (arith, soon)))
 
         by_cut : (b : Bool) → stays (ticked_one s t) ≡ b → First table ticks c until
@@ -180,15 +157,18 @@ module _ {X : Type 0} (at : X → ℕ) (first : Flow → SessionEvent → List X
               moves = λ past. subst (λ l. MovesTo (past ++ mine table) (past ++ ticked_one s t ∷ l) c until (tick + 1)) (sym found_none) (moves_one past);
             }
 
-      -- what they put out is that of their first halves
-      abbrev pub IsOfTicks : Type 0
-      IsOfTicks = ((s : Session) (t : SessionEvent) → mine (kept tick table) ≡ s ∷ [] → U ≡ t ∷ [] → c ≡ first s.flow t) × (mine (kept tick table) ≡ [] → U ≡ [] → c ≡ [])
-
       mine_are : AreTicks tick (mine (kept tick table)) U
       mine_are = ticks_are client asset tick (kept tick table) ticks are
 
       none_ticks : mine (kept tick table) ≡ [] → U ≡ []
       none_ticks h = subst (λ l. AreTicks tick l U) h mine_are
+
+      -- what they put out is that of their first halves
+      abbrev pub IsOfTicks : Type 0
+      IsOfTicks = c ≡ o.ticking (mine (kept tick table)) U
+
+      of_none : IsOfTicks → mine (kept tick table) ≡ [] → c ≡ []
+      of_none of is = of ∙ ap (λ l. o.ticking l U) is ∙ ap (o.ticking []) (none_ticks is) ∙ o.ticking_none
 
       one_tick : (s : Session) (us : List SessionEvent) → AreTicks tick (s ∷ []) us → (t : SessionEvent) × (us ≡ t ∷ []) × IsTick s.flow s.events tick t
       one_tick s [] h = absurd h
@@ -198,16 +178,16 @@ module _ {X : Type 0} (at : X → ℕ) (first : Flow → SessionEvent → List X
       by_expiry s is right of c_at true e =
           let none : filter (λ x. not (exp x)) (s ∷ []) ≡ [] = filter_one (λ x. not (exp x)) false s (ap not e) in
           let kept_none = kept_mine ∙ ap (filter (λ x. not (exp x))) is ∙ none in
-          nobody_ticks (s ∷ []) is (filter_one exp true s e) none (of.1 kept_none (none_ticks kept_none))
+          nobody_ticks (s ∷ []) is (filter_one exp true s e) none (of_none of kept_none)
       by_expiry s is right of c_at false e =
           let kept_is = kept_mine ∙ ap (filter (λ x. not (exp x))) is ∙ filter_one (λ x. not (exp x)) true s (ap not e) in
           let ticked = one_tick s U (subst (λ l. AreTicks tick l U) kept_is mine_are) in
-          by_cut s is right e ticked.0 ticked.1 ticked.2 (of.0 s ticked.0 kept_is ticked.1) c_at (stays (ticked_one s ticked.0)) refl
+          by_cut s is right e ticked.0 ticked.1 ticked.2 (of ∙ ap (λ l. o.ticking l U) kept_is ∙ ap (o.ticking (s ∷ [])) ticked.1 ∙ o.ticking_one s ticked.0) c_at (stays (ticked_one s ticked.0)) refl
 
       pub first_turn : AtMostOne (mine table) → ((s : Session) → mine table ≡ s ∷ [] → HasEvents limit s.flow s.events) → IsOfTicks → AllAt tick c → First table ticks c until
       first_turn (none_there is) right of c_at =
           let kept_none = kept_mine ∙ ap (filter (λ x. not (exp x))) is in
-          nobody_ticks [] is refl refl (of.1 kept_none (none_ticks kept_none))
+          nobody_ticks [] is refl refl (of_none of kept_none)
       first_turn (one_there s is) right of c_at = by_expiry s is (right s is) of c_at (exp s) refl
 
     -- ---- the second half
@@ -218,8 +198,7 @@ module _ {X : Type 0} (at : X → ℕ) (first : Flow → SessionEvent → List X
       pub few : AtMostOne (mine (after_received r found))
       pub moves : (past : List Session) → MovesTo (past ++ mine found) (past ++ (left ++ mine (after_received r found))) c (tick + 1) (tick + 2)
 
-    module _ (found : List Session) (here : Here found) (put : Received → List X) (put_begun : (f : Flow) (e : SessionEvent) → put (Begun f e) ≡ second f [] e)
-        (put_went : (i : ℕ) (e : SessionEvent) (x : Session) → slice_get found i ≡ Some x → put (Went i e) ≡ second x.flow (behind x.events) e) (c : List X) (c_at : AllAt (tick + 1) c) where
+    module _ (found : List Session) (here : Here found) (c : List X) (c_at : AllAt (tick + 1) c) where
       here_few : Here found → AtMostOne (mine found)
       here_few (nobody h) = none_there h
       here_few (going s t h right is none) = one_there (ticked_one s t) h
@@ -239,7 +218,7 @@ module _ {X : Type 0} (at : X → ℕ) (first : Flow → SessionEvent → List X
         left_is = gone;
         few = subst AtMostOne (sym same) (here_few here);
         moves = λ past. subst (λ l. MovesTo (past ++ mine found) (past ++ l) c (tick + 1) (tick + 2)) (sym same)
-            (subst (λ xs. MovesTo (past ++ mine found) (past ++ mine found) xs (tick + 1) (tick + 2)) (sym empty) (stays_so at own_of (past ++ mine found) (tick + 1) (tick + 2) (omega arith)));
+            (subst (λ xs. MovesTo (past ++ mine found) (past ++ mine found) xs (tick + 1) (tick + 2)) (sym empty) (stays_so o.at own_of (past ++ mine found) (tick + 1) (tick + 2) (omega arith)));
       }
 
       -- a session of theirs begins
@@ -251,10 +230,10 @@ module _ {X : Type 0} (at : X → ℕ) (first : Flow → SessionEvent → List X
           let parts = and_parts (same_endpoint (client_of f) client) (same_endpoint f.asset.endpoint asset) is in
           ap (λ x. place_of x f.asset.endpoint found) (same_is (client_of f) client parts.0) ∙ ap (λ x. place_of client x found) (same_is f.asset.endpoint asset parts.1)
 
-      begun_own : (f : Flow) (e : SessionEvent) → IsBeginning f tick e → own f (e ∷ []) ≡ second f [] e
-      begun_own f e h = own_more f e [] ∙ ap (λ xs. xs ++ (first f e ++ second f [] e)) (own_none f) ∙ ap (λ xs. xs ++ second f [] e) (no_first f tick e h)
+      begun_own : (f : Flow) (e : SessionEvent) → IsBeginning f tick e → o.own f (e ∷ []) ≡ o.second f [] e
+      begun_own f e h = o.own_more f e [] ∙ ap (λ xs. xs ++ (o.first f e ++ o.second f [] e)) (o.own_none f) ∙ ap (λ xs. xs ++ o.second f [] e) (o.no_first f tick e h)
 
-      begun_by : (f : Flow) (e : SessionEvent) → is_flow_of client asset f ≡ true → IsBeginning f tick e → c ≡ second f [] e → (gives : (left : List Session) × (mine (left_by_packet (Begun f e) found) ≡ left)
+      begun_by : (f : Flow) (e : SessionEvent) → is_flow_of client asset f ≡ true → IsBeginning f tick e → c ≡ o.second f [] e → (gives : (left : List Session) × (mine (left_by_packet (Begun f e) found) ≡ left)
           × (mine (without (client_of f) f.asset.endpoint found) ≡ []) × (mine found ≡ left)) → Second found (Begun f e) c
       begun_by f e is h c_is (left, gone, rest, all) =
           let new = new_one f e in
@@ -269,7 +248,7 @@ module _ {X : Type 0} (at : X → ℕ) (first : Flow → SessionEvent → List X
                 let same : past ++ (left ++ mine (after_received (Begun f e) found)) ≡ (past ++ mine found) ++ new ∷ [] =
                 ap (λ l. past ++ (left ++ l)) after ∙ ap (λ l. past ++ (l ++ new ∷ [])) (sym all) ∙ sym (append_assoc past (mine found) (new ∷ [])) in
                 subst (λ l. MovesTo (past ++ mine found) l c (tick + 1) (tick + 2)) (sym same)
-                (comes at own_of (past ++ mine found) new c (tick + 1) (tick + 2) (begun_own f e h ∙ sym c_is) (omega (arith, born_is)) (omega (arith, born_is))
+                (comes o.at own_of (past ++ mine found) new c (tick + 1) (tick + 2) (begun_own f e h ∙ sym c_is) (omega (arith, born_is)) (omega (arith, born_is))
                 (at_within (tick + 1) (born new) (tick + 2) c (omega (arith, born_is)) (omega arith) c_at));
           }
 
@@ -302,7 +281,7 @@ module _ {X : Type 0} (at : X → ℕ) (first : Flow → SessionEvent → List X
 
       module _ (i : ℕ) (e : SessionEvent) (s : Session) (t : SessionEvent) (is : mine found ≡ ticked_one s t ∷ []) (right : HasEvents limit s.flow s.events) (tick_is : IsTick s.flow s.events tick t)
           (none : t.cut ≡ None) (from : Side) (p : PacketValue) (on : IsPacket s.flow limit s.events t from p e) (changed : mine (with_event_at i e found) ≡ went_one s e ∷ [])
-          (c_is : c ≡ second s.flow s.events e) where
+          (c_is : c ≡ o.second s.flow s.events e) where
         gone_one : mine (left_by_packet (Went i e) found) ≡ filter leaves (went_one s e ∷ [])
         gone_one = filter_swap (is_between client asset) leaves (with_event_at i e found) ∙ ap (filter leaves) changed
 
@@ -312,8 +291,8 @@ module _ {X : Type 0} (at : X → ℕ) (first : Flow → SessionEvent → List X
         went_moves : (past : List Session) → MovesTo (past ++ mine found) (past ++ went_one s e ∷ []) c (tick + 1) (tick + 2)
         went_moves past =
             subst (λ l. MovesTo (past ++ l) (past ++ went_one s e ∷ []) c (tick + 1) (tick + 2)) (sym is)
-            (grows at own_of past (ticked_one s t) (went_one s e) c (tick + 1) (tick + 2) (ticked_born s.flow s.events e right ∙ sym (ticked_born s.flow s.events t right))
-            (went_own s.flow s.events t e from p right tick_is none on ∙ ap (λ xs. own s.flow (t ∷ s.events) ++ xs) (sym c_is)) (at_within (tick + 1) (tick + 1) (tick + 2) c (omega arith) (omega arith) c_at) (omega arith))
+            (grows o.at own_of past (ticked_one s t) (went_one s e) c (tick + 1) (tick + 2) (ticked_born s.flow s.events e right ∙ sym (ticked_born s.flow s.events t right))
+            (went_own s.flow s.events t e from p right tick_is none on ∙ ap (λ xs. o.own s.flow (t ∷ s.events) ++ xs) (sym c_is)) (at_within (tick + 1) (tick + 1) (tick + 2) c (omega arith) (omega arith) c_at) (omega arith))
 
         went_by : (b : Bool) → stays (went_one s e) ≡ b → Second found (Went i e) c
         went_by true h =
@@ -334,12 +313,12 @@ module _ {X : Type 0} (at : X → ℕ) (first : Flow → SessionEvent → List X
             }
 
       went_theirs : (i : ℕ) (e : SessionEvent) (x : Session) → slice_get found i ≡ Some x → is_between client asset x ≡ true → (from : Side) (p : PacketValue) →
-          GoesOnWith limit from p e x.flow x.events → c ≡ second x.flow (behind x.events) e → Here found → Second found (Went i e) c
+          GoesOnWith limit from p e x.flow x.events → c ≡ o.second x.flow (behind x.events) e → Here found → Second found (Went i e) c
       went_theirs i e x at_i passes from p on c_is (nobody h) = absurd (none_changes client asset found i x at_i passes h)
       went_theirs i e x at_i passes from p on c_is (going s t h right tick_is none) =
           let changes = own_changes client asset found i e x (ticked_one s t) at_i passes h in
           let goes : IsPacket s.flow limit s.events t from p e = subst (λ (y : Session). GoesOnWith limit from p e y.flow y.events) changes.0 on in
-          let put_is : c ≡ second s.flow s.events e = c_is ∙ ap (λ (y : Session). second y.flow (behind y.events) e) changes.0 in
+          let put_is : c ≡ o.second s.flow s.events e = c_is ∙ ap (λ (y : Session). o.second y.flow (behind y.events) e) changes.0 in
           went_by i e s t h right tick_is none from p goes changes.1.after put_is (stays (went_one s e)) refl
 
       went_other : (i : ℕ) (e : SessionEvent) (x : Session) → slice_get found i ≡ Some x → is_between client asset x ≡ false → c ≡ [] → Second found (Went i e) c
@@ -349,12 +328,12 @@ module _ {X : Type 0} (at : X → ℕ) (first : Flow → SessionEvent → List X
           (filter_swap (is_between client asset) stays (with_event_at i e found) ∙ ap (filter stays) same ∙ here_stay here) empty
 
       -- what is put out, by what the packet is to theirs
-      abbrev pub of_theirs : (goes begins : Bool) → Received → List X
-      of_theirs goes begins r = cond goes (put r) [] ++ cond begins (put r) []
+      abbrev of_theirs : (goes begins : Bool) → Received → List X
+      of_theirs goes begins r = cond goes (o.put found r) [] ++ cond begins (o.put found r) []
 
       went_if : (i : ℕ) (e : SessionEvent) (x : Session) → slice_get found i ≡ Some x → (from : Side) (p : PacketValue) → GoesOnWith limit from p e x.flow x.events →
           (b : Bool) → is_between client asset x ≡ b → c ≡ of_theirs b false (Went i e) → Second found (Went i e) c
-      went_if i e x at_i from p on true passes c_is = went_theirs i e x at_i passes from p on (c_is ∙ append-nil _ ∙ put_went i e x at_i) here
+      went_if i e x at_i from p on true passes c_is = went_theirs i e x at_i passes from p on (c_is ∙ append-nil _ ∙ o.put_went found i e x at_i) here
       went_if i e x at_i from p on false other c_is = went_other i e x at_i other c_is
 
       went_at : (i : ℕ) (e : SessionEvent) (o : Option Session) → slice_get found i ≡ o → (from : Side) (p : PacketValue) → GoesOnAt limit from p e o →
@@ -363,7 +342,7 @@ module _ {X : Type 0} (at : X → ℕ) (first : Flow → SessionEvent → List X
       went_at i e (Some x) at_i from p on c_is = went_if i e x at_i from p on (is_between client asset x) refl c_is
 
       begun_if : (f : Flow) (e : SessionEvent) → IsBeginning f tick e → (b : Bool) → is_flow_of client asset f ≡ b → c ≡ of_theirs false b (Begun f e) → Second found (Begun f e) c
-      begun_if f e h true is c_is = begun_by f e is h (c_is ∙ put_begun f e) (begun_gives f e is here)
+      begun_if f e h true is c_is = begun_by f e is h (c_is ∙ o.put_begun found f e) (begun_gives f e is here)
       begun_if f e h false other c_is = begun_other f e other c_is
 
       pub second_turn : (assets : List Asset) (p : Result PacketValue PacketRefusal) (r : Received) → ReceivesRecord assets limit tick found p r →

@@ -1,25 +1,20 @@
 -- The words of a line of the log: they tell its moment, its client and its asset's name.
-use Rattle.std.proofs.Common.{◌≡◌, ℕ, ◌+◌, ◌*◌, ◌/◌, ◌%◌, ◌^◌, ◌<◌, ◌==◌, ◌&&◌, Bool, true, false, not, List, [], ◌∷◌, ◌++◌, cond, refl, sym, ap, ◌∙◌, subst, append_assoc, arith}
-use Rattle.std.specs.Prelude.{bytes_eq, codes, decimal, filter}
-use Rattle.std.specs.List.{AllByRecursion, list_all}
+use Rattle.std.proofs.Common.{◌≡◌, ℕ, ◌+◌, ◌*◌, ◌/◌, ◌%◌, ◌^◌, ◌<◌, ◌==◌, ◌&&◌, Bool, true, false, not, List, [], ◌∷◌, ◌++◌, cond, refl, sym, ap, ◌∙◌, subst, append_assoc, arith, bytes_eq, codes, decimal, filter}
+use Rattle.cf_isolation.proofs.Common.{AllByRecursion, Endpoint, and_parts, append-nil, filter-append, moment_in, names_both, nat_tests, same_endpoint, same_is, true≢false}
+use Rattle.std.specs.List.{list_all}
 use Rattle.std.specs.Char.{digit_value}
 use Rattle.std.specs.Str.Parse.{AllDigits, digits_value, digits_value_after}
-use Rattle.std.proofs.lemmas.Bool.{and_parts, false_from_ne_true, ne_eqb, true≢false}
-use Rattle.std.proofs.lemmas.Bool.Decides.{nat_tests}
+use Rattle.std.proofs.lemmas.Bool.{false_from_ne_true, ne_eqb}
 use Rattle.std.proofs.lemmas.Fmt.{decimal_digit, decimal_injective, decimal_is_IsNumeral}
-use Rattle.std.proofs.lemmas.List.{append-nil}
-use Rattle.std.proofs.lemmas.List.Elements.{filter-append}
 use Rattle.std.proofs.lemmas.Slice.Eq.{bytes_eq-Decides}
 use Rattle.std.proofs.lemmas.Str.Parse.{tells_digits}
 use Rattle.cf_audit.specs.Line.{LineValue}
 use Rattle.cf_audit.specs.Text.{line_text, what_text}
 use Rattle.cf_policy.specs.Names.{is_name_byte}
-use Rattle.cf_view.specs.Endpoints.{same_endpoint}
 use Rattle.cf_view.specs.Text.{dotted, endpoint_text, moment_text, six_digits}
-use Rattle.cf_view.specs.declared.Endpoint.{Endpoint}
-use Rattle.cf_isolation.specs.Lines.{behind_word, first_word, moment_in, names_both}
+use Rattle.cf_isolation.specs.Lines.{behind_word, first_word}
 use Rattle.cf_isolation.proofs.Lists.{all_both}
-use Rattle.cf_isolation.proofs.Tables.{same_is, same_self}
+use Rattle.cf_isolation.proofs.Tables.{same_self}
 
 -- ---- octets without one
 

@@ -1,11 +1,10 @@
 -- The run of two clients that is worked by hand.
-use Rattle.std.proofs.Common.{◌∷◌, [], ap, arith, refl}
+use Rattle.std.proofs.Common.{◌∷◌, [], ap, arith, refl, length}
+use Rattle.cf_isolation.proofs.Common.{HasSession}
 use Rattle.std.specs.Fmt.{digits}
-use Rattle.std.specs.Prelude.{length}
 use Rattle.cf_leg.specs.Emitted.{spelled}
 use Rattle.cf_packet.specs.Checksum.{ones_sum}
 use Rattle.cf_isolation.specs.Rows.{RowsHold, alone, begins, begun_by, dropped, events, first, first_session, flow, fourth, next_session, one, other, second, third, third_with}
-use Rattle.cf_run.specs.Isolation.{HasSession}
 
 -- the first session up to its reset
 abbrev first_whole : HasSession (flow one 1000) events

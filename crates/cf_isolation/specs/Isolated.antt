@@ -9,7 +9,7 @@ use Rattle.std.specs.Prelude.{◌≡◌, ◌<◌, ◌≤◌, ◌^◌, ℕ, List,
 use Rattle.std.specs.List.{AllByRecursion, flat_map}
 use Rattle.cf_view.specs.Moment.{moment_limit}
 use Rattle.cf_policy.specs.declared.Asset.{Asset}
-use Rattle.cf_readback.specs.ReadBack.{output_form, record_by}
+use Rattle.cf_isolation.specs.ReadBack.{output_form, record_by}
 use Rattle.cf_records.specs.Capture.{AreRecords, LastPlace, Record}
 use Rattle.cf_run.specs.Isolation.{AreMatchedAlike, HasSession, moments_of, session_sent, ticks_of}
 use Rattle.cf_run.specs.Run.{IsRun}
@@ -50,40 +50,11 @@ pub record HaveOneTime {events others : List RunEvent} (flow : Flow)
 abbrev pub sent_in_time : {events : List RunEvent} → (flow : Flow) → HasSession flow events → List Sent
 sent_in_time {events} flow has = sent_between (client_of flow) flow.asset.endpoint (began_at has) (seen_until has) (sent events)
 
--- what is sent between two ends is what the session's own events sent, in their order
-abbrev pub SentIsOfSessions : Type 0
-SentIsOfSessions =
-    (assets : List Asset) (limit : ℕ) (given : List Input) (out log : List ℕ) (summary : Summary)
-    (run : IsRun assets limit given out log summary) →
-    (flow : Flow) (has : HasSession flow run.events) → sent_in_time flow has ≡ session_sent flow has
-
 -- what a session sends in the first half of the event that comes next
 abbrev pub sent_last : {events : List RunEvent} → (flow : Flow) → (has : HasSession flow events) → NextEvent has → List Sent
 sent_last flow has behind =
     let table = kept (tick_of behind.next.input) (table_after (has.later ++ has.first ∷ has.earlier)) in
     flat_map sent_first (ticks_of (client_of flow) flow.asset.endpoint table behind.next.ticks)
-
--- up to that half, so up to the packet that begins the next session of theirs, it is what the session's own events sent
-abbrev pub SentToTheNext : Type 0
-SentToTheNext =
-    (assets : List Asset) (limit : ℕ) (given : List Input) (out log : List ℕ) (summary : Summary)
-    (run : IsRun assets limit given out log summary) →
-    (flow : Flow) (has : HasSession flow run.events) (behind : NextEvent has) →
-    sent_between (client_of flow) flow.asset.endpoint (began_at has) (tick_of behind.next.input) (sent run.events)
-    ≡ session_sent flow has ++ sent_last flow has behind
-
--- two runs of one policy with equal moments: a session of the one and a session of the other, of the same client and asset, which
--- began in the same event by the same packet, have one time up to the last event before which they are matched alike, and in it the
--- same was sent between their endpoints. The rest of the two captures may differ in every way
-abbrev pub SentIsIsolated : Type 0
-SentIsIsolated =
-    (assets : List Asset) (limit : ℕ) (given other_given : List Input) (out other_out log other_log : List ℕ)
-    (summary other_summary : Summary)
-    (run : IsRun assets limit given out log summary) (other_run : IsRun assets limit other_given other_out other_log other_summary) →
-    moments_of given ≡ moments_of other_given →
-    (flow : Flow) (one : HasSession flow run.events) (other : HasSession flow other_run.events) →
-    length one.earlier ≡ length other.earlier → AreMatchedAlike assets flow one other →
-    HaveOneTime flow one other × (sent_in_time flow one ≡ sent_in_time flow other)
 
 -- ---- the output capture
 

@@ -1,4 +1,4 @@
--- The life of each session of a run in the two output files: EachSent and EachLogged; and what two runs have alike: AlikeInRecords and
+-- The life of each session of a run in the two output files: EachHasRecords and EachLogged; and what two runs have alike: AlikeInRecords and
 -- AlikeInLines. A session is one of `sessions_of` of `cf_run`, with its own events.
 --
 -- A life goes from the moment of the record in which the session began to before that of the record in which the next session of the
@@ -9,7 +9,7 @@ use Rattle.cf_leg.specs.Event.{moment}
 use Rattle.cf_packet.specs.Packet.{read_record}
 use Rattle.cf_policy.specs.Within.{AreAssetsWithin}
 use Rattle.cf_policy.specs.declared.Asset.{Asset}
-use Rattle.cf_readback.specs.ReadBack.{record_by}
+use Rattle.cf_isolation.specs.ReadBack.{record_by}
 use Rattle.cf_records.specs.Capture.{Record}
 use Rattle.cf_run.specs.Run.{IsRun}
 use Rattle.cf_run.specs.Sessions.{AreAlike, sessions_of}
@@ -87,13 +87,6 @@ lines_in_life {events} session life =
     let client = client_of session.flow in
     let name = session.flow.asset.name in
     filter (λ line. names_both client name line && is_in_life (born_at session.events) life.later (moment_in line)) (logged events)
-
--- between the endpoints of each session, in its life, is what its own events sent, in their order
-abbrev pub EachSent : Type 0
-EachSent =
-    (assets : List Asset) (limit : ℕ) (given : List Input) (out log : List ℕ) (summary : Summary)
-    (run : IsRun assets limit given out log summary) (session : Session) (life : HasLife session run.events) →
-    sent_in_life session life ≡ own_sent session.events
 
 -- the records of the output capture between the ends of a session, in its life, are the records of what it sent
 abbrev pub EachHasRecords : Type 0

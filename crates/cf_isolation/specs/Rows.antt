@@ -12,7 +12,7 @@ use Rattle.cf_lane.specs.Rows.{modbus_asset}
 use Rattle.cf_leg.specs.Event.{Cut, Greeting, Packet, Spoke, begun, clocked}
 use Rattle.cf_packet.specs.Packet.{PacketValue}
 use Rattle.cf_packet.specs.declared.PacketRefusal.TheVariants as refusal
-use Rattle.cf_readback.specs.ReadBack.{record_by}
+use Rattle.cf_isolation.specs.ReadBack.{record_by}
 use Rattle.cf_records.specs.Capture.{Record}
 use Rattle.cf_run.specs.Isolation.{AreMatchedAlike, HasSession, session_logged, session_sent}
 use Rattle.cf_run.specs.Sessions.{AreAlike, sessions_of}

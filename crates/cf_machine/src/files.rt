@@ -7,10 +7,12 @@ ghost use Rattle.cf_outside.specs.Files.{untold};
 mod order;
 mod reader;
 mod same;
+mod texts;
 mod writer;
 
 use crate::files::reader::{Reader, forget, opened, read_from};
 use crate::files::same::{Place, Use, first_twins, is_begun, is_printed, place_of};
+use crate::files::texts::Texts;
 use crate::files::writer::Writers;
 use cf_outside::{FailedReads, Files, ReadAnswer, WriteAnswer};
 pub use same::Twins;
@@ -55,6 +57,7 @@ pub struct RealFiles<'a, R: FileSystem> {
     alloc: Global,
     gather: Gather,
     reader: Option<Reader<R::File>>,
+    texts: Texts,
     writers: Writers<R>,
     /// Which files the command's names stand for.
     places: Vec<Place>,
@@ -77,6 +80,7 @@ impl<'a, R: FileSystem> RealFiles<'a, R> {
             alloc,
             gather,
             reader: None,
+            texts: Texts::new(alloc),
             writers: Writers::new(alloc),
             places: Vec::new(alloc),
             fault: None,
@@ -102,6 +106,19 @@ impl<'a, R: FileSystem> RealFiles<'a, R> {
         ensures writes { self.new.write_faults ≡ self.old.write_faults }
     {
         self.note(name, Use::Output)
+    }
+
+    /// Keeps what is read of a file from now on, from its beginning up to so many octets. The error is want of memory.
+    pub fn keep_text(&mut self, name: &str, most: usize) -> io::Result<()>
+        ensures reads { self.new.failed_reads.names ≡ self.old.failed_reads.names }
+        ensures writes { self.new.write_faults ≡ self.old.write_faults }
+    {
+        self.texts.keep(self.alloc, name, most)
+    }
+
+    /// What was read last of a file whose text is kept; nothing where nothing was read of it.
+    pub fn text_of(&self, name: &str) -> Option<&[u8]> {
+        self.texts.of(name)
     }
 
     /// Notes a name, what it leads to now, and what is done with it. The error is want of memory.
@@ -155,12 +172,16 @@ impl<'a, R: FileSystem> RealFiles<'a, R> {
         if self.writers.holds_of(name) {
             self.write_before_read()?;
         }
-        let (mut reader, may_wait) = opened(self.rt, self.alloc, &mut self.reader, name)?;
+        let is_kept = self.texts.has(name);
+        let (mut reader, may_wait) = opened(self.rt, self.alloc, &mut self.reader, name, is_kept)?;
         if may_wait {
             self.write_before_read()?;
         }
         let count = read_from(&mut reader, at, buf)?;
         self.reader = Some(reader);
+        if is_kept {
+            self.texts.note(name, at, &buf[..count]);
+        }
         Ok(count)
     }
 

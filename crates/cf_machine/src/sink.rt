@@ -5,8 +5,8 @@ use arrayvec::ArrayVec;
 use cf_outside::{Sink, WriteAnswer};
 use std::io::Write;
 
-/// How many octets are kept of what was put last.
-const KEPT: usize = 300;
+/// How many octets are held back at most.
+const MOST_HELD: usize = 300;
 
 /// When what is put is written.
 #[derive(Clone, Copy, PartialEq, Eq)]
@@ -23,8 +23,8 @@ pub struct RealSink<W: Write + Drop> {
     writer: W,
     printing: Printing,
     faults: u64,
-    last: ArrayVec<u8, KEPT>,
-    /// What was put last is not written yet.
+    /// What was put last, where it is not written yet.
+    held: ArrayVec<u8, MOST_HELD>,
     is_held: bool,
 }
 
@@ -37,14 +37,9 @@ impl<W: Write + Drop> RealSink<W> {
             writer,
             printing,
             faults: 0,
-            last: ArrayVec::new(),
+            held: ArrayVec::new(),
             is_held: false,
         }
-    }
-
-    /// The last octets of what was put last, 300 at most, for who reads on from there.
-    pub fn last(&self) -> &[u8] {
-        self.last.as_slice()
     }
 
     /// Writes what was held back; whether all of it was written. A sink that is left without it does not write that.
@@ -55,7 +50,7 @@ impl<W: Write + Drop> RealSink<W> {
             return true;
         }
         self.is_held = false;
-        self.writer.write_all(self.last.as_slice()).is_ok() && self.writer.flush().is_ok()
+        self.writer.write_all(self.held.as_slice()).is_ok() && self.writer.flush().is_ok()
     }
 
     /// Writes bytes and flushes, or holds them back: at most 300 octets, of a sink that writes what was put last at the end.
@@ -63,10 +58,10 @@ impl<W: Write + Drop> RealSink<W> {
     fn take(&mut self, bytes: &[u8]) -> bool
         ensures { self.new.faults ≡ self.old.faults }
     {
-        let from = bytes.len().saturating_sub(KEPT);
-        self.last.clear();
-        let _ = self.last.try_extend_from_slice(&bytes[from..]);
-        self.is_held = from == 0 && self.printing == Printing::LastAtEnd;
+        if self.printing == Printing::LastAtEnd {
+            self.held.clear();
+            self.is_held = self.held.try_extend_from_slice(bytes).is_ok();
+        }
         self.is_held || self.writer.write_all(bytes).is_ok() && self.writer.flush().is_ok()
     }
 }

@@ -23,12 +23,12 @@ use Rattle.cf_relay.proofs.Asking.{limit_goes, take_state_of, take_stops}
 use Rattle.cf_relay.proofs.Doing.{by_side}
 use Rattle.cf_relay.proofs.Moving.{ask_moves}
 use Rattle.cf_relay.proofs.Scenes.{faults_of, no_fault, on_ok, stop_cause}
-use Rattle.cf_relay.proofs.Serving.{handed_on, of_each, with_each}
+use Rattle.cf_relay.proofs.Serving.{handed_on, keeps_each, of_each, with_each}
 use Rattle.cf_relay.proofs.Standing.{TakesTo}
 use Rattle.cf_relay.specs.Relaying.{AsksOrRests, IsShort, IsSound, RelayingValue, is_closed, letters_from, relaying_value, rests_of}
 use Rattle.cf_relay.specs.Scene.{DoesBetween, RoseBy, StopsBetween, scene}
 use Rattle.cf_relay.specs.Sides.{of_side, with_side}
-use Rattle.cf_relay.specs.Taken.{LimitBy, TakeState, TakesBy, letters_brought, take_state}
+use Rattle.cf_relay.specs.Taken.{KeepsLane, LimitBy, TakeState, TakesBy, letters_brought, take_state}
 use Rattle.cf_relay.specs.Turn.{Taking}
 use Rattle.cf_relay.specs.declared.directions.Directions.{Directions}
 use Rattle.cf_relay.specs.declared.relaying.Relaying.{Relaying}
@@ -118,6 +118,23 @@ module _ (law : StreamsGoOn) (quiet : QuietBehindEnd) (dirs : Directions) (asset
   take_broke answer why is was takes =
       handed_on answer why (λ e. StopsBetween asset most (Taking dirs s ∷ []) e (scene (relaying_value old) links desk) (scene (taken_of s old lane c k heard' idle') links' desk')) is
       (ask_breaks law quiet dirs asset most s (relaying_value old) (taken_of s old lane c k heard' idle') links links' desk desk' sound.few (takes_side s old lane c k heard' idle') idles log r link write why was (takes_at (Err why) takes))
+
+  -- the lane stays the asset's
+  lane_broke : (why : Stop) → Takes (Err why) → KeepsLane asset lane why
+  lane_broke stop.Idle takes = subst (IsLaneOf asset) (sym (ap (λ (z : TakeState). z.state.lane) takes.2)) sound.of_asset
+  lane_broke stop.Link takes = subst (IsLaneOf asset) (sym (ap (λ (z : TakeState). z.state.lane) takes)) sound.of_asset
+  lane_broke stop.Write takes = tt
+  lane_broke (stop.Cut reason) takes = takes.1.hears.of_asset
+
+  pub take_lane : {T : Type 0} (answer : Result T Stop) (why : Stop) → IsErrAnd answer (λ e. e ≡ why) → Takes (Err why) → IfErr answer (KeepsLane asset lane)
+  take_lane answer why is takes = handed_on answer why (KeepsLane asset lane) is (lane_broke why takes)
+
+  lane_went : (x : Unit {0}) → Takes (Ok x) → IsLaneOf asset lane
+  lane_went x (inl (never, same)) = subst (IsLaneOf asset) (sym (ap (λ (z : TakeState). z.state.lane) same)) sound.of_asset
+  lane_went x (inr (may, few, done)) = done.hears.of_asset
+
+  pub take_lane_on : (x : Unit {0}) → Takes (Ok x) → (full : Result (Unit {0}) Stop) → IfErr full (KeepsLane asset lane)
+  take_lane_on x takes full = keeps_each asset lane lane refl (lane_went x takes) full
 
   module _ (x : Unit {0}) (was : r ≡ Ok x) (takes : Takes (Ok x)) (full : Result (Unit {0}) Stop) where
     counts_at : (before after brought : ℕ) → before + (length old.from.client.rest.items + length old.from.controller.rest.items) ≤ old.from.client.letters + old.from.controller.letters →

@@ -3,6 +3,7 @@ use Rattle.std.proofs.Common.{Bool, Err, List, Ok, Result, ap, arith, cond, leng
 use Rattle.std.specs.Prelude.{IfErr, OnOk}
 use Rattle.std.specs.Result.{IsErrAnd}
 use Rattle.std.proofs.lemmas.List.{length-append}
+use Rattle.cf_lane.specs.Handled.{IsLaneOf, LaneValue}
 use Rattle.cf_lane.specs.Output.{other}
 use Rattle.cf_lane.specs.declared.limit.TheConstants.{LETTER_LIMIT}
 use Rattle.cf_links.specs.LinkValue.{LinkValue}
@@ -22,6 +23,7 @@ use Rattle.cf_relay.specs.Gave.{FinishesBy, Gave, GaveBy}
 use Rattle.cf_relay.specs.Relaying.{IsSound, RelayingValue, ServesOrRests, is_closed, letters_from, queue_to, relaying_value}
 use Rattle.cf_relay.specs.Scene.{DoesBetween, RoseBy, Scene, StopsBetween, StopsBy, scene}
 use Rattle.cf_relay.specs.Sides.{of_side, with_side}
+use Rattle.cf_relay.specs.Taken.{KeepsLane}
 use Rattle.cf_relay.specs.Turn.{Finishing, Giving}
 use Rattle.cf_relay.specs.declared.relaying.Relaying.{Relaying}
 use Rattle.cf_relay.specs.declared.sides.Sides.{Sides}
@@ -32,6 +34,17 @@ use Rattle.cf_relay.specs.declared.stop.Stop.TheVariants as stop
 pub handed_on : {T : Type 0} (r : Result T Stop) (e : Stop) (P : Stop → Type 0) → IsErrAnd r (λ x. x ≡ e) → P e → IfErr r P
 handed_on (Ok x) e P is p = tt
 handed_on (Err x) e P is p = subst P (sym is) p
+
+-- a lane that stays as it was is one of the asset still
+pub keeps_any : (asset : Asset) (old new : LaneValue) (e : Stop) → new ≡ old → IsLaneOf asset old → KeepsLane asset new e
+keeps_any asset old new stop.Idle same is = subst (IsLaneOf asset) (sym same) is
+keeps_any asset old new stop.Link same is = subst (IsLaneOf asset) (sym same) is
+keeps_any asset old new stop.Write same is = tt
+keeps_any asset old new (stop.Cut reason) same is = subst (IsLaneOf asset) (sym same) is
+
+pub keeps_each : (asset : Asset) (old new : LaneValue) → new ≡ old → IsLaneOf asset old → (r : Result (Unit {0}) Stop) → IfErr r (KeepsLane asset new)
+keeps_each asset old new same is (Ok x) = tt
+keeps_each asset old new same is (Err e) = keeps_any asset old new e same is
 
 -- ---- of each side
 

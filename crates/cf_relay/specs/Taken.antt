@@ -1,7 +1,7 @@
 -- Steps of the proof: what taking does to a lane, its queues and its log: `TakesBy`.
 use Rattle.cf_audit.specs.declared.line.CutReason.{CutReason}
 use Rattle.cf_driver.specs.Takes.{MissesEnd, MissesPiece, Takes}
-use Rattle.cf_lane.specs.Handled.{IsOpen, State}
+use Rattle.cf_lane.specs.Handled.{IsLaneOf, IsOpen, LaneValue, State}
 use Rattle.cf_lane.specs.History.{taken}
 use Rattle.cf_lane.specs.Limit.{limit_by}
 use Rattle.cf_lane.specs.declared.limit.TheConstants.{LETTER_LIMIT}
@@ -91,6 +91,13 @@ TakesBy directions asset moment most s old new desk (Err stop.Write) =
     × MissesLine asset moment s answer old.rest old.state desk)
 TakesBy directions asset moment most s old new desk (Err (stop.Cut reason)) =
     MayTakeNow directions s old.state.to_client old.state.to_controller × TakesAnswer asset moment s (Some reason) old new
+
+-- the lane of a relay that stopped is one of the asset still, unless a write failed
+abbrev pub KeepsLane : Asset → LaneValue → Stop → Type 0
+KeepsLane asset lane stop.Idle = IsLaneOf asset lane
+KeepsLane asset lane stop.Link = IsLaneOf asset lane
+KeepsLane asset lane stop.Write = Unit {0}
+KeepsLane asset lane (stop.Cut reason) = IsLaneOf asset lane
 
 -- the desk may be called again, unless a write failed
 abbrev pub StaysWhole : Result Unit Stop → DeskValue → Type 0

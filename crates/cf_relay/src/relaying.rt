@@ -10,10 +10,11 @@ ghost use Rattle.cf_outside.specs.Pair.{Moment, met_at};
 ghost use Rattle.cf_policy.specs.Within.{IsAssetWithin};
 ghost use Rattle.cf_policy.specs.declared.Asset.{Asset as AssetOf};
 ghost use Rattle.cf_relay.specs.declared.limit.TheConstants.{MOST_BYTES};
-ghost use Rattle.cf_relay.specs.Relaying.{AreClosed, AsksOrRests, IsShort, IsSound, ServesOrRests, Unmoved, begun_value, relaying_value};
+ghost use Rattle.cf_relay.specs.Relaying.{AreClosed, AsksOrRests, IsShort, IsSound, RelayingValue, ServesOrRests, Unmoved, begun_value};
+ghost use Rattle.cf_relay.specs.Relaying.{relaying_value};
 ghost use Rattle.cf_relay.specs.Scene.{DoesBetween, StopsBetween, scene, scene_of};
 ghost use Rattle.cf_relay.specs.Stands.{IsNewLane, StandsFor};
-ghost use Rattle.cf_relay.specs.Taken.{LimitBy, StaysWhole};
+ghost use Rattle.cf_relay.specs.Taken.{KeepsLane, LimitBy, StaysWhole};
 ghost use Rattle.cf_relay.specs.Turn.{Finishing, Giving, Taking, Telling};
 ghost use Rattle.cf_view.specs.declared.Endpoint.{Endpoint as EndpointOf};
 
@@ -95,6 +96,7 @@ impl Relaying {
         ensures sound { (asset : AssetOf) (most : ℕ) → IsSound asset most (relaying_value self.old) → IsSound asset most
             (relaying_value self.new) }
         ensures unmoved { Unmoved (relaying_value self.old) (relaying_value self.new) }
+        ensures lane { RelayingValue.lane (relaying_value self.new) ≡ RelayingValue.lane (relaying_value self.old) }
     {
         match links.moment(session) {
             MomentAnswer::Told(now) => {
@@ -131,6 +133,7 @@ impl Relaying {
             (scene_of L.Links session D.Desk self.new links.new desk.new)) }
         ensures sound { OnOk result (IsSound asset.now most (relaying_value self.new)) }
         ensures moves { OnOk result (AsksOrRests directions side most (relaying_value self.old) (relaying_value self.new)) }
+        ensures lane { IfErr result (KeepsLane asset.now (RelayingValue.lane (relaying_value self.new))) }
         ensures whole { StaysWhole result (D.value desk.new) }
         ensures buffer { length buf.new ≡ MOST_BYTES }
     {
@@ -199,6 +202,7 @@ impl Relaying {
         ensures sound { OnOk result ((asset : AssetOf) → IsSound asset most (relaying_value self.old) → IsSound asset most
             (relaying_value self.new)) }
         ensures moves { OnOk result (ServesOrRests side most (relaying_value self.old) (relaying_value self.new)) }
+        ensures lane { RelayingValue.lane (relaying_value self.new) ≡ RelayingValue.lane (relaying_value self.old) }
         ensures buffer { length buf.new ≡ MOST_BYTES }
     {
         let queue = self.to.of_mut(side);

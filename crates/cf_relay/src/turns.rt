@@ -12,7 +12,7 @@ ghost use Rattle.cf_lane.specs.Rates.{used_at};
 ghost use Rattle.cf_lane.specs.Rings.{AreRingsOf, KnowRings, KnowsRules};
 ghost use Rattle.cf_policy.specs.declared.Asset.{Asset as AssetOf};
 ghost use Rattle.cf_relay.specs.Scene.{DoesBetween, StopsBetween, scene_of};
-ghost use Rattle.cf_relay.specs.Taken.{StaysWhole};
+ghost use Rattle.cf_relay.specs.Taken.{KeepsLane, StaysWhole};
 ghost use Rattle.cf_relay.specs.Turn.{turn, turns};
 
 use crate::directions::Directions;
@@ -126,6 +126,7 @@ impl Relaying {
             (scene_of L.Links session D.Desk self.old links.old desk.old)
             (scene_of L.Links session D.Desk self.new links.new desk.new)) }
         ensures sound { OnOk result (IsSound asset.now most (relaying_value self.new)) }
+        ensures lane { IfErr result (KeepsLane asset.now (RelayingValue.lane (relaying_value self.new))) }
         ensures moves { OnOk result ((progress most (relaying_value self.old) < progress most (relaying_value self.new))
             ⊎ AreClosed (relaying_value self.new)) }
         ensures whole { StaysWhole result (D.value desk.new) }

@@ -6,7 +6,7 @@ use std::alloc::{AllocError, AllocFailed};
 use std::fmt;
 
 /// Why a row cannot be played.
-#[derive(Clone, Copy, Debug)]
+#[derive(Clone, Copy)]
 pub enum Fault {
     /// Memory ran out.
     NoMemory,
@@ -17,7 +17,7 @@ pub enum Fault {
 }
 
 /// What a line must have.
-#[derive(Clone, Copy, Debug)]
+#[derive(Clone, Copy)]
 pub enum Wanted {
     Block,
     Key,
@@ -79,35 +79,37 @@ impl From<ExpandFault> for Fault {
 
 impl fmt::Display for Fault {
     fn fmt<W: fmt::Write>(&self, f: &mut fmt::Formatter<W>) -> fmt::Result {
-        match self {
-            Fault::NoMemory => write!(f, "memory ran out"),
-            Fault::Wanted(what) => write!(f, "{what}"),
-            Fault::WantedIn(what, line) => write!(f, "{what}: {}", line.as_str()),
-        }
+        let (what, between, line) = match self {
+            Fault::NoMemory => ("memory ran out", "", ""),
+            Fault::Wanted(what) => (what.words(), "", ""),
+            Fault::WantedIn(what, line) => (what.words(), ": ", line.as_str()),
+        };
+        write!(f, "{what}{between}{line}")
     }
 }
 
-impl fmt::Display for Wanted {
-    fn fmt<W: fmt::Write>(&self, f: &mut fmt::Formatter<W>) -> fmt::Result {
+impl Wanted {
+    /// That it is missing, in words.
+    fn words(self) -> &'static str {
         match self {
-            Wanted::Block => write!(f, "no kind of block"),
-            Wanted::Key => write!(f, "no known key"),
-            Wanted::Source => write!(f, "no line of its source below its name"),
-            Wanted::Exchange => write!(f, "no exchange of that name"),
-            Wanted::Repeat => write!(f, "a repetition without its number, its end or a sum"),
-            Wanted::Field => write!(f, "a field of a record is missing"),
-            Wanted::Moment => write!(f, "no moment with six digits behind its point"),
-            Wanted::Flag => write!(f, "no flag"),
-            Wanted::Number => write!(f, "no number that fits"),
-            Wanted::Octets => write!(f, "neither digits nor a unit"),
-            Wanted::Part => write!(f, "no part of these octets"),
-            Wanted::Record => write!(f, "a record that is too long or too late"),
-            Wanted::Endpoint => write!(f, "no address with a port"),
-            Wanted::Edit => write!(f, "no edit of the policy p"),
-            Wanted::Change => write!(f, "no octet of the capture"),
-            Wanted::Object => write!(f, "no object whose calls fail"),
-            Wanted::Place => write!(f, "no place of that asset"),
-            Wanted::End => write!(f, "no end of a session"),
+            Wanted::Block => "no kind of block",
+            Wanted::Key => "no known key",
+            Wanted::Source => "no line of its source below its name",
+            Wanted::Exchange => "no exchange of that name",
+            Wanted::Repeat => "a repetition without its number, its end or a sum",
+            Wanted::Field => "a field of a record is missing",
+            Wanted::Moment => "no moment with six digits behind its point",
+            Wanted::Flag => "no flag",
+            Wanted::Number => "no number that fits",
+            Wanted::Octets => "neither digits nor a unit",
+            Wanted::Part => "no part of these octets",
+            Wanted::Record => "a record that is too long or too late",
+            Wanted::Endpoint => "no address with a port",
+            Wanted::Edit => "no edit of the policy p",
+            Wanted::Change => "no octet of the capture",
+            Wanted::Object => "no object whose calls fail",
+            Wanted::Place => "no place of that asset",
+            Wanted::End => "no end of a session",
         }
     }
 }

@@ -24,9 +24,10 @@ pub fn push_octets(book: &Book, spelled: &str, all: &mut Vec<u8>) -> Result<(), 
 
 /// A number of octets, copies or calls.
 pub fn size(spelled: &str) -> Result<usize, Fault> {
-    spelled
-        .parse::<usize>()
-        .map_err(|_| Fault::Wanted(Wanted::Number))
+    match spelled.parse::<usize>() {
+        Ok(number) => Ok(number),
+        Err(_) => Err(Fault::Wanted(Wanted::Number)),
+    }
 }
 
 fn push_part(book: &Book, whole: &str, part: &str, all: &mut Vec<u8>) -> Result<(), Fault> {
@@ -44,10 +45,10 @@ fn push_token(book: &Book, token: &str, all: &mut Vec<u8>) -> Result<(), Fault> 
     if let Some(bytes) = book.units.get(unit) {
         return push_copies(bytes.as_slice(), times, all);
     }
-    let bytes = hex::decode(book.alloc, unit.as_bytes()).map_err(|_| Fault::Wanted(
-        Wanted::Octets,
-    ))?;
-    push_copies(bytes.as_slice(), times, all)
+    match hex::decode(book.alloc, unit.as_bytes()) {
+        Ok(bytes) => push_copies(bytes.as_slice(), times, all),
+        Err(_) => Err(Fault::Wanted(Wanted::Octets)),
+    }
 }
 
 fn push_copies(bytes: &[u8], times: usize, all: &mut Vec<u8>) -> Result<(), Fault> {

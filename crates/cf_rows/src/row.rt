@@ -9,48 +9,47 @@ use std::alloc::Global;
 use std::collections::BTreeMap;
 
 /// How the lines of a row begin.
-const KEYS: [&str; 40] = [
-    ">",
-    "<",
-    "log",
-    "stream:",
-    "REPLIES:",
-    "after:",
-    "before:",
-    "words:",
-    "place:",
-    "origins:",
-    "controller:",
-    "link:",
-    "edit:",
-    "capture:",
-    "octet:",
-    "tail:",
-    "first:",
-    "client sends:",
-    "controller sends:",
-    "idle to:",
-    "arrives:",
-    "listen fails:",
-    "rounds:",
-    "moments:",
-    "ends:",
-    "reached:",
-    "file fails:",
-    "put fails:",
-    "pair fails:",
-    "sweep:",
-    "once:",
-    "status:",
-    "printed:",
-    "counted:",
-    "outputs: none",
-    "OUT:",
-    "LOG:",
-    "CONTROLLER:",
-    "CLIENT:",
-    "answers:",
-];
+const KEYS: &str = "\
+>
+<
+log
+stream:
+REPLIES:
+after:
+before:
+words:
+place:
+origins:
+controller:
+link:
+edit:
+capture:
+octet:
+tail:
+first:
+client sends:
+controller sends:
+idle to:
+arrives:
+listen fails:
+rounds:
+moments:
+ends:
+reached:
+file fails:
+put fails:
+pair fails:
+sweep:
+once:
+status:
+printed:
+counted:
+outputs: none
+OUT:
+LOG:
+CONTROLLER:
+CLIENT:
+answers:";
 
 /// What stands after each key of a row, line by line, and whom its packets come from.
 #[derive(Drop)]
@@ -114,42 +113,51 @@ fn push_line(
     line: &str,
     lines: &mut BTreeMap<String, Vec<String>>,
 ) -> Result<(), Fault> {
-    for key in KEYS {
-        let Some(behind) = rest(line, key) else {
-            continue;
-        };
-        let behind = String::from_str(alloc, behind)?;
-        if let Some(others) = lines.get_mut(key) {
-            others.push(behind)?;
-        } else {
-            let mut first = Vec::new(alloc);
-            first.push(behind)?;
-            lines.insert(String::from_str(alloc, key)?, first)?;
-        }
+    let Some((key, behind)) = parted(line) else {
+        return Err(Fault::Wanted(Wanted::Key).at(line));
+    };
+    let behind = String::from_str(alloc, behind)?;
+    if let Some(others) = lines.get_mut(key) {
+        others.push(behind)?;
         return Ok(());
     }
-    Err(Fault::Wanted(Wanted::Key).at(line))
+    let first = vec![in alloc; behind]?;
+    lines.insert(String::from_str(alloc, key)?, first)?;
+    Ok(())
+}
+
+/// The first key with which a line begins, and what stands behind it.
+fn parted(line: &str) -> Option<(&'static str, &str)> {
+    for key in KEYS.lines() {
+        if let Some(behind) = rest(line, key) {
+            return Some((key, behind));
+        }
+    }
+    None
 }
 
 /// A number below 2^32.
 pub fn word32(spelled: &str) -> Result<u32, Fault> {
-    spelled
-        .parse::<u32>()
-        .map_err(|_| Fault::Wanted(Wanted::Number))
+    match spelled.parse::<u32>() {
+        Ok(number) => Ok(number),
+        Err(_) => Err(Fault::Wanted(Wanted::Number)),
+    }
 }
 
 /// A number of calls.
 pub fn word64(spelled: &str) -> Result<u64, Fault> {
-    spelled
-        .parse::<u64>()
-        .map_err(|_| Fault::Wanted(Wanted::Number))
+    match spelled.parse::<u64>() {
+        Ok(number) => Ok(number),
+        Err(_) => Err(Fault::Wanted(Wanted::Number)),
+    }
 }
 
 /// A number below 65,536.
 pub fn word16(spelled: &str) -> Result<u16, Fault> {
-    spelled
-        .parse::<u16>()
-        .map_err(|_| Fault::Wanted(Wanted::Number))
+    match spelled.parse::<u16>() {
+        Ok(number) => Ok(number),
+        Err(_) => Err(Fault::Wanted(Wanted::Number)),
+    }
 }
 
 /// An address and a port.
@@ -159,9 +167,9 @@ fn endpoint(spelled: &str) -> Result<Endpoint, Fault> {
         .ok_or(Fault::Wanted(Wanted::Endpoint))?;
     let mut value = 0_u32;
     for part in address.split('.') {
-        let part = part
-            .parse::<u8>()
-            .map_err(|_| Fault::Wanted(Wanted::Endpoint))?;
+        let Ok(part) = part.parse::<u8>() else {
+            return Err(Fault::Wanted(Wanted::Endpoint));
+        };
         value = (value << 8) | u32::from(part);
     }
     Ok(Endpoint {

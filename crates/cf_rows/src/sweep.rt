@@ -16,7 +16,7 @@ const CALLS: u64 = 10_000;
 const HEADER: usize = 24;
 
 /// Of which object a call fails.
-#[derive(Clone, Copy, PartialEq, Eq)]
+#[derive(Clone, Copy)]
 pub enum Fake {
     Files,
     Sink,
@@ -27,11 +27,12 @@ impl Fake {
     /// The script in which its call of a number fails and leaves so many bytes.
     fn script(self, call: u64, left: usize) -> Script {
         let fail = Some(Fail { call, left });
-        Script {
-            file: if self == Fake::Files { fail } else { None },
-            put: if self == Fake::Sink { fail } else { None },
-            pair: if self == Fake::Pair { fail } else { None },
-        }
+        let (file, put, pair) = match self {
+            Fake::Files => (fail, None, None),
+            Fake::Sink => (None, fail, None),
+            Fake::Pair => (None, None, fail),
+        };
+        Script { file, put, pair }
     }
 }
 

@@ -1,5 +1,5 @@
 -- What a session puts in the log follows from its own answers and its end.
-use Rattle.cf_lane.specs.Caller.{newcomer, none_before}
+use Rattle.cf_lane.specs.Caller.{RateMoments, caller_at}
 use Rattle.std.proofs.Common.{List, ap, inl, inr, subst, sym, ℕ, ◌∙◌, ◌≡◌, ◌++◌, ◌∷◌, true, []}
 use Rattle.cf_lane.specs.Judged.{Judged}
 use Rattle.cf_lane.specs.Laws.{HasOneJudgement}
@@ -18,8 +18,8 @@ use Rattle.cf_serve.specs.declared.end.SessionEnd.{SessionEnd}
 use Rattle.cf_serve.specs.declared.end.SessionEnd.TheVariants as end
 
 -- a relay that has made its turns has met a client
-not_unmet : (at : Listening) (most turns : ℕ) (es : List Entry) → es ≡ [] → DoesStages at.asset none_before most (stages both.Separate at.port turns) [] es → ⊥
-not_unmet at most turns es none (now, next, split, (goes, (client, is)), later) = cc
+not_unmet : (at : Listening) (before : RateMoments) (most turns : ℕ) (es : List Entry) → es ≡ [] → DoesStages at.asset before most (stages both.Separate at.port turns) [] es → ⊥
+not_unmet at before most turns es none (now, next, split, (goes, (client, is)), later) = cc
 
 -- numbers of the same items are the same, and so is a line that has them
 counted_as : (js ks : List Judged) (a b : ℕ) → js ≡ ks → IsCounted js a b → IsCounted ks a b
@@ -32,23 +32,23 @@ same_by line ks a b c d one two =
 same_line : (line : ℕ → ℕ → List ℕ) (js ks : List Judged) (a b c d : ℕ) → js ≡ ks → IsCounted js a b → IsCounted ks c d → line a b ≡ line c d
 same_line line js ks a b c d is one two = same_by line ks a b c d (counted_as js ks a b is one) two
 
-module _ (law : HasOneJudgement) (at : Listening) (most : ℕ) (es : List Entry) where
-  one_judgement : (js ks : List Judged) → AreItemsOf at.asset none_before es js → AreItemsOf at.asset none_before es ks → js ≡ ks
-  one_judgement = law at.asset (newcomer (client_of es).address) (history_of es)
+module _ (law : HasOneJudgement) (at : Listening) (before : RateMoments) (most : ℕ) (es : List Entry) where
+  one_judgement : (js ks : List Judged) → AreItemsOf at.asset before es js → AreItemsOf at.asset before es ks → js ≡ ks
+  one_judgement = law at.asset (caller_at (client_of es).address before) (history_of es)
 
   -- the lines of the items, and a last one
   with_one : (js ks : List Judged) (line other : List ℕ) → js ≡ ks → line ≡ other → log_of at.asset es js ++ line ∷ [] ≡ log_of at.asset es ks ++ other ∷ []
   with_one js ks line other is same = ap (λ xs. log_of at.asset es xs ++ line ∷ []) is ∙ ap (λ l. log_of at.asset es ks ++ l ∷ []) same
 
-  stands_alone : (own other : List (List ℕ)) → StandsSo at most es own → StandsSo at most es other → own ≡ other
+  stands_alone : (own other : List (List ℕ)) → StandsSo at before most es own → StandsSo at before most es other → own ≡ other
   stands_alone own other (inl (none, o)) (inl (again, p)) = o ∙ sym p
-  stands_alone own other (inl (none, o)) (inr (turns, (does, (goes, p)))) = absurd (not_unmet at most turns es none does)
-  stands_alone own other (inr (turns, (does, (goes, o)))) (inl (none, p)) = absurd (not_unmet at most turns es none does)
+  stands_alone own other (inl (none, o)) (inr (turns, (does, (goes, p)))) = absurd (not_unmet at before most turns es none does)
+  stands_alone own other (inr (turns, (does, (goes, o)))) (inl (none, p)) = absurd (not_unmet at before most turns es none does)
   stands_alone own other (inr (turns, (does, (goes, o)))) (inr (turns', (does', (goes', p)))) =
       o ∙ ap (log_of at.asset es) (one_judgement goes.judged goes'.judged goes.are_items goes'.are_items) ∙ sym p
 
   ends_alone : (client client' : Endpoint) (own other : List (List ℕ)) (e : SessionEnd) → was_relayed e ≡ true →
-      EndsSo at most client es own e → EndsSo at most client' es other e → own ≡ other
+      EndsSo at before most client es own e → EndsSo at before most client' es other e → own ≡ other
   ends_alone client client' own other end.Closed relayed (d, one) (d', two) =
       let is : one.goes.judged ≡ two.goes.judged = one_judgement one.goes.judged two.goes.judged one.goes.are_items two.goes.are_items in
       one.holds_log
@@ -74,24 +74,25 @@ module _ (law : HasOneJudgement) (at : Listening) (most : ℕ) (es : List Entry)
       ∙ sym two.ended.holds_log
   ends_alone client client' own other end.Unreached relayed one two = cc
   ends_alone client client' own other end.Gone relayed one two = cc
+  ends_alone client client' own other end.Again relayed one two = cc
   ends_alone client client' own other end.NoMemory relayed one two = cc
 
   alone : (client client' : Endpoint) (own other : List (List ℕ)) (ends : List SessionEnd) → AreRelayed ends →
-      IsSession at most client es own ends → IsSession at most client' es other ends → own ≡ other
+      IsSession at before most client es own ends → IsSession at before most client' es other ends → own ≡ other
   alone client client' own other [] relayed one two = stands_alone own other one two
   alone client client' own other (e ∷ more) relayed one two = ends_alone client client' own other e relayed one.1 two.1
 
 pub each_alone : HasOneJudgement → EachIsAlone
-each_alone law at most client client' es own other ends relayed one two = alone law at most es client client' own other ends relayed one two
+each_alone law at before most client client' es own other ends relayed one two = alone law at before most es client client' own other ends relayed one two
 
-moved : (at : Listening) (most : ℕ) (client : Endpoint) (own : List (List ℕ)) (es fs : List Entry) (ends others : List SessionEnd) → es ≡ fs → ends ≡ others →
-    IsSession at most client es own ends → IsSession at most client fs own others
-moved at most client own es fs ends others p q s = subst (λ e. IsSession at most client fs own e) q (subst (λ e. IsSession at most client e own ends) p s)
+moved : (at : Listening) (before : RateMoments) (most : ℕ) (client : Endpoint) (own : List (List ℕ)) (es fs : List Entry) (ends others : List SessionEnd) → es ≡ fs → ends ≡ others →
+    IsSession at before most client es own ends → IsSession at before most client fs own others
+moved at before most client own es fs ends others p q s = subst (λ e. IsSession at before most client fs own e) q (subst (λ e. IsSession at before most client e own ends) p s)
 
 pub isolates : HasOneJudgement → IsolatesSessions
-isolates law places others at most entries other_entries lines other_lines one two k l client client' mine theirs same ends relayed = (
+isolates law places others at before most entries other_entries lines other_lines one two k l client client' mine theirs same ends relayed = (
   λ s. ap (given s) same,
-  alone law at most (answers_of l other_entries) client client' (lines_in k (turns_of one.rounds)) (lines_in l (turns_of two.rounds)) (ends_in l (turns_of two.rounds)) relayed
-      (moved at most client (lines_in k (turns_of one.rounds)) (answers_of k entries) (answers_of l other_entries) (ends_in k (turns_of one.rounds)) (ends_in l (turns_of two.rounds)) same ends mine)
+  alone law at before most (answers_of l other_entries) client client' (lines_in k (turns_of one.rounds)) (lines_in l (turns_of two.rounds)) (ends_in l (turns_of two.rounds)) relayed
+      (moved at before most client (lines_in k (turns_of one.rounds)) (answers_of k entries) (answers_of l other_entries) (ends_in k (turns_of one.rounds)) (ends_in l (turns_of two.rounds)) same ends mine)
       theirs,
 )

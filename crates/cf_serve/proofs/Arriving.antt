@@ -8,7 +8,7 @@ use Rattle.std.proofs.lemmas.List.{append-nil, append_assoc, map-append}
 use Rattle.std.proofs.lemmas.Option.{same_Some}
 use Rattle.cf_lane.specs.Handled.{MayHaveMore}
 use Rattle.cf_lane.specs.Log.{line_about, with_lines}
-use Rattle.cf_links.specs.Links.{Came, Left, LinksEntry, LinksPlace, Woke}
+use Rattle.cf_links.specs.Links.{Came, Left, LinksEntry, LinksPlace}
 use Rattle.cf_links.specs.Service.{GetsSession, LosesSession}
 use Rattle.cf_relay.proofs.Lined.{lines_none}
 use Rattle.cf_view.specs.declared.Endpoint.{Endpoint}
@@ -28,7 +28,8 @@ use Rattle.cf_serve.specs.declared.door.Lobby.{Lobby}
 use Rattle.cf_serve.specs.Session.{Listening}
 use Rattle.cf_serve.proofs.Owing.{debt_none}
 use Rattle.cf_serve.specs.Debt.{no_debt}
-use Rattle.cf_serve.specs.Table.{Arrive, IfOver, IsBetween, IsHeld, IsTable, Keeps, MayGo, RoundDoes, TurnsDo, new_phase, seats_of}
+use Rattle.cf_serve.specs.Lending.{KeptValue}
+use Rattle.cf_serve.specs.Table.{Arrive, IfOver, IsBetween, IsHeld, IsTable, Keeps, MayGo, new_phase, seats_of}
 use Rattle.cf_serve.specs.declared.end.SessionEnd.{SessionEnd}
 
 one_more : (low next : ℕ) (ps : List Phase) (p : Phase) → p.seat.session ≡ next → IsBetween low next ps → IsBetween low (next + 1) (ps ++ p ∷ [])
@@ -37,23 +38,24 @@ one_more low next (q ∷ ps) p is (l, b) = (l, one_more (q.seat.session + 1) nex
 
 module _ (places : List Listening) (most next place : ℕ) (client : Endpoint) (ps : List Phase) where
   -- the links have it
-  table_new : (old new : LinksPlace) → place < length places → GetsSession next old new → IsTable places most old.serves next ps →
-      IsTable places most new.serves (next + 1) (ps ++ new_phase next place client ∷ [])
-  table_new old new placed gets t = record {
+  table_new : (store : List KeptValue) (old new : LinksPlace) → place < length places → GetsSession next old new → IsTable places most store old.serves next ps →
+      IsTable places most store new.serves (next + 1) (ps ++ new_phase next place client ∷ [])
+  table_new store old new placed gets t = record {
     ordered = one_more 0 next ps (new_phase next place client) refl t.ordered;
-    each = all_join (MayGo places most new.serves) ps (new_phase next place client ∷ [])
-        (all_zip (λ (q : Phase). (0 ≤ q.seat.session) × (q.seat.session < next)) (MayGo places most old.serves) (MayGo places most new.serves) ps
-        (λ q h m. record { placed = m.placed; may = m.may; served = gets.others q.seat.session (above next q.seat.session h.1) ∙ m.served })
+    each = all_join (MayGo places most store new.serves) ps (new_phase next place client ∷ [])
+        (all_zip (λ (q : Phase). (0 ≤ q.seat.session) × (q.seat.session < next)) (MayGo places most store old.serves) (MayGo places most store new.serves) ps
+        (λ q h m. record { placed = m.placed; may = m.may; served = gets.others q.seat.session (above next q.seat.session h.1) ∙ m.served; lent = m.lent })
         (members 0 next ps t.ordered) t.each)
-        (record { placed = placed; may = λ at is. tt; served = gets.served }, tt);
+        (record { placed = placed; may = λ at is. tt; served = gets.served; lent = λ at is. tt }, tt);
+    fits = t.fits;
     free = λ session h. gets.others session (below next session (omega (arith, h))) ∙ t.free session (omega (arith, h));
   }
 
-  pub table_in : (old new : LinksPlace) (qs : List Phase) (next' : ℕ) → qs ≡ ps ++ new_phase next place client ∷ [] → next' ≡ next + 1 → place < length places → GetsSession next old new →
-      IsTable places most old.serves next ps → IsTable places most new.serves next' qs
-  table_in old new qs next' is one placed gets t = rw (is, one) (table_new old new placed gets t)
+  pub table_in : (store : List KeptValue) (old new : LinksPlace) (qs : List Phase) (next' : ℕ) → qs ≡ ps ++ new_phase next place client ∷ [] → next' ≡ next + 1 → place < length places → GetsSession next old new →
+      IsTable places most store old.serves next ps → IsTable places most store new.serves next' qs
+  table_in store old new qs next' is one placed gets t = rw (is, one) (table_new store old new placed gets t)
 
-  module _ (past : List TurnOf) (keeps : Keeps places most next past ps) where
+  module _ (store : List KeptValue) (past : List TurnOf) (keeps : Keeps places most store next past ps) where
     fresh : AllByRecursion (λ (t : TurnOf). (t.seat.session == next) ≡ false) past
     fresh = all_map (λ (t : TurnOf). t.seat.session < next) (λ (t : TurnOf). (t.seat.session == next) ≡ false) past (λ t h. below t.seat.session next h) keeps.early
 
@@ -65,14 +67,17 @@ module _ (places : List Listening) (most next place : ℕ) (client : Endpoint) (
       ends = over.ends;
     }
 
-    pub keeps_new : Keeps places most (next + 1) past (ps ++ new_phase next place client ∷ [])
+    pub keeps_new : Keeps places most store (next + 1) past (ps ++ new_phase next place client ∷ [])
     keeps_new = record {
       early = all_map (λ (t : TurnOf). t.seat.session < next) (λ (t : TurnOf). t.seat.session < next + 1) past (λ t h. omega (arith, h)) keeps.early;
       measured = keeps.measured;
+      begun = keeps.begun;
+      stored = keeps.stored;
       held = all_join (IsHeld places most past) ps (new_phase next place client ∷ []) keeps.held (
         record {
           no_end = part_none (λ (t : TurnOf). option_to_list t.end) next past fresh;
           debt = sym (debt_none next no_debt past fresh);
+          begun = part_none (λ (t : TurnOf). option_to_list t.begun) next past fresh;
           stands = λ at is. (part_none (λ (t : TurnOf). t.answers) next past fresh, part_none (λ (t : TurnOf). t.lines) next past fresh);
         },
         tt,
@@ -82,10 +87,12 @@ module _ (places : List Listening) (most next place : ℕ) (client : Endpoint) (
     }
 
 -- one more number is used up
-keeps_more : (places : List Listening) (most next : ℕ) (past : List TurnOf) (ps : List Phase) → Keeps places most next past ps → Keeps places most (next + 1) past ps
-keeps_more places most next past ps keeps = record {
+keeps_more : (places : List Listening) (most : ℕ) (store : List KeptValue) (next : ℕ) (past : List TurnOf) (ps : List Phase) → Keeps places most store next past ps → Keeps places most store (next + 1) past ps
+keeps_more places most store next past ps keeps = record {
   early = all_map (λ (t : TurnOf). t.seat.session < next) (λ (t : TurnOf). t.seat.session < next + 1) past (λ t h. omega (arith, h)) keeps.early;
   measured = keeps.measured;
+  begun = keeps.begun;
+  stored = keeps.stored;
   held = keeps.held;
   over = keeps.over;
 }
@@ -96,17 +103,19 @@ pub free_away : (next : ℕ) (old mid new : LinksPlace) → ((session : ℕ) →
 free_away next old mid new free gets lost session h =
     lost.others session (below next session (omega (arith, h))) ∙ gets.others session (below next session (omega (arith, h))) ∙ free session (omega (arith, h))
 
-pub table_away : (places : List Listening) (most next next' : ℕ) (ps : List Phase) (old mid new : LinksPlace) → next' ≡ next + 1 → GetsSession next old mid → LosesSession next mid new →
-    IsTable places most old.serves next ps → IsTable places most new.serves next' ps
-table_away places most next next' ps old mid new one gets lost t = subst (λ n. IsTable places most new.serves n ps) (sym one) (record {
+pub table_away : (places : List Listening) (most : ℕ) (store : List KeptValue) (next next' : ℕ) (ps : List Phase) (old mid new : LinksPlace) → next' ≡ next + 1 → GetsSession next old mid → LosesSession next mid new →
+    IsTable places most store old.serves next ps → IsTable places most store new.serves next' ps
+table_away places most store next next' ps old mid new one gets lost t = subst (λ n. IsTable places most store new.serves n ps) (sym one) (record {
   ordered = higher 0 next (next + 1) ps (omega arith) t.ordered;
-  each = all_zip (λ (q : Phase). (0 ≤ q.seat.session) × (q.seat.session < next)) (MayGo places most old.serves) (MayGo places most new.serves) ps
+  each = all_zip (λ (q : Phase). (0 ≤ q.seat.session) × (q.seat.session < next)) (MayGo places most store old.serves) (MayGo places most store new.serves) ps
       (λ q h m. record {
         placed = m.placed;
         may = m.may;
         served = lost.others q.seat.session (above next q.seat.session h.1) ∙ gets.others q.seat.session (above next q.seat.session h.1) ∙ m.served;
+        lent = m.lent;
       }) (members 0 next ps t.ordered) t.each;
   free = free_away next old mid new t.free gets lost;
+  fits = t.fits;
 })
 
 closed_next : (why : Closing) (lobby : Lobby) (place moment address : ℕ) → (lobby_closed why lobby place moment address).next ≡ lobby.next + 1
@@ -136,7 +145,7 @@ module _ (places : List Listening) (most moment place : ℕ) (lobby : Lobby) (to
     below = tt;
     seats = sym (append-nil (seats_of ps));
     counts = refl;
-    keeps = λ past k. k;
+    keeps = λ store past k. k;
   }
 
   module _ (client : Endpoint) (after : Option (List LinksEntry)) (log' : Option (List (List ℕ))) (lobby' : Lobby) (at : Listening)
@@ -168,9 +177,9 @@ module _ (places : List Listening) (most moment place : ℕ) (lobby : Lobby) (to
       both : after ≡ option_map (λ es. es ++ Came lobby.next place client ∷ Left lobby.next ∷ []) told
       both = left ∙ ap (option_map (λ es. es ++ Left lobby.next ∷ [])) came ∙ more_twice told (Came lobby.next place client ∷ []) (Left lobby.next ∷ [])
 
-      kept_out : (past : List TurnOf) → Keeps places most lobby.next past ps → Keeps places most lobby'.next past ps
-      kept_out past k = subst (λ n. Keeps places most n past ps) (sym (next_behind why lobby lobby' place moment client.address one))
-          (keeps_more places most lobby.next past ps k)
+      kept_out : (store : List KeptValue) (past : List TurnOf) → Keeps places most store lobby.next past ps → Keeps places most store lobby'.next past ps
+      kept_out store past k = subst (λ n. Keeps places most store n past ps) (sym (next_behind why lobby lobby' place moment client.address one))
+          (keeps_more places most store lobby.next past ps k)
 
       closed_with : log' ≡ with_lines log (closed_lines why at lobby place client moment) → Arrive places most moment place (place + 1) lobby lobby' told after log log' ps ps
       closed_with added = record {
@@ -227,9 +236,9 @@ module _ (places : List Listening) (most moment place : ℕ) (lobby : Lobby) (to
     module _ (new : List Phase) (came : after ≡ option_map (λ es. es ++ Came lobby.next place client ∷ []) told)
         (is_taken : None ≡ closing_of at.asset (seats_of ps) place client.address) (is : new ≡ ps ++ new_phase lobby.next place client ∷ [])
         (one : lobby' ≡ record lobby { next = lobby.next + 1 }) where
-      kept_in : (past : List TurnOf) → Keeps places most lobby.next past ps → Keeps places most lobby'.next past new
-      kept_in past k = subst (λ (f : Lobby). Keeps places most f.next past new) (sym one)
-          (subst (Keeps places most (lobby.next + 1) past) (sym is) (keeps_new places most lobby.next place client ps past k))
+      kept_in : (store : List KeptValue) (past : List TurnOf) → Keeps places most store lobby.next past ps → Keeps places most store lobby'.next past new
+      kept_in store past k = subst (λ (f : Lobby). Keeps places most store f.next past new) (sym one)
+          (subst (Keeps places most store (lobby.next + 1) past) (sym is) (keeps_new places most lobby.next place client ps store past k))
 
       pub came_in : log' ≡ log → Arrive places most moment place (place + 1) lobby lobby' told after log log' ps new
       came_in same = record {
@@ -298,7 +307,7 @@ module _ (places : List Listening) (most moment : ℕ) (lobby : Lobby) (told : O
     below = tt;
     seats = sym (append-nil (seats_of old));
     counts = refl;
-    keeps = λ past k. k;
+    keeps = λ store past k. k;
   }
 
   pub arrive_then : (place : ℕ) (lobby1 lobby2 : Lobby) (told1 told2 : Option (List LinksEntry)) (log1 log2 : Option (List (List ℕ))) (mid new : List Phase) →
@@ -317,7 +326,7 @@ module _ (places : List Listening) (most moment : ℕ) (lobby : Lobby) (told : O
     seats = b.seats ∙ ap (λ (ss : List Seat). ss ++ taken_of b.arrivals) a.seats ∙ append_assoc (seats_of old) (taken_of a.arrivals) (taken_of b.arrivals)
         ∙ ap (λ (ss : List Seat). seats_of old ++ ss) (sym (taken_more a.arrivals b.arrivals));
     counts = b.counts ∙ ap (λ (f : Lobby). lobby_behind f moment b.arrivals) a.counts ∙ sym (behind_more lobby moment a.arrivals b.arrivals);
-    keeps = λ past k. b.keeps past (a.keeps past k);
+    keeps = λ store past k. b.keeps store past (a.keeps store past k);
   }
 
   -- the line of the last failed
@@ -348,5 +357,5 @@ module _ (places : List Listening) (most moment : ℕ) (lobby : Lobby) (told : O
         };
         seats = b.seats ∙ ap (λ (ss : List Seat). ss ++ taken_of b.arrivals) a.seats ∙ append_assoc (seats_of old) (taken_of a.arrivals) (taken_of b.arrivals)
             ∙ ap (λ (ss : List Seat). seats_of old ++ ss) (sym (taken_more a.arrivals b.arrivals));
-        keeps = λ past k. b.keeps past (a.keeps past k);
+        keeps = λ store past k. b.keeps store past (a.keeps store past k);
       }

@@ -1,11 +1,11 @@
 -- A turn, from what the relay did in it and the last line, to what it leaves of the session.
-use Rattle.cf_lane.specs.Caller.{none_before}
-use Rattle.std.proofs.Common.{Bool, Err, List, None, Ok, Result, Some, ap, refl, subst, sym, true, false, ℕ, []}
+use Rattle.cf_lane.specs.Caller.{RateMoments, caller_at}
+use Rattle.cf_lane.specs.Ring.{RingValue}
+use Rattle.std.proofs.Common.{Bool, Err, List, None, Ok, Option, Result, Some, ap, refl, subst, sym, true, false, ℕ, []}
 use Rattle.std.proofs.Common.{◌++◌, ◌<◌, ◌∙◌, ◌∷◌, ◌≡◌}
 use Rattle.std.specs.Prelude.{IfErr, IsTrue, OnOk, ◌↔◌}
 use Rattle.std.proofs.lemmas.Option.{same_Some}
 use Rattle.cf_audit.specs.Line.{Lost, Silent, WhatValue}
-use Rattle.cf_lane.specs.Judged.{Judged}
 use Rattle.cf_lane.specs.Log.{line_about, with_lines}
 use Rattle.cf_links.specs.LinkValue.{LinkValue}
 use Rattle.cf_outside.specs.Desk.{DeskValue}
@@ -15,8 +15,11 @@ use Rattle.cf_relay.proofs.Turned.{stopped_cut, stopped_idle, stopped_link, turn
 use Rattle.cf_relay.specs.Closing.{done_by}
 use Rattle.cf_relay.specs.Relaying.{AreClosed, IsSound, RelayingValue}
 use Rattle.cf_relay.specs.Scene.{DoesBetween, StopsBetween, scene}
-use Rattle.cf_relay.specs.Stands.{IsCounted}
-use Rattle.cf_relay.specs.Turn.{AreItemsOf, turn}
+use Rattle.cf_relay.specs.Taken.{KeepsLane}
+use Rattle.cf_lane.specs.Follows.{AreJudged}
+use Rattle.cf_relay.specs.Answers.{history_of}
+use Rattle.cf_relay.specs.Stands.{StandsFor}
+use Rattle.cf_relay.specs.Turn.{turn}
 use Rattle.cf_relay.specs.Turned.{HasStopped, HasTurned, begun_list}
 use Rattle.cf_relay.specs.declared.directions.Directions.TheVariants as both
 use Rattle.cf_relay.specs.declared.done.RelayEnd.TheVariants as ends
@@ -25,8 +28,8 @@ use Rattle.cf_relay.specs.declared.stop.Stop.TheVariants as stop
 use Rattle.cf_view.specs.declared.Endpoint.{Endpoint}
 use Rattle.cf_serve.proofs.Missing.{write_fails}
 use Rattle.cf_serve.specs.Broken.{FailsSo}
-use Rattle.cf_serve.specs.Failing.{EndsTurn, MissesTurn}
-use Rattle.cf_serve.specs.Phase.{IsCountedAs, LinkedValue, StandsLinked, TurnDoes, end_of, last_value}
+use Rattle.cf_serve.specs.Failing.{EndsTurn, MissesTurn, TakesNone}
+use Rattle.cf_serve.specs.Phase.{HasLane, KnowsOf, LinkedValue, StandsLinked, TurnDoes, end_of, last_value}
 use Rattle.cf_serve.specs.Session.{EndsSo, Listening, lost_line, with_last}
 use Rattle.cf_serve.specs.declared.debt.Debt.{Debt}
 use Rattle.cf_serve.specs.declared.end.SessionEnd.{SessionEnd}
@@ -50,22 +53,22 @@ said asset met k k' w e a a' r r' p q s t = rw (p, q, s, t)
 
 module _ (at : Listening) (most : ℕ) (client met : Endpoint) (old new : RelayingValue) (link link' : LinkValue) (d d' : DeskValue) (few : old.idle < most) (debt : Debt) where
   -- what holds of a relay that made a turn more holds of its session
-  turned_so : (does : DoesBetween at.asset most (turn both.Separate) (scene old link d) (scene new link' d')) → new.idle < most → (P : List Entry → List (List ℕ) → Type 0) →
-      ((m : ℕ) (answers : List Entry) (own : List (List ℕ)) → HasTurned both.Separate at.asset none_before at.port most met m (Some []) answers new (Some own) → P (begun_list at.asset at.port met m answers) own) →
-      (es : List Entry) (own : List (List ℕ)) → StandsLinked at most es own (linked met old debt) →
+  turned_so : (before : RateMoments) (does : DoesBetween at.asset most (turn both.Separate) (scene old link d) (scene new link' d')) → new.idle < most → (P : List Entry → List (List ℕ) → Type 0) →
+      ((m : ℕ) (answers : List Entry) (own : List (List ℕ)) → HasTurned both.Separate at.asset before at.port most met m (Some []) answers new (Some own) → P (begun_list at.asset at.port met m answers) own) →
+      (es : List Entry) (own : List (List ℕ)) → StandsLinked at before most es own (linked met old debt) →
       (lines : List (List ℕ)) × ((d'.lines ≡ with_lines d.lines lines) × P (es ++ does.answers) (own ++ lines))
-  turned_so does fewer P f es own hs =
-      let t = turned_more both.Separate at.asset none_before at.port most met hs.moment (Some []) hs.answers (scene old link d) (scene new link' d') (Some own)
+  turned_so before does fewer P f es own hs =
+      let t = turned_more both.Separate at.asset before at.port most met hs.moment (Some []) hs.answers (scene old link d) (scene new link' d') (Some own)
       (record { count = hs.count; does = hs.does; stands = hs.stands; few = few }) does fewer in
       (t.more, (t.added, subst (λ (xs : List Entry). P (xs ++ does.answers) (own ++ t.more)) (sym hs.split) (f hs.moment (hs.answers ++ does.answers) (own ++ t.more) t.stands)))
 
   -- and so of one that stopped within it
-  stopped_so : (why : Stop) (stops : StopsBetween at.asset most (turn both.Separate) why (scene old link d) (scene new link' d')) → (P : List Entry → List (List ℕ) → Type 0) →
-      ((m : ℕ) (answers : List Entry) (own : List (List ℕ)) → HasStopped both.Separate at.asset none_before at.port most met m (Some []) answers why new (Some own) d'.line_part →
-      P (begun_list at.asset at.port met m answers) own) → (es : List Entry) (own : List (List ℕ)) → StandsLinked at most es own (linked met old debt) →
+  stopped_so : (before : RateMoments) (why : Stop) (stops : StopsBetween at.asset most (turn both.Separate) why (scene old link d) (scene new link' d')) → (P : List Entry → List (List ℕ) → Type 0) →
+      ((m : ℕ) (answers : List Entry) (own : List (List ℕ)) → HasStopped both.Separate at.asset before at.port most met m (Some []) answers why new (Some own) d'.line_part →
+      P (begun_list at.asset at.port met m answers) own) → (es : List Entry) (own : List (List ℕ)) → StandsLinked at before most es own (linked met old debt) →
       (lines : List (List ℕ)) × ((d'.lines ≡ with_lines d.lines lines) × P (es ++ stops.answers) (own ++ lines))
-  stopped_so why stops P f es own hs =
-      let t = turned_stops both.Separate at.asset none_before at.port most met hs.moment (Some []) hs.answers (scene old link d) (scene new link' d') why (Some own)
+  stopped_so before why stops P f es own hs =
+      let t = turned_stops both.Separate at.asset before at.port most met hs.moment (Some []) hs.answers (scene old link d) (scene new link' d') why (Some own)
       (record { count = hs.count; does = hs.does; stands = hs.stands; few = few }) stops in
       (t.more, (t.added, subst (λ (xs : List Entry). P (xs ++ stops.answers) (own ++ t.more)) (sym hs.split) (f hs.moment (hs.answers ++ stops.answers) (own ++ t.more) t.stands)))
 
@@ -76,28 +79,38 @@ module _ (at : Listening) (most : ℕ) (client met : Endpoint) (old new : Relayi
   abbrev pub Ends : SessionEnd → Type 0
   Ends e = EndsTurn at most client link.told link'.told d.lines d'.lines (last_line e) (Some (linked met old debt)) (Some (linked met new debt)) e
 
-  -- with the numbers of the items
-  abbrev Counted : List Entry → Type 0
-  Counted es = IsCountedAs at es (Some (linked met new debt))
+  -- with the numbers of the items, and what the rules know of them
+  abbrev Counted : (before : RateMoments) → List Entry → Type 0
+  Counted before es = KnowsOf at before es (Some (linked met new debt))
 
-  counted_by : (es : List Entry) (js : List Judged) → AreItemsOf at.asset none_before es js → IsCounted js new.lane.admitted new.lane.refused → Counted es
-  counted_by es js items counts = ((js, (items, counts.admitted)), (js, (items, counts.refused)))
+  -- a relay that stands for its list knows its items
+  known : (before : RateMoments) (m : ℕ) (answers : List Entry) (first log : Option (List (List ℕ))) → StandsFor at.asset before first (begun_list at.asset at.port met m answers) new log →
+      Counted before (begun_list at.asset at.port met m answers)
+  known before m answers first log h =
+      let f = h.follows in
+      let items = subst (λ (c : Endpoint). AreJudged at.asset (caller_at c.address before) (history_of (begun_list at.asset at.port met m answers)) f.judged) h.client f.are_judged in
+      (f.judged, (items, (record { admitted = f.knows.admitted; refused = f.knows.refused }, f.knows.rules)))
 
   -- the last one, after which both sides are closed
   closing : DoesBetween at.asset most (turn both.Separate) (scene old link d) (scene new link' d') → new.idle < most → AreClosed new → Ends end.Closed
   closing does fewer closed = record {
     answers = does.answers;
     tells = does.adds.tells;
-    ends = turned_so does fewer (λ es own. EndsSo at most client es (own ++ last_line end.Closed ∷ []) end.Closed × Counted es) (λ m answers own t.
-        let x = turned_done both.Separate at.asset none_before at.port most met m (Some []) answers new (Some own) t _ closed (λ ls e. same_Some _ _ e) in
-        ((done_by new ends.Done, x), counted_by (begun_list at.asset at.port met m answers) x.goes.judged x.goes.are_items x.counts));
+    ends = λ before. turned_so before does fewer (λ es own. EndsSo at before most client es (own ++ last_line end.Closed ∷ []) end.Closed × Counted before es) (λ m answers own t.
+        let x = turned_done both.Separate at.asset before at.port most met m (Some []) answers new (Some own) t _ closed (λ ls e. same_Some _ _ e) in
+        ((done_by new ends.Done, x), known before m answers _ _ t.stands));
   }
 
   -- one that stopped
   stopping : (why : Stop) → StopsBetween at.asset most (turn both.Separate) why (scene old link d) (scene new link' d') → (e : SessionEnd) →
-      ((m : ℕ) (answers : List Entry) (own : List (List ℕ)) → HasStopped both.Separate at.asset none_before at.port most met m (Some []) answers why new (Some own) d'.line_part →
-      EndsSo at most client (begun_list at.asset at.port met m answers) (own ++ last_line e ∷ []) e × Counted (begun_list at.asset at.port met m answers)) → Ends e
-  stopping why stops e f = record { answers = stops.answers; tells = stops.adds.tells; ends = stopped_so why stops (λ es own. EndsSo at most client es (own ++ last_line e ∷ []) e × Counted es) f }
+      ((before : RateMoments) (m : ℕ) (answers : List Entry) (own : List (List ℕ)) →
+      HasStopped both.Separate at.asset before at.port most met m (Some []) answers why new (Some own) d'.line_part →
+      EndsSo at before most client (begun_list at.asset at.port met m answers) (own ++ last_line e ∷ []) e × Counted before (begun_list at.asset at.port met m answers)) → Ends e
+  stopping why stops e f = record {
+    answers = stops.answers;
+    tells = stops.adds.tells;
+    ends = λ before. stopped_so before why stops (λ es own. EndsSo at before most client es (own ++ last_line e ∷ []) e × Counted before es) (f before);
+  }
 
   -- its last line says the greatest moment told
   behind : (w : WhatValue) (own ls : List (List ℕ)) (k : ℕ) → Some own ≡ Some ls → new.moment ≡ k → own ++ line_about at.asset met new.moment w ∷ [] ≡ ls ++ line_about at.asset met k w ∷ []
@@ -105,18 +118,18 @@ module _ (at : Listening) (most : ℕ) (client met : Endpoint) (old new : Relayi
 
   stops_so : (why : Stop) (closed : Bool) (e : SessionEnd) → StopsBetween at.asset most (turn both.Separate) why (scene old link d) (scene new link' d') → end_of (Err why) closed ≡ Some e → Ends e
   stops_so stop.Write closed e stops is = cc
-  stops_so stop.Idle closed e stops is = subst Ends (same_Some _ _ is) (stopping stop.Idle stops end.Silent (λ m answers own h.
-      let x = stopped_idle both.Separate at.asset none_before at.port most met m (Some []) answers new (Some own) d'.line_part _ h
+  stops_so stop.Idle closed e stops is = subst Ends (same_Some _ _ is) (stopping stop.Idle stops end.Silent (λ before m answers own h.
+      let x = stopped_idle both.Separate at.asset before at.port most met m (Some []) answers new (Some own) d'.line_part _ h
       (λ ls same. behind (Silent new.lane.admitted new.lane.refused) own ls _ same h.stands.0.moment) in
-      ((done_by new ends.IdleEnd, x), counted_by (begun_list at.asset at.port met m answers) x.judged x.are_items x.counts)))
-  stops_so stop.Link closed e stops is = subst Ends (same_Some _ _ is) (stopping stop.Link stops end.Lost (λ m answers own h.
-      let t = stopped_link both.Separate at.asset none_before at.port most met m (Some []) answers new (Some own) d'.line_part
+      ((done_by new ends.IdleEnd, x), known before m answers _ _ h.stands.0)))
+  stops_so stop.Link closed e stops is = subst Ends (same_Some _ _ is) (stopping stop.Link stops end.Lost (λ before m answers own h.
+      let t = stopped_link both.Separate at.asset before at.port most met m (Some []) answers new (Some own) d'.line_part
       (with_last (own ++ last_line end.Lost ∷ []) (lost_line at.asset (begun_list at.asset at.port met m answers) new.lane.admitted new.lane.refused)) h
       (λ ls same. behind (Lost new.lane.admitted new.lane.refused) own ls _ same h.stands.0.moment) in
-      (record { admitted = new.lane.admitted; refused = new.lane.refused; ended = t.0; counts = t.1 }, counted_by (begun_list at.asset at.port met m answers) t.0.goes.judged t.0.goes.are_items t.1)))
-  stops_so (stop.Cut reason) closed e stops is = subst Ends (same_Some _ _ is) (stopping (stop.Cut reason) stops (end.Cut reason) (λ m answers own h.
-      let x = stopped_cut both.Separate at.asset none_before at.port most met m (Some []) answers new (Some own) d'.line_part _ reason h (λ ls same. same_Some _ _ same) in
-      ((done_by new (ends.Cut reason), x), counted_by (begun_list at.asset at.port met m answers) x.judged x.are_items x.counts)))
+      (record { admitted = new.lane.admitted; refused = new.lane.refused; ended = t.0; counts = t.1 }, known before m answers _ _ h.stands.0)))
+  stops_so (stop.Cut reason) closed e stops is = subst Ends (same_Some _ _ is) (stopping (stop.Cut reason) stops (end.Cut reason) (λ before m answers own h.
+      let x = stopped_cut both.Separate at.asset before at.port most met m (Some []) answers new (Some own) d'.line_part _ reason h (λ ls same. same_Some _ _ same) in
+      ((done_by new (ends.Cut reason), x), (h.stands.judged, (h.stands.are_items, (h.stands.counts, h.stands.rules))))))
 
   -- the turn that is the last, by what the relay answered
   pub ending : (r : Result Unit Stop) (closed : Bool) (e : SessionEnd) →
@@ -136,18 +149,31 @@ module _ (at : Listening) (most : ℕ) (client met : Endpoint) (old new : Relayi
       record {
         answers = s.answers;
         tells = s.adds.tells;
-        fails = stopped_so stop.Write s (λ es own. FailsSo at most client es own d'.line_part) (λ m answers own h. write_fails at most client met m answers new own d'.line_part h);
+        fails = λ before. stopped_so before stop.Write s (λ es own. FailsSo at before most client es own d'.line_part × TakesNone (Some (linked met old debt)) es)
+            (λ m answers own h. (write_fails at most client before met m answers new own d'.line_part h, tt));
       }
 
   -- the turn behind which it stands, by what the relay answered, where that is no failed write
-  pub standing : (debt' : Debt) (r : Result Unit Stop) (closed : Bool) →
+  pub standing : (left : Option (List RingValue)) (debt' : Debt) (r : Result Unit Stop) (closed : Bool) →
       OnOk r (DoesBetween at.asset most (turn both.Separate) (scene old link d) (scene new link' d')) → OnOk r (IsSound at.asset most new) → end_of r closed ≡ None → (r ≡ Err stop.Write → ⊥) →
-      TurnDoes at most client link.told link'.told d.lines d'.lines (Some (linked met old debt)) (Some (linked met new debt')) None
-  standing debt' r closed does sound is fine =
+      TurnDoes at left most client link.told link'.told d.lines d'.lines (Some (linked met old debt)) (Some (linked met new debt')) None
+  standing left debt' r closed does sound is fine =
       let t : DoesBetween at.asset most (turn both.Separate) (scene old link d) (scene new link' d') = went_on r closed is fine does in
       record {
         answers = t.answers;
         tells = t.adds.tells;
-        leaves = turned_so t (went_on r closed is fine sound).few (λ es own. StandsLinked at most es own (linked met new debt'))
-            (λ m answers own h. record { moment = m; count = h.count; answers = answers; split = refl; does = h.does; stands = h.stands });
+        leaves = λ before es own begins. turned_so before t (went_on r closed is fine sound).few (λ es own. StandsLinked at before most es own (linked met new debt'))
+            (λ m answers own h. record { moment = m; count = h.count; answers = answers; split = refl; does = h.does; stands = h.stands }) es own;
       }
+
+-- the lane of a relay that answered anything but a failed write is the asset's still
+lane_kept : (asset : Asset) (met : Endpoint) (debt : Debt) (new : RelayingValue) (why : Stop) → (why ≡ stop.Write → ⊥) → KeepsLane asset new.lane why → HasLane asset (Some (linked met new debt))
+lane_kept asset met debt new stop.Idle fine h = h
+lane_kept asset met debt new stop.Link fine h = h
+lane_kept asset met debt new stop.Write fine h = absurd (fine refl)
+lane_kept asset met debt new (stop.Cut reason) fine h = h
+
+pub lane_by : (asset : Asset) (most : ℕ) (met : Endpoint) (debt : Debt) (new : RelayingValue) (r : Result Unit Stop) → (r ≡ Err stop.Write → ⊥) → OnOk r (IsSound asset most new) →
+    IfErr r (KeepsLane asset new.lane) → HasLane asset (Some (linked met new debt))
+lane_by asset most met debt new (Ok u) fine sound lane = sound.of_asset
+lane_by asset most met debt new (Err why) fine sound lane = lane_kept asset met debt new why (λ is. fine (ap Err is)) lane

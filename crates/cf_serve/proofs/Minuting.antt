@@ -3,7 +3,7 @@ use Rattle.std.proofs.Common.{List, None, Option, ap, arith, inl, inr, length, r
 use Rattle.std.proofs.Common.{Bool, if◌then◌else◌}
 use Rattle.std.specs.Prelude.{option_map}
 use Rattle.std.specs.List.{AllByRecursion}
-use Rattle.std.proofs.lemmas.List.{append-nil, append_assoc}
+use Rattle.std.proofs.lemmas.List.{append-nil}
 use Rattle.cf_lane.specs.Log.{with_lines}
 use Rattle.cf_links.specs.Links.{LinksEntry, Woke}
 use Rattle.cf_serve.proofs.Rounding.{more_twice}
@@ -11,9 +11,10 @@ use Rattle.cf_serve.proofs.Tallying.{lines_same, tallied_none}
 use Rattle.cf_serve.proofs.Whole.{all_ended, all_seats, all_stand}
 use Rattle.cf_serve.specs.Broken.{TurnFails}
 use Rattle.cf_serve.specs.Failing.{MissesArrival, MissesLine, MissesRound, MissesTurns}
-use Rattle.cf_serve.specs.Minute.{IsTallied, commands_of, is_over, last_behind, lines_at, no_minutes, stands_lines, tally_at}
+use Rattle.cf_serve.specs.Minute.{IsTallied, commands_of, is_over, last_behind, lines_at, no_minutes, tally_at}
 use Rattle.cf_serve.specs.Phase.{Phase, listenings}
-use Rattle.cf_serve.specs.Rounds.{IsRound, Round, Seat, TurnOf, lobby_behind, stays}
+use Rattle.cf_serve.specs.Lending.{KeptValue}
+use Rattle.cf_serve.specs.Rounds.{IsAgainOf, IsRound, Round, Seat, TurnOf, stays}
 use Rattle.cf_serve.specs.Served.{IfEnded, IsClient}
 use Rattle.cf_serve.specs.Table.{Arrive, IsMinuteOf, IsTable, Keeps, RoundDoes, TurnsDo, seats_of}
 use Rattle.cf_serve.specs.declared.door.Lobby.{Lobby}
@@ -37,10 +38,10 @@ lines_by places last last' standing standing' tallies turns moment few p q h =
 module _ (places : List Place) (most moment : ℕ) (lobby lobby1 : Lobby) (last : Option ℕ) (past : List TurnOf) (told0 told told1 : Option (List LinksEntry))
     (log log1 : Option (List (List ℕ))) (part : List ℕ) (old mid : List Phase) (woke : told ≡ option_map (λ es. es ++ Woke moment ∷ []) told0) where
   -- a line failed as clients came
-  pub round_missed_early : (serves : ℕ → Bool) → MissesArrival (listenings places) most moment 0 lobby lobby1 told told1 log log1 part old mid → IsTable (listenings places) most serves lobby1.next mid →
-      Keeps (listenings places) most lobby.next past old → MissesRound places most lobby last past told0 told1 log log1 part old mid
-  round_missed_early serves a table keeps =
-      let k = a.keeps past keeps in
+  pub round_missed_early : (store : List KeptValue) (serves : ℕ → Bool) → MissesArrival (listenings places) most moment 0 lobby lobby1 told told1 log log1 part old mid → IsTable (listenings places) most store serves lobby1.next mid →
+      Keeps (listenings places) most store lobby.next past old → MissesRound places most lobby last past told0 told1 log log1 part old mid
+  round_missed_early store serves a table keeps =
+      let k = a.keeps store past keeps in
       record {
         round = record { moment = moment; arrivals = a.arrivals; turns = [] };
         tells = simp (a.tells, woke, more_twice, append-nil);
@@ -53,8 +54,9 @@ module _ (places : List Place) (most moment : ℕ) (lobby lobby1 : Lobby) (last 
             fails = a.fails;
             no_turns = refl;
             measured = k.measured;
+            begun = k.begun;
             all = a.seats;
-            stand = all_seats (λ (s : Seat). IsClient (listenings places) most past s []) mid (all_stand (listenings places) most past serves mid k.held table.each);
+            stand = all_seats (λ (s : Seat). IsClient (listenings places) most past s []) mid (all_stand (listenings places) most past store serves mid k.held table.each);
           },
         );
       }
@@ -73,7 +75,7 @@ module _ (places : List Place) (most moment : ℕ) (lobby lobby1 : Lobby) (last 
     }
 
     -- all had their turns
-    module _ (minutes minutes1 minutes2 : Minutes) (b : TurnsDo (listenings places) most lobby1.next moment past told1 told2 log1 log2 minutes1.tallies minutes2.tallies mid new)
+    module _ (store : List KeptValue) (minutes minutes1 minutes2 : Minutes) (b : TurnsDo (listenings places) most store lobby1.next moment past told1 told2 log1 log2 minutes1.tallies minutes2.tallies mid new)
         (few : length places ≤ 256) (is : IsMinuteOf minutes last past) (came : minutes1 ≡ minutes) (kept : minutes2.last ≡ minutes1.last) where
       abbrev round : Round
       round = record { moment = moment; arrivals = a.arrivals; turns = b.turns }
@@ -85,7 +87,7 @@ module _ (places : List Place) (most moment : ℕ) (lobby lobby1 : Lobby) (last 
       tallied = b.tallied (subst (λ (m : Minutes). IsTallied m.tallies past) (sym came) is.tallied)
 
       is_round : IsRound (listenings places) lobby (seats_of old) round lobby1 (seats_of new)
-      is_round = record { arrive = a.come; in_turn = b.in_turn ∙ a.seats; each = b.each; counts = a.counts; stay = b.stay }
+      is_round = record { arrive = a.come; in_turn = b.in_turn ∙ a.seats; each = b.each; again = subst (λ (ss : List Seat). AllByRecursion (IsAgainOf (listenings places) ss) b.turns) a.seats b.again; counts = a.counts; stay = b.stay }
 
       abbrev Lines : List (List ℕ)
       Lines = lines_at places minutes2.last (seats_of new) (tally_at minutes2.tallies) moment
@@ -94,7 +96,7 @@ module _ (places : List Place) (most moment : ℕ) (lobby lobby1 : Lobby) (last 
       same_lines = lines_by places minutes2.last last (seats_of new) (flat_map stays b.turns) minutes2.tallies (past ++ b.turns) moment few its_last b.stay tallied
 
       pub round_is : (minutes3 : Minutes) (log3 : Option (List (List ℕ))) → minutes3 ≡ record minutes2 { last = last_behind minutes2.last moment } → log3 ≡ with_lines log2 Lines →
-          RoundDoes places most lobby lobby1 minutes3 last past told0 told2 log log3 old new
+          RoundDoes places most store lobby lobby1 minutes3 last past told0 told2 log log3 old new
       round_is minutes3 log3 noted put = record {
         round = round;
         tells = simp (b.tells, a.tells, woke, more_twice);
@@ -108,7 +110,7 @@ module _ (places : List Place) (most moment : ℕ) (lobby lobby1 : Lobby) (last 
       }
 
       -- a line of the minute failed
-      pub round_missed_late : (serves : ℕ → Bool) (log3 : Option (List (List ℕ))) → IsTable (listenings places) most serves lobby1.next new → MissesLine Lines log2 log3 part →
+      pub round_missed_late : (serves : ℕ → Bool) (log3 : Option (List (List ℕ))) → IsTable (listenings places) most store serves lobby1.next new → MissesLine Lines log2 log3 part →
           MissesRound places most lobby last past told0 told2 log log3 part old new
       round_missed_late serves log3 table m = record {
         round = round;
@@ -119,7 +121,8 @@ module _ (places : List Place) (most moment : ℕ) (lobby lobby1 : Lobby) (last 
         breaks = inr (inr (record {
           is_round = subst (λ (f : Lobby). IsRound (listenings places) lobby (seats_of old) round f (seats_of new)) a.counts is_round;
           measured = b.keeps.measured;
-          stand = all_seats (λ (s : Seat). IsClient (listenings places) most (past ++ b.turns) s []) new (all_stand (listenings places) most (past ++ b.turns) serves new b.keeps.held table.each);
+          begun = b.keeps.begun;
+          stand = all_seats (λ (s : Seat). IsClient (listenings places) most (past ++ b.turns) s []) new (all_stand (listenings places) most (past ++ b.turns) store serves new b.keeps.held table.each);
           before = m.before;
           line = m.line;
           behind = m.behind;

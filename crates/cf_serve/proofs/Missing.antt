@@ -1,5 +1,5 @@
 -- A line that failed, and what it leaves of its session.
-use Rattle.cf_lane.specs.Caller.{none_before}
+use Rattle.cf_lane.specs.Caller.{RateMoments}
 use Rattle.std.proofs.Common.{Err, List, None, Ok, Option, Result, Some, ap, inl, inr, refl, subst, sym, ℕ, ◌++◌, ◌<◌, ◌∙◌, ◌∷◌, ◌≡◌, []}
 use Rattle.std.specs.Prelude.{OnErr, take}
 use Rattle.std.proofs.lemmas.List.{append-nil, append_assoc}
@@ -21,7 +21,9 @@ use Rattle.cf_view.specs.declared.Endpoint.{Endpoint}
 use Rattle.cf_view.specs.declared.WriteFault.{WriteFault}
 use Rattle.cf_serve.proofs.Reaching.{told_as, told_more}
 use Rattle.cf_serve.specs.Broken.{BeginsLine, FailsSo, own_begun}
-use Rattle.cf_serve.specs.Failing.{EndsTurn, MissesReach, MissesTurn}
+use Rattle.cf_lane.specs.Ring.{RingValue}
+use Rattle.cf_relay.specs.Answers.{history_of}
+use Rattle.cf_serve.specs.Failing.{EndsTurn, MissesReach, MissesTurn, TakesNone}
 use Rattle.cf_serve.specs.Phase.{LinkedValue, StandsAs, TurnDoes}
 use Rattle.cf_serve.specs.Session.{EndsSo, Listening}
 use Rattle.cf_serve.specs.declared.end.SessionEnd.{SessionEnd}
@@ -40,37 +42,40 @@ own_more line whole part (inr (all, none)) = inr (ap Some all, none)
 own_begins : (own : List (List ℕ)) (part : List ℕ) (ls : List (List ℕ)) → BeginsLines (Some []) (Some own) part ls → (own_begun own part).Begins ls
 own_begins own part ls (count, some, is, rest) = (count, some, same_Some _ _ is, rest)
 
-last_fails : (at : Listening) (most : ℕ) (client : Endpoint) (es : List Entry) (before : List (List ℕ)) (line : List ℕ) (whole : List (List ℕ)) (part : List ℕ) (e : SessionEnd) →
-    EndsSo at most client es (before ++ line ∷ []) e → BeginsLine line whole part → FailsSo at most client es (before ++ whole) part
-last_fails at most client es before line whole part e ends begins =
+pub last_fails : (at : Listening) (past : RateMoments) (most : ℕ) (client : Endpoint) (es : List Entry) (before : List (List ℕ)) (line : List ℕ) (whole : List (List ℕ)) (part : List ℕ) (e : SessionEnd) →
+    EndsSo at past most client es (before ++ line ∷ []) e → BeginsLine line whole part → FailsSo at past most client es (before ++ whole) part
+last_fails at past most client es before line whole part e ends begins =
     inl (record { end = e; before = before; line = line; ends = ends; whole = whole; own_is = refl; begins = begins })
 
 module _ {at : Listening} {most : ℕ} {client : Endpoint} {told after : SessionTold} {log mid log' : Option (List (List ℕ))} {line : List ℕ} {old new : Option LinkedValue} {e : SessionEnd}
     (t : EndsTurn at most client told after log mid line old new e) where
   -- the last line was put
-  pub last_put : log' ≡ with_lines mid (line ∷ []) → TurnDoes at most client told after log log' old new (Some e)
-  last_put put = record {
+  pub last_put : (left : Option (List RingValue)) → log' ≡ with_lines mid (line ∷ []) → TurnDoes at left most client told after log log' old new (Some e)
+  last_put left put = record {
     answers = t.answers;
     tells = t.tells;
-    leaves = λ es own stands.
-        let x = t.ends es own stands in
-        (x.0 ++ line ∷ [], (simp (put, x.1.0, lines_both), (subst (λ (ls : List (List ℕ)). EndsSo at most client (es ++ t.answers) ls e) (append_assoc own x.0 (line ∷ [])) x.1.1.0, x.1.1.1)));
+    leaves = λ before es own begins stands.
+        let x = t.ends before es own stands in
+        (x.0 ++ line ∷ [], (simp (put, x.1.0, lines_both), (subst (λ (ls : List (List ℕ)). EndsSo at before most client (es ++ t.answers) ls e) (append_assoc own x.0 (line ∷ [])) x.1.1.0, x.1.1.1)));
   }
 
   -- it failed
-  pub last_missed : {part : List ℕ} → MayHaveMore (line ∷ []) mid log' part → MissesTurn at most client told after log log' part old
-  last_missed {part = part} may =
+  pub last_missed : {part : List ℕ} → MayHaveMore (line ∷ []) mid log' part → (v : LinkedValue) → old ≡ Some v → MissesTurn at most client told after log log' part old
+  last_missed {part = part} may v is =
       let w = begins_line line mid log' part may in
       record {
         answers = t.answers;
         tells = t.tells;
-        fails = λ es own stands.
-            let x = t.ends es own stands in (
+        fails = λ before es own stands.
+            let x = t.ends before es own stands in (
               x.0 ++ w.0,
               (
                 simp (w.1.0, x.1.0, lines_both),
-                subst (λ (ls : List (List ℕ)). FailsSo at most client (es ++ t.answers) ls part) (append_assoc own x.0 w.0)
-                    (last_fails at most client (es ++ t.answers) (own ++ x.0) line w.0 part e x.1.1.0 w.1.1),
+                (
+                  subst (λ (ls : List (List ℕ)). FailsSo at before most client (es ++ t.answers) ls part) (append_assoc own x.0 w.0)
+                      (last_fails at before most client (es ++ t.answers) (own ++ x.0) line w.0 part e x.1.1.0 w.1.1),
+                  subst (λ (o : Option LinkedValue). TakesNone o (es ++ t.answers)) (sym is) tt,
+                ),
               ),
             );
       }
@@ -78,43 +83,44 @@ module _ {at : Listening} {most : ℕ} {client : Endpoint} {told after : Session
 module _ (at : Listening) (most : ℕ) (client : Endpoint) where
   -- ---- a line amid a turn
 
-  pub write_fails : (met : Endpoint) (m : ℕ) (answers : List Entry) (now : RelayingValue) (own : List (List ℕ)) (part : List ℕ) →
-      HasStopped both.Separate at.asset none_before at.port most met m (Some []) answers stop.Write now (Some own) part →
-      FailsSo at most client (met_at at.port at.asset.endpoint met ∷ Moment m ∷ answers) own part
-  write_fails met m answers now own part h =
-      inr (stopped_write both.Separate at.asset none_before at.port most met m (Some []) answers now (Some own) part (own_begun own part) h (own_begins own part))
+  pub write_fails : (before : RateMoments) (met : Endpoint) (m : ℕ) (answers : List Entry) (now : RelayingValue) (own : List (List ℕ)) (part : List ℕ) →
+      HasStopped both.Separate at.asset before at.port most met m (Some []) answers stop.Write now (Some own) part →
+      FailsSo at before most client (met_at at.port at.asset.endpoint met ∷ Moment m ∷ answers) own part
+  write_fails before met m answers now own part h =
+      inr (stopped_write both.Separate at.asset before at.port most met m (Some []) answers now (Some own) part (own_begun own part) h (own_begins own part))
 
   -- ---- as a controller is asked for
 
   -- the open line
-  pub open_fails : (few : 0 < most) (met : Endpoint) (m : ℕ) (whole : List (List ℕ)) (part : List ℕ) → BeginsLine (line_about at.asset met m Begun) whole part →
-      FailsSo at most client (met_at at.port at.asset.endpoint met ∷ Moment m ∷ []) whole part
-  open_fails few met m whole part begins =
-      inr (write_told both.Separate at.asset none_before at.port most few (own_begun whole part) met m (Some []) (Some whole) part (own_more (line_about at.asset met m Begun) whole part begins) (own_begins whole part))
+  pub open_fails : (before : RateMoments) (few : 0 < most) (met : Endpoint) (m : ℕ) (whole : List (List ℕ)) (part : List ℕ) → BeginsLine (line_about at.asset met m Begun) whole part →
+      FailsSo at before most client (met_at at.port at.asset.endpoint met ∷ Moment m ∷ []) whole part
+  open_fails before few met m whole part begins =
+      inr (write_told both.Separate at.asset before at.port most few (own_begun whole part) met m (Some []) (Some whole) part (own_more (line_about at.asset met m Begun) whole part begins) (own_begins whole part))
 
-  module _ (before : List Entry) (told after : SessionTold) (log log' : Option (List (List ℕ))) (part : List ℕ) (answers : List Entry)
-      (tells : after ≡ with_answers told answers) (line : List ℕ) (may : MayHaveMore (line ∷ []) log log' part) where
-    pub reach_missed : ((whole : List (List ℕ)) → BeginsLine line whole part → FailsSo at most client (before ++ answers) whole part) →
-        MissesReach at most client before told after log log' part
+  module _ (earlier : List Entry) (told after : SessionTold) (log log' : Option (List (List ℕ))) (part : List ℕ) (answers : List Entry)
+      (tells : after ≡ with_answers told answers) (quiet : history_of (earlier ++ answers) ≡ []) (line : List ℕ) (may : MayHaveMore (line ∷ []) log log' part) where
+    pub reach_missed : ((before : RateMoments) (whole : List (List ℕ)) → BeginsLine line whole part → FailsSo at before most client (earlier ++ answers) whole part) →
+        MissesReach at most client earlier told after log log' part
     reach_missed fails =
         let w = begins_line line log log' part may in
-        record { answers = answers; lines = w.0; tells = tells; added = w.1.0; fails = fails w.0 w.1.1 }
+        record { answers = answers; lines = w.0; tells = tells; added = w.1.0; fails = λ before. fails before w.0 w.1.1; quiet = quiet }
 
     -- a line with which it ends
-    pub end_missed : (e : SessionEnd) → EndsSo at most client (before ++ answers) (line ∷ []) e → MissesReach at most client before told after log log' part
-    end_missed e ends = reach_missed (λ whole begins. last_fails at most client (before ++ answers) [] line whole part e ends begins)
+    pub end_missed : (e : SessionEnd) → ((before : RateMoments) → EndsSo at before most client (earlier ++ answers) (line ∷ []) e) → MissesReach at most client earlier told after log log' part
+    end_missed e ends = reach_missed (λ before whole begins. last_fails at before most client (earlier ++ answers) [] line whole part e (ends before) begins)
 
   module _ (session : ℕ) (list : Option (List LinksEntry)) (after : SessionTold) (log log' : Option (List (List ℕ))) (part : List ℕ) where
-    -- the meeting and what came then
-    pub met_missed : (mid : SessionTold) (x : Entry) {A : Type 0} (r : Result A WriteFault) → mid ≡ with_entry (told_as session list) x →
-        OnErr r ((c : Endpoint) → MissesReach at most c (x ∷ []) mid after log log' part) → OnErr r (MissesReach at most client [] (told_as session list) after log log' part)
-    met_missed mid x (Ok v) is does = tt
-    met_missed mid x (Err e) is does = record {
-      answers = x ∷ (does client).answers;
-      lines = (does client).lines;
-      tells = (does client).tells ∙ ap (λ t. with_answers t (does client).answers) is ∙ told_more session list x (does client).answers;
-      added = (does client).added;
-      fails = (does client).fails;
+    -- an answer and what came then
+    pub then_missed : (earlier : List Entry) (mid : SessionTold) (x : Entry) {A : Type 0} (r : Result A WriteFault) → mid ≡ with_entry (told_as session list) x →
+        OnErr r (MissesReach at most client (earlier ++ x ∷ []) mid after log log' part) → OnErr r (MissesReach at most client earlier (told_as session list) after log log' part)
+    then_missed earlier mid x (Ok v) is does = tt
+    then_missed earlier mid x (Err e) is does = record {
+      answers = x ∷ does.answers;
+      lines = does.lines;
+      tells = does.tells ∙ ap (λ t. with_answers t does.answers) is ∙ told_more session list x does.answers;
+      added = does.added;
+      fails = λ before. subst (λ (es : List Entry). FailsSo at before most client es does.lines part) (append_assoc earlier (x ∷ []) does.answers) (does.fails before);
+      quiet = subst (λ (es : List Entry). history_of es ≡ []) (append_assoc earlier (x ∷ []) does.answers) does.quiet;
     }
 
     -- in the turn of a session
@@ -123,7 +129,7 @@ module _ (at : Listening) (most : ℕ) (client : Endpoint) where
     turn_missed o none does = record {
       answers = does.answers;
       tells = does.tells;
-      fails = λ es own h.
-          let n : (es ≡ []) × (own ≡ []) = subst (λ x. StandsAs at most es own x) none h in
-          (does.lines, (does.added, rw (n.0, n.1) does.fails));
+      fails = λ before es own h.
+          let n : (es ≡ []) × (own ≡ []) = subst (λ x. StandsAs at before most es own x) none h in
+          (does.lines, (does.added, rw (n.0, n.1, none) (does.fails before, does.quiet)));
     }

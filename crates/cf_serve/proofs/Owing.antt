@@ -1,5 +1,5 @@
 -- What a session has to pay for behind one turn more, and how many of its commands were refused.
-use Rattle.cf_lane.specs.Caller.{newcomer}
+use Rattle.cf_lane.specs.Caller.{RateMoments, caller_at}
 use Rattle.std.proofs.Common.{Bool, List, None, Option, Some, ap, arith, refl, subst, sym, true, false, ℕ, ◌++◌, ◌-◌, ◌∙◌, ◌∷◌, ◌≡◌, []}
 use Rattle.std.proofs.Common.{if◌then◌else◌}
 use Rattle.std.specs.Prelude.{◌==◌}
@@ -10,10 +10,12 @@ use Rattle.cf_lane.specs.Judged.{is_admitted, is_refused}
 use Rattle.cf_lane.specs.declared.fate.Fate.{Fate}
 use Rattle.cf_outside.specs.Pair.{Entry, Moment, met_at}
 use Rattle.cf_relay.proofs.Starting.{empty_judged}
+use Rattle.cf_lane.specs.Rates.{used_at}
 use Rattle.cf_relay.specs.Answers.{client_of, history_of}
+use Rattle.cf_relay.specs.Turn.{AreItemsOf}
 use Rattle.cf_view.specs.declared.Endpoint.{Endpoint}
-use Rattle.cf_serve.specs.Debt.{Admits, AreMeasured, Counts, HasCounted, IsMeasured, Refuses, debt_behind, debt_from, debt_of, debt_with, no_debt}
-use Rattle.cf_serve.specs.Phase.{IsCountedAs, LinkedValue, StandsAs, TurnLeaves, admitted_at, refused_at}
+use Rattle.cf_serve.specs.Debt.{Admits, AreMeasured, Counts, HasAdmitted, HasCounted, HasRefused, IsMeasured, Refuses, debt_behind, debt_from, debt_of, debt_with, no_debt}
+use Rattle.cf_serve.specs.Phase.{KnowsOf, LeavesOf, LinkedValue, StandsAs, TurnLeaves, admitted_at, refused_at}
 use Rattle.cf_serve.specs.Rounds.{TurnOf}
 use Rattle.cf_serve.specs.Session.{Listening}
 use Rattle.cf_serve.specs.declared.debt.Debt.{Debt}
@@ -54,48 +56,62 @@ module _ (places : List Listening) where
 
 -- ---- the commands that were refused
 
--- nothing came of a client whose controller was not reached
-pub no_commands : (at : Listening) → IsCountedAs at [] None
-no_commands at =
-    let none = empty_judged at.asset (newcomer (client_of []).address) in
-    (([], (none, refl)), ([], (none, refl)))
+-- both numbers of its commands are those of its own answers
+abbrev IsCountedAs : Listening → (before : RateMoments) → List Entry → Option LinkedValue → Type 0
+IsCountedAs at before es linked = HasAdmitted at before es (admitted_at linked) × HasRefused at before es (refused_at linked)
 
-pub met_commands : (at : Listening) (met : Endpoint) → IsCountedAs at (met_at at.port at.asset.endpoint met ∷ []) None
-met_commands at met =
-    let none = empty_judged at.asset (newcomer met.address) in
-    (([], (none, refl)), ([], (none, refl)))
+-- of a session that took nothing there are no items
+pub no_items : (at : Listening) (before : RateMoments) (es : List Entry) → history_of es ≡ [] → AreItemsOf at.asset before es []
+no_items at before es none = subst (λ h. AreJudged at.asset (caller_at (client_of es).address before) h []) (sym none) (empty_judged at.asset (caller_at (client_of es).address before))
 
-pub stands_counted : (at : Listening) (most : ℕ) (es : List Entry) (own : List (List ℕ)) (o : Option LinkedValue) → StandsAs at most es own o → IsCountedAs at es o
-stands_counted at most es own None h = subst (λ (xs : List Entry). IsCountedAs at xs None) (sym h.0) (no_commands at)
-stands_counted at most es own (Some v) h =
+no_commands : (at : Listening) (before : RateMoments) (es : List Entry) → history_of es ≡ [] → IsCountedAs at before es None
+no_commands at before es none = (([], (no_items at before es none, refl)), ([], (no_items at before es none, refl)))
+
+-- what a relay that stands knows
+pub stands_knows : (at : Listening) (before : RateMoments) (most : ℕ) (es : List Entry) (own : List (List ℕ)) (o : Option LinkedValue) → StandsAs at before most es own o → KnowsOf at before es o
+stands_knows at before most es own None h = ap history_of h.0
+stands_knows at before most es own (Some v) h =
     let all = met_at at.port at.asset.endpoint v.met ∷ Moment h.moment ∷ h.answers in
     let f = h.stands.follows in
-    let items = subst (λ (c : Endpoint). AreJudged at.asset (newcomer c.address) (history_of all) f.judged) h.stands.client f.are_judged in
-    subst (λ (xs : List Entry). IsCountedAs at xs (Some v)) (sym h.split) ((f.judged, (items, f.knows.admitted)), (f.judged, (items, f.knows.refused)))
+    let items = subst (λ (c : Endpoint). AreJudged at.asset (caller_at c.address before) (history_of all) f.judged) h.stands.client f.are_judged in
+    subst (λ (xs : List Entry). KnowsOf at before xs (Some v)) (sym h.split) (f.judged, (items, (record { admitted = f.knows.admitted; refused = f.knows.refused }, f.knows.rules)))
+
+knows_counted : (at : Listening) (before : RateMoments) (es : List Entry) (o : Option LinkedValue) → KnowsOf at before es o → IsCountedAs at before es o
+knows_counted at before es None h = no_commands at before es h
+knows_counted at before es (Some v) (js, (items, (counts, rules))) = ((js, (items, counts.admitted)), (js, (items, counts.refused)))
 
 -- what a turn leaves has its numbers, whether it stands or ended
-leaves_counted : (at : Listening) (most : ℕ) (client : Endpoint) (es : List Entry) (own : List (List ℕ)) (o : Option LinkedValue) (e : Option SessionEnd) →
-    TurnLeaves at most client es own o e → IsCountedAs at es o
-leaves_counted at most client es own o None leaves = stands_counted at most es own o leaves
-leaves_counted at most client es own o (Some e) leaves = leaves.1
+pub leaves_knows : (at : Listening) (before : RateMoments) (most : ℕ) (client : Endpoint) (es : List Entry) (own : List (List ℕ)) (o : Option LinkedValue) (e : Option SessionEnd) →
+    TurnLeaves at before most client es own o e → KnowsOf at before es o
+leaves_knows at before most client es own o None leaves = stands_knows at before most es own o leaves
+leaves_knows at before most client es own o (Some e) leaves = leaves.1
+
+-- a session leaves so
+pub leaves_left : (at : Listening) (before found : RateMoments) (es : List Entry) (o : Option LinkedValue) → KnowsOf at before es o → (left : RateMoments) × LeavesOf at before found es o left
+leaves_left at before found es None h = (found, refl)
+leaves_left at before found es (Some v) (js, (items, (counts, rules))) = (used_at before js, (js, (items, (rules, refl))))
 
 -- a turn admitted and refused the differences
-module _ (at : Listening) (most : ℕ) (client : Endpoint) (es answers : List Entry) (own own' : List (List ℕ)) (old new : Option LinkedValue) (e : Option SessionEnd)
-    (stands : StandsAs at most es own old) (leaves : TurnLeaves at most client (es ++ answers) own' new e) where
-  pub admits_by : Admits at es answers (admitted_at new - admitted_at old)
-  admits_by =
-      (admitted_at old, admitted_at new, ((stands_counted at most es own old stands).0, ((leaves_counted at most client (es ++ answers) own' new e leaves).0, refl)))
+module _ (at : Listening) (before : RateMoments) (most : ℕ) (client : Endpoint) (es answers : List Entry) (own own' : List (List ℕ)) (old new : Option LinkedValue) (e : Option SessionEnd)
+    (stands : StandsAs at before most es own old) (leaves : TurnLeaves at before most client (es ++ answers) own' new e) where
+  was : IsCountedAs at before es old
+  was = knows_counted at before es old (stands_knows at before most es own old stands)
 
-  pub refuses_by : Refuses at es answers (refused_at new - refused_at old)
-  refuses_by =
-      (refused_at old, refused_at new, ((stands_counted at most es own old stands).1, ((leaves_counted at most client (es ++ answers) own' new e leaves).1, refl)))
+  is : IsCountedAs at before (es ++ answers) new
+  is = knows_counted at before (es ++ answers) new (leaves_knows at before most client (es ++ answers) own' new e leaves)
+
+  pub admits_by : Admits at before es answers (admitted_at new - admitted_at old)
+  admits_by = (admitted_at old, admitted_at new, (was.0, (is.0, refl)))
+
+  pub refuses_by : Refuses at before es answers (refused_at new - refused_at old)
+  refuses_by = (refused_at old, refused_at new, (was.1, (is.1, refl)))
 
 -- one that has no turn admitted and refused nothing
-counts_none : (is : Fate → Bool) (at : Listening) (es : List Entry) (n : ℕ) → HasCounted is at es n → Counts is at es [] 0
-counts_none is at es n h = (n, n, (h, (subst (λ (xs : List Entry). HasCounted is at xs n) (sym (append-nil es)) h, omega arith)))
+counts_none : (is : Fate → Bool) (at : Listening) (before : RateMoments) (es : List Entry) (n : ℕ) → HasCounted is at before es n → Counts is at before es [] 0
+counts_none is at before es n h = (n, n, (h, (subst (λ (xs : List Entry). HasCounted is at before xs n) (sym (append-nil es)) h, omega arith)))
 
-pub admits_none : (at : Listening) (most : ℕ) (es : List Entry) (own : List (List ℕ)) (o : Option LinkedValue) → StandsAs at most es own o → Admits at es [] 0
-admits_none at most es own o stands = counts_none is_admitted at es (admitted_at o) (stands_counted at most es own o stands).0
+pub admits_none : (at : Listening) (before : RateMoments) (most : ℕ) (es : List Entry) (own : List (List ℕ)) (o : Option LinkedValue) → StandsAs at before most es own o → Admits at before es [] 0
+admits_none at before most es own o stands = counts_none is_admitted at before es (admitted_at o) (knows_counted at before es o (stands_knows at before most es own o stands)).0
 
-pub refuses_none : (at : Listening) (most : ℕ) (es : List Entry) (own : List (List ℕ)) (o : Option LinkedValue) → StandsAs at most es own o → Refuses at es [] 0
-refuses_none at most es own o stands = counts_none is_refused at es (refused_at o) (stands_counted at most es own o stands).1
+pub refuses_none : (at : Listening) (before : RateMoments) (most : ℕ) (es : List Entry) (own : List (List ℕ)) (o : Option LinkedValue) → StandsAs at before most es own o → Refuses at before es [] 0
+refuses_none at before most es own o stands = counts_none is_refused at before es (refused_at o) (knows_counted at before es o (stands_knows at before most es own o stands)).1

@@ -65,3 +65,19 @@ phases_at xs i x h e =
       put = λ y. ap (map phase_of) (s.put y) ∙ map-append phase_of s.before (y ∷ s.after);
       out = λ y. ap (map phase_of) (s.out y) ∙ map-append phase_of s.before s.after;
     }
+
+-- the element of a place, and one that is put there and taken out
+pub slice_at : {X : Type 0} (xs : List X) (i : ℕ) (x : X) → i < length xs → x ≡ get_or xs i x → slice_get xs i ≡ Some x
+slice_at [] i x h e = absurd (let n : i < 0 = h in omega (arith, n))
+slice_at (y ∷ xs) zero x h e = ap Some (sym e)
+slice_at (y ∷ xs) (suc i) x h e = slice_at xs i x (let n : suc i < length (y ∷ xs) = h in omega (arith, n)) e
+
+pub removed_is : {X : Type 0} (xs : List X) (i : ℕ) (y r : X) → i < length xs → r ≡ get_or (set xs i y) i r → r ≡ y
+removed_is [] i y r h e = absurd (let n : i < 0 = h in omega (arith, n))
+removed_is (x ∷ xs) zero y r h e = e
+removed_is (x ∷ xs) (suc i) y r h e = removed_is xs i y r (let n : suc i < length (x ∷ xs) = h in omega (arith, n)) e
+
+pub phase_at : (xs : List Served) (i : ℕ) (x : Served) → slice_get xs i ≡ Some x → slice_get (map phase_of xs) i ≡ Some (phase_of x)
+phase_at [] i x is = cc is
+phase_at (y ∷ xs) zero x is = ap (λ z. Some (phase_of z)) (same_Some y x is)
+phase_at (y ∷ xs) (suc i) x is = phase_at xs i x is

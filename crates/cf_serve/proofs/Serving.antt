@@ -6,6 +6,7 @@ use Rattle.cf_links.specs.Links.{LinksEntry}
 use Rattle.cf_relay.proofs.Lined.{lines_none}
 use Rattle.cf_serve.proofs.Rounding.{flat_one, more_none, more_twice}
 use Rattle.cf_serve.specs.Failing.{MissesRound, MissesRounds}
+use Rattle.cf_serve.specs.Lending.{KeptValue}
 use Rattle.cf_serve.specs.Minute.{all_lines, last_behind, last_from, minute_lines}
 use Rattle.cf_serve.specs.Phase.{Phase, listenings}
 use Rattle.cf_serve.specs.Rounds.{AreRounds, IsRound, Round, Seat, TurnOf, round_lines, turns_of}
@@ -45,23 +46,23 @@ last_one last [] r = refl
 last_one last (x ∷ rs) r = last_one (last_behind last x.moment) rs r
 
 module _ (places : List Place) (most : ℕ) (lobby : Lobby) (last : Option ℕ) (past : List TurnOf) (told : Option (List LinksEntry)) (log : Option (List (List ℕ))) (old : List Phase) where
-  pub rounds_none : (minutes : Minutes) → Keeps (listenings places) most lobby.next past old → IsMinuteOf minutes last past →
-      RoundsDo places most lobby lobby minutes last 0 past told told log log old old
-  rounds_none minutes keeps is = record {
+  pub rounds_none : (store : List KeptValue) (minutes : Minutes) → Keeps (listenings places) most store lobby.next past old → IsMinuteOf minutes last past →
+      RoundsDo places most store lobby lobby minutes last 0 past told told log log old old
+  rounds_none store minutes keeps is = record {
     rounds = [];
     count = refl;
     tells = more_none told;
     added = lines_none log;
     in_turn = (refl, refl);
-    keeps = subst (λ (p : List TurnOf). Keeps (listenings places) most lobby.next p old) (sym (append-nil past)) keeps;
+    keeps = subst (λ (p : List TurnOf). Keeps (listenings places) most store lobby.next p old) (sym (append-nil past)) keeps;
     minutes = subst (λ (p : List TurnOf). IsMinuteOf minutes last p) (sym (append-nil past)) is;
   }
 
-  pub rounds_then : (lobby1 lobby2 : Lobby) (minutes1 minutes2 : Minutes) (made : ℕ) (told1 told2 : Option (List LinksEntry)) (log1 log2 : Option (List (List ℕ))) (mid new : List Phase) →
-      RoundsDo places most lobby lobby1 minutes1 last made past told told1 log log1 old mid →
-      ((p : List TurnOf) → Keeps (listenings places) most lobby1.next p mid → (l : Option ℕ) → IsMinuteOf minutes1 l p → RoundDoes places most lobby1 lobby2 minutes2 l p told1 told2 log1 log2 mid new) →
-      RoundsDo places most lobby lobby2 minutes2 last (made + 1) past told told2 log log2 old new
-  rounds_then lobby1 lobby2 minutes1 minutes2 made told1 told2 log1 log2 mid new a round =
+  pub rounds_then : (store1 store2 : List KeptValue) (lobby1 lobby2 : Lobby) (minutes1 minutes2 : Minutes) (made : ℕ) (told1 told2 : Option (List LinksEntry)) (log1 log2 : Option (List (List ℕ))) (mid new : List Phase) →
+      RoundsDo places most store1 lobby lobby1 minutes1 last made past told told1 log log1 old mid →
+      ((p : List TurnOf) → Keeps (listenings places) most store1 lobby1.next p mid → (l : Option ℕ) → IsMinuteOf minutes1 l p → RoundDoes places most store2 lobby1 lobby2 minutes2 l p told1 told2 log1 log2 mid new) →
+      RoundsDo places most store2 lobby lobby2 minutes2 last (made + 1) past told told2 log log2 old new
+  rounds_then store1 store2 lobby1 lobby2 minutes1 minutes2 made told1 told2 log1 log2 mid new a round =
       let b = round (past ++ turns_of a.rounds) a.keeps (last_from last a.rounds) a.minutes in
       record {
         rounds = a.rounds ++ b.round ∷ [];
@@ -69,17 +70,17 @@ module _ (places : List Place) (most : ℕ) (lobby : Lobby) (last : Option ℕ) 
         tells = simp (b.tells, a.tells, more_twice, flat_one);
         added = simp (b.added, a.added, more_twice, lines_one places last past a.rounds b.round);
         in_turn = rounds_more (listenings places) lobby (seats_of old) a.rounds lobby1 (seats_of mid) b.round lobby2 (seats_of new) a.in_turn b.is_round;
-        keeps = subst (λ (p : List TurnOf). Keeps (listenings places) most lobby2.next p new) (turns_behind past a.rounds b.round) b.keeps;
+        keeps = subst (λ (p : List TurnOf). Keeps (listenings places) most store2 lobby2.next p new) (turns_behind past a.rounds b.round) b.keeps;
         minutes = subst (λ (l : Option ℕ). IsMinuteOf minutes2 l (past ++ turns_of (a.rounds ++ b.round ∷ []))) (sym (last_one last a.rounds b.round))
             (subst (λ (p : List TurnOf). IsMinuteOf minutes2 (last_behind (last_from last a.rounds) b.round.moment) p) (turns_behind past a.rounds b.round) b.minutes);
       }
 
   -- a line failed in the round behind them
-  pub rounds_fail : (lobby1 : Lobby) (minutes1 : Minutes) (made : ℕ) (told1 told2 : Option (List LinksEntry)) (log1 log2 : Option (List (List ℕ))) (part : List ℕ) (mid new : List Phase) →
-      RoundsDo places most lobby lobby1 minutes1 last made past told told1 log log1 old mid →
-      ((p : List TurnOf) → Keeps (listenings places) most lobby1.next p mid → (l : Option ℕ) → IsMinuteOf minutes1 l p → MissesRound places most lobby1 l p told1 told2 log1 log2 part mid new) →
+  pub rounds_fail : (store1 : List KeptValue) (lobby1 : Lobby) (minutes1 : Minutes) (made : ℕ) (told1 told2 : Option (List LinksEntry)) (log1 log2 : Option (List (List ℕ))) (part : List ℕ) (mid new : List Phase) →
+      RoundsDo places most store1 lobby lobby1 minutes1 last made past told told1 log log1 old mid →
+      ((p : List TurnOf) → Keeps (listenings places) most store1 lobby1.next p mid → (l : Option ℕ) → IsMinuteOf minutes1 l p → MissesRound places most lobby1 l p told1 told2 log1 log2 part mid new) →
       MissesRounds places most lobby last made past told told2 log log2 part old new
-  rounds_fail lobby1 minutes1 made told1 told2 log1 log2 part mid new a round =
+  rounds_fail store1 lobby1 minutes1 made told1 told2 log1 log2 part mid new a round =
       let b = round (past ++ turns_of a.rounds) a.keeps (last_from last a.rounds) a.minutes in
       record {
         rounds = a.rounds;

@@ -1,10 +1,10 @@
 -- The commands of a listening place, as they are kept from turn to turn and as they are told.
-use Rattle.std.proofs.Common.{Bool, List, None, Option, Some, ap, arith, false, length, refl, subst, sym, true, ℕ, ◌++◌, ◌+◌, ◌-◌, ◌<◌, ◌∙◌, ◌∷◌, ◌≡◌, []}
+use Rattle.std.proofs.Common.{Bool, List, ap, arith, false, length, refl, subst, sym, true, ℕ, ◌++◌, ◌+◌, ◌-◌, ◌<◌, ◌∙◌, ◌∷◌, ◌≡◌, []}
 use Rattle.std.proofs.Common.{if◌then◌else◌, ◌≤◌}
 use Rattle.std.specs.Prelude.{min, set, ◌==◌}
 use Rattle.std.specs.List.{sum_by}
 use Rattle.std.proofs.lemmas.Bool.{eq-eqb, eqb-true}
-use Rattle.std.proofs.lemmas.List.{append-nil, get_or-replicate, get_or-set_other, get_or-set_same, length-replicate, length-set}
+use Rattle.std.proofs.lemmas.List.{get_or-replicate, get_or-set_other, get_or-set_same, length-replicate, length-set}
 use Rattle.std.proofs.lemmas.List.Sums.{sum_by_push}
 use Rattle.cf_serve.specs.Minute.{IsTallied, admitted_by, commands_of, no_minutes, no_tally, refused_by, stands_lines, tally_at, tally_with, told_count}
 use Rattle.cf_serve.specs.Rounds.{Seat, TurnOf}

@@ -2,7 +2,7 @@
 --
 -- All rounds but the last are whole. Of the last there is what came before the line that failed, and nothing behind it: no client was
 -- taken, no session was asked, and nothing was given. The sessions that stood were left. Of the line the log has a beginning, or all.
-use Rattle.cf_lane.specs.Caller.{none_before}
+use Rattle.cf_lane.specs.Caller.{RateMoments}
 use Rattle.cf_audit.specs.Line.{Listen}
 use Rattle.cf_lane.specs.Log.{line_about, with_lines}
 use Rattle.cf_links.specs.Links.{LinksEntry, answers_of}
@@ -14,14 +14,15 @@ use Rattle.cf_relay.specs.Ends.{IsWriteEnd, LogContents}
 use Rattle.cf_relay.specs.declared.directions.Directions.TheVariants as both
 use Rattle.cf_view.specs.declared.Endpoint.{Endpoint}
 use Rattle.std.specs.List.{AllByRecursion, concat, flat_map}
-use Rattle.std.specs.Prelude.{List, None, Option, Some, [], drop, false, length, map, option_map, slice_get, take, true, ℕ, ◌++◌}
+use Rattle.std.specs.Prelude.{Bool, List, None, Option, Some, [], drop, false, length, map, option_map, slice_get, take, true, ℕ, ◌++◌}
 use Rattle.std.specs.Prelude.{◌-◌, ◌<◌, ◌^◌, ◌∷◌, ◌≡◌, ◌⊎◌}
 use Rattle.cf_serve.specs.Debt.{AreMeasured, debt_of, must_rest}
+use Rattle.cf_serve.specs.Kept.{AreBegun, before_in}
 use Rattle.cf_serve.specs.Phase.{listenings}
 use Rattle.cf_serve.specs.Door.{first_lobby}
 use Rattle.cf_serve.specs.Minute.{all_lines, last_from, minute_lines}
 use Rattle.cf_serve.specs.Rounds.{AreArrivals, AreRounds, AreTurns, Arrival, IsRound, Round, Seat, TurnOf, answers_in, lines_in}
-use Rattle.cf_serve.specs.Rounds.{lobby_behind, round_entries, round_lines, stays, taken_of, turns_of}
+use Rattle.cf_serve.specs.Rounds.{IsAgainOf, lobby_behind, must_end, round_entries, round_lines, stays, taken_of, turns_of}
 use Rattle.cf_serve.specs.Served.{IfEnded, IsClient, left_of, listen_lines, opened_from}
 use Rattle.cf_serve.specs.Session.{EndsSo, Listening}
 use Rattle.cf_serve.specs.declared.door.Closing.{Closing}
@@ -43,26 +44,27 @@ own_begun own part = record {
 }
 
 -- a failed line that was the last one of a session, which has all of its end but that
-pub record LastLineFails (at : Listening) (most : ℕ) (client : Endpoint) (es : List Entry) (own : List (List ℕ)) (part : List ℕ) : Type 0
-  where
-    pub end : SessionEnd
-    pub before : List (List ℕ)
-    pub line : List ℕ
-    pub ends : EndsSo at most client es (before ++ line ∷ []) end
-    pub whole : List (List ℕ)
-    pub own_is : own ≡ before ++ whole
-    pub begins : BeginsLine line whole part
+pub record LastLineFails (at : Listening) (past : RateMoments) (most : ℕ) (client : Endpoint) (es : List Entry) (own : List (List ℕ))
+    (part : List ℕ) : Type 0 where
+  pub end : SessionEnd
+  pub before : List (List ℕ)
+  pub line : List ℕ
+  pub ends : EndsSo at past most client es (before ++ line ∷ []) end
+  pub whole : List (List ℕ)
+  pub own_is : own ≡ before ++ whole
+  pub begins : BeginsLine line whole part
 
 -- or it was the open line, or one amid a turn: the session is a relay whose write failed
-abbrev pub FailsSo : Listening → (most : ℕ) → (client : Endpoint) → List Entry → (own : List (List ℕ)) → (part : List ℕ) → Type 0
-FailsSo at most client es own part =
-    LastLineFails at most client es own part ⊎ IsWriteEnd both.Separate at.asset none_before at.port most (own_begun own part) es
+abbrev pub FailsSo : Listening → (past : RateMoments) → (most : ℕ) → (client : Endpoint) → List Entry → (own : List (List ℕ))
+    → (part : List ℕ) → Type 0
+FailsSo at past most client es own part =
+    LastLineFails at past most client es own part ⊎ IsWriteEnd both.Separate at.asset past at.port most (own_begun own part) es
 
--- a client that failed by its own answers and its own lines alone
+-- a client that failed by its own answers and its own lines, and by what its earlier sessions had used as it began, alone
 abbrev pub IsFailedClient : List Listening → (most : ℕ) → List TurnOf → Seat → (part : List ℕ) → Type 0
 IsFailedClient places most past seat part =
     (at : Listening) → slice_get places seat.place ≡ Some at
-    → FailsSo at most seat.client (answers_in seat.session past) (lines_in seat.session past) part
+    → FailsSo at (before_in seat.session past) most seat.client (answers_in seat.session past) (lines_in seat.session past) part
 
 -- ---- the round that breaks off
 
@@ -85,8 +87,14 @@ pub record BreaksInArrivals (places : List Listening) (most : ℕ) (past : List 
   pub fails : ComingFails places r.moment 0 lobby standing r.arrivals part
   pub no_turns : r.turns ≡ []
   pub measured : AreMeasured places [] past
+  pub begun : AreBegun places [] past
   pub all : left ≡ standing ++ taken_of r.arrivals
   pub stand : AllByRecursion (λ (s : Seat). IsClient places most past s []) left
+
+-- the turn whose line failed: the session was ready, and had not to rest; or it was ended as its client came again
+abbrev pub FailsIn : (again rests : Bool) → TurnOf → Type 0
+FailsIn true rests t = (t.ready ≡ false) × (t.answers ≡ [])
+FailsIn false rests t = (t.ready ≡ true) × (rests ≡ false)
 
 -- a line of a turn failed: the sessions before had theirs, those behind did not, and each but this one stands as it stood
 pub record TurnFails (places : List Listening) (most moment : ℕ) (past : List TurnOf) (stood : List Seat) (turns : List TurnOf)
@@ -97,11 +105,14 @@ pub record TurnFails (places : List Listening) (most moment : ℕ) (past : List 
   pub are : turns ≡ before ++ turn ∷ []
   pub in_turn : map (λ (t : TurnOf). t.seat) before ++ turn.seat ∷ behind ≡ stood
   pub each : AreTurns moment before
+  pub again : AllByRecursion (IsAgainOf places stood) before
   pub measured : AreMeasured places [] (past ++ before)
+  pub begun : AreBegun places [] (past ++ turns)
   pub its_moment : turn.moment ≡ moment
-  pub no_rest : must_rest (debt_of turn.seat.session (past ++ before)) moment ≡ false
-  pub ready : turn.ready ≡ true
+  pub fails_in : FailsIn (must_end places stood turn.seat) (must_rest (debt_of turn.seat.session (past ++ before)) moment) turn
   pub no_end : turn.end ≡ None
+  -- a relay whose open line failed did not begin
+  pub no_begin : turn.begun ≡ None
   pub all : left ≡ flat_map stays before ++ turn.seat ∷ behind
   pub others : AllByRecursion (λ (s : Seat). IsClient places most (past ++ turns) s []) (flat_map stays before ++ behind)
   pub was : IsClient places most (past ++ before) turn.seat []
@@ -118,6 +129,7 @@ pub record BreaksInMinute (places : List Place) (last : Option ℕ) (most : ℕ)
     (r : Round) (minute : List (List ℕ)) (left : List Seat) (part : List ℕ) : Type 0 where
   pub is_round : IsRound (listenings places) lobby standing r (lobby_behind lobby r.moment r.arrivals) left
   pub measured : AreMeasured (listenings places) [] (past ++ r.turns)
+  pub begun : AreBegun (listenings places) [] (past ++ r.turns)
   pub stand : AllByRecursion (λ (s : Seat). IsClient (listenings places) most (past ++ r.turns) s []) left
   pub before : List (List ℕ)
   pub line : List ℕ

@@ -2,7 +2,7 @@
 --
 -- Each refused command is one more to pay for, and each second pays for 100. A session that has 100 to pay for rests until a later
 -- second: it has no turn, and loses nothing, and the other sessions have theirs. A clock that goes back pays for nothing.
-use Rattle.cf_lane.specs.Caller.{none_before}
+use Rattle.cf_lane.specs.Caller.{RateMoments}
 use Rattle.cf_lane.specs.Judged.{Judged, is_admitted, is_refused}
 use Rattle.cf_lane.specs.declared.fate.Fate.{Fate}
 use Rattle.cf_outside.specs.Pair.{Entry}
@@ -10,6 +10,7 @@ use Rattle.cf_relay.specs.Turn.{AreItemsOf}
 use Rattle.std.specs.List.{sum_by}
 use Rattle.std.specs.Prelude.{Bool, List, Some, [], count_by, false, if◌then◌else◌, max, nat_le, slice_get, true, ℕ, ◌*◌, ◌++◌, ◌+◌, ◌-◌, ◌/◌}
 use Rattle.std.specs.Prelude.{◌==◌, ◌∷◌, ◌≡◌}
+use Rattle.cf_serve.specs.Kept.{before_in}
 use Rattle.cf_serve.specs.Rounds.{TurnOf, answers_in}
 use Rattle.cf_serve.specs.Session.{Listening}
 use Rattle.cf_serve.specs.declared.debt.Debt.{Debt}
@@ -48,36 +49,38 @@ debt_from session debt (t ∷ ts) = debt_from session (debt_behind session debt 
 abbrev pub debt_of : (session : ℕ) → List TurnOf → Debt
 debt_of session past = debt_from session no_debt past
 
--- the commands of a session that have such a fate, by its own answers
-abbrev pub HasCounted : (is : Fate → Bool) → Listening → List Entry → (count : ℕ) → Type 0
-HasCounted is at es count = (js : List Judged) × (AreItemsOf at.asset none_before es js × (count ≡ count_by (λ j. is j.fate) js))
+-- the commands of a session that have such a fate, by its own answers, where its client's earlier sessions used what is given as before
+abbrev pub HasCounted : (is : Fate → Bool) → Listening → (before : RateMoments) → List Entry → (count : ℕ) → Type 0
+HasCounted is at before es count = (js : List Judged) × (AreItemsOf at.asset before es js × (count ≡ count_by (λ j. is j.fate) js))
 
 -- those that it has more once these answers come behind the earlier ones
-abbrev pub Counts : (is : Fate → Bool) → Listening → (before answers : List Entry) → (count : ℕ) → Type 0
-Counts is at before answers count =
-    (earlier all : ℕ) × (HasCounted is at before earlier × (HasCounted is at (before ++ answers) all × (count ≡ all - earlier)))
+abbrev pub Counts : (is : Fate → Bool) → Listening → (before : RateMoments) → (earlier answers : List Entry) → (count : ℕ) → Type 0
+Counts is at before earlier answers count =
+    (few all : ℕ) × (HasCounted is at before earlier few × (HasCounted is at before (earlier ++ answers) all × (count ≡ all - few)))
 
 -- the commands of a session that were refused, and those that were admitted
-abbrev pub HasRefused : Listening → List Entry → (refused : ℕ) → Type 0
-HasRefused at es refused = HasCounted is_refused at es refused
+abbrev pub HasRefused : Listening → (before : RateMoments) → List Entry → (refused : ℕ) → Type 0
+HasRefused at before es refused = HasCounted is_refused at before es refused
 
-abbrev pub HasAdmitted : Listening → List Entry → (admitted : ℕ) → Type 0
-HasAdmitted at es admitted = HasCounted is_admitted at es admitted
+abbrev pub HasAdmitted : Listening → (before : RateMoments) → List Entry → (admitted : ℕ) → Type 0
+HasAdmitted at before es admitted = HasCounted is_admitted at before es admitted
 
 -- the commands that are refused, and those that are admitted, once these answers come behind the earlier ones
-abbrev pub Refuses : Listening → (before answers : List Entry) → (refused : ℕ) → Type 0
-Refuses at before answers refused = Counts is_refused at before answers refused
+abbrev pub Refuses : Listening → (before : RateMoments) → (earlier answers : List Entry) → (refused : ℕ) → Type 0
+Refuses at before earlier answers refused = Counts is_refused at before earlier answers refused
 
-abbrev pub Admits : Listening → (before answers : List Entry) → (admitted : ℕ) → Type 0
-Admits at before answers admitted = Counts is_admitted at before answers admitted
+abbrev pub Admits : Listening → (before : RateMoments) → (earlier answers : List Entry) → (admitted : ℕ) → Type 0
+Admits at before earlier answers admitted = Counts is_admitted at before earlier answers admitted
 
 -- a turn behind others: who has too much to pay for is not ready, and what was admitted and refused is what its answers say
 pub record IsMeasured (places : List Listening) (past : List TurnOf) (t : TurnOf) : Type 0 where
   pub rests : must_rest (debt_of t.seat.session past) t.moment ≡ true → t.ready ≡ false
   pub idle : t.ready ≡ false → t.refused ≡ 0
-  pub refuses : (at : Listening) → slice_get places t.seat.place ≡ Some at → Refuses at (answers_in t.seat.session past) t.answers t.refused
+  pub refuses : (at : Listening) → slice_get places t.seat.place ≡ Some at
+      → Refuses at (before_in t.seat.session (past ++ t ∷ [])) (answers_in t.seat.session past) t.answers t.refused
   pub passive : t.ready ≡ false → t.admitted ≡ 0
-  pub admits : (at : Listening) → slice_get places t.seat.place ≡ Some at → Admits at (answers_in t.seat.session past) t.answers t.admitted
+  pub admits : (at : Listening) → slice_get places t.seat.place ≡ Some at
+      → Admits at (before_in t.seat.session (past ++ t ∷ [])) (answers_in t.seat.session past) t.answers t.admitted
 
 -- turns one after the other, behind others
 abbrev pub AreMeasured : List Listening → (past : List TurnOf) → List TurnOf → Type 0

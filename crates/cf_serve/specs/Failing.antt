@@ -1,17 +1,21 @@
 -- Steps of the proof: what a call leaves whose line of the log failed, whatever came before. The main definitions are `MissesTurn`, of a
 -- session, and `MissesStep`, `MissesTurns`, `MissesArrival`, `MissesRound` and `MissesRounds`, of the table.
+use Rattle.cf_lane.specs.Caller.{RateMoments}
 use Rattle.cf_lane.specs.Log.{with_lines}
 use Rattle.cf_links.specs.Links.{LinksEntry, SessionTold, with_answers}
 use Rattle.cf_outside.specs.Pair.{Entry}
+use Rattle.cf_relay.specs.Answers.{history_of}
 use Rattle.cf_view.specs.declared.Endpoint.{Endpoint}
 use Rattle.std.specs.List.{AllByRecursion, flat_map}
-use Rattle.std.specs.Prelude.{List, None, Option, [], false, length, option_map, true, ℕ, ◌++◌, ◌∷◌, ◌≡◌}
-use Rattle.cf_serve.specs.Broken.{BeginsLine, BreaksOff, ComingFails, FailsSo, IsFailedClient, TurnFails}
+use Rattle.std.specs.Prelude.{Bool, List, None, Option, Some, [], length, option_map, ℕ, ◌++◌, ◌∷◌, ◌≡◌}
+use Rattle.cf_serve.specs.Broken.{BeginsLine, BreaksOff, ComingFails, FailsIn, FailsSo, IsFailedClient, TurnFails}
 use Rattle.cf_serve.specs.Debt.{debt_of, must_rest}
+use Rattle.cf_serve.specs.Kept.{AreBegun}
+use Rattle.cf_serve.specs.Lending.{KeptValue}
 use Rattle.cf_serve.specs.Minute.{all_lines, last_from}
-use Rattle.cf_serve.specs.Phase.{IsCountedAs, LinkedValue, Phase, StandsAs, listenings}
+use Rattle.cf_serve.specs.Phase.{KnowsOf, LinkedValue, Phase, StandsAs, listenings}
 use Rattle.cf_serve.specs.Rounds.{AreRounds, Arrival, Round, Seat, TurnOf, arrival_entries, round_entries, round_lines, turn_entries}
-use Rattle.cf_serve.specs.Rounds.{taken_of, turns_of}
+use Rattle.cf_serve.specs.Rounds.{must_end, taken_of, turns_of}
 use Rattle.cf_serve.specs.Served.{IfEnded, IsClient}
 use Rattle.cf_serve.specs.Session.{EndsSo, Listening}
 use Rattle.cf_serve.specs.Table.{Keeps, seats_of}
@@ -25,39 +29,48 @@ pub record EndsTurn (at : Listening) (most : ℕ) (client : Endpoint) (told told
     (line : List ℕ) (old new : Option LinkedValue) (end : SessionEnd) : Type 0 where
   pub answers : List Entry
   pub tells : told_after ≡ with_answers told answers
-  pub ends : (es : List Entry) (own : List (List ℕ)) → StandsAs at most es own old →
+  pub ends : (before : RateMoments) (es : List Entry) (own : List (List ℕ)) → StandsAs at before most es own old →
       (lines : List (List ℕ)) × ((log_after ≡ with_lines log lines)
-      × (EndsSo at most client (es ++ answers) ((own ++ lines) ++ line ∷ []) end × IsCountedAs at (es ++ answers) new))
+      × (EndsSo at before most client (es ++ answers) ((own ++ lines) ++ line ∷ []) end × KnowsOf at before (es ++ answers) new))
+
+-- nothing was taken of a session that had not begun
+abbrev pub TakesNone : Option LinkedValue → List Entry → Type 0
+TakesNone None es = history_of es ≡ []
+TakesNone (Some v) es = Unit {0}
 
 -- a line of a turn failed
 pub record MissesTurn (at : Listening) (most : ℕ) (client : Endpoint) (told told_after : SessionTold)
     (log log_after : Option (List (List ℕ))) (part : List ℕ) (old : Option LinkedValue) : Type 0 where
   pub answers : List Entry
   pub tells : told_after ≡ with_answers told answers
-  pub fails : (es : List Entry) (own : List (List ℕ)) → StandsAs at most es own old →
-      (lines : List (List ℕ)) × ((log_after ≡ with_lines log lines) × FailsSo at most client (es ++ answers) (own ++ lines) part)
+  pub fails : (before : RateMoments) (es : List Entry) (own : List (List ℕ)) → StandsAs at before most es own old →
+      (lines : List (List ℕ)) × ((log_after ≡ with_lines log lines)
+      × (FailsSo at before most client (es ++ answers) (own ++ lines) part × TakesNone old (es ++ answers)))
 
 -- a line failed as a controller was asked for, behind the answers of the session before
-pub record MissesReach (at : Listening) (most : ℕ) (client : Endpoint) (before : List Entry) (told told_after : SessionTold)
+pub record MissesReach (at : Listening) (most : ℕ) (client : Endpoint) (earlier : List Entry) (told told_after : SessionTold)
     (log log_after : Option (List (List ℕ))) (part : List ℕ) : Type 0 where
   pub answers : List Entry
   pub lines : List (List ℕ)
   pub tells : told_after ≡ with_answers told answers
   pub added : log_after ≡ with_lines log lines
-  pub fails : FailsSo at most client (before ++ answers) lines part
+  pub fails : (before : RateMoments) → FailsSo at before most client (earlier ++ answers) lines part
+  pub quiet : history_of (earlier ++ answers) ≡ []
 
 -- what a round is to the session whose line failed
-pub record MissesSeat (at : Listening) (most moment : ℕ) (es : List Entry) (own : List (List ℕ)) (told told_after : Option (List LinksEntry))
-    (log log_after : Option (List (List ℕ))) (part : List ℕ) (seat : Seat) (debt : Debt) : Type 0 where
+pub record MissesSeat (at : Listening) (again : Bool) (before : RateMoments) (most moment : ℕ) (es : List Entry) (own : List (List ℕ))
+    (told told_after : Option (List LinksEntry)) (log log_after : Option (List (List ℕ))) (part : List ℕ) (seat : Seat) (debt : Debt)
+    (old : Option LinkedValue) : Type 0 where
   pub turn : TurnOf
   pub its : turn.seat ≡ seat
   pub its_moment : turn.moment ≡ moment
-  pub no_rest : must_rest debt moment ≡ false
-  pub ready : turn.ready ≡ true
+  pub fails_in : FailsIn again (must_rest debt moment) turn
   pub no_end : turn.end ≡ None
+  pub no_begin : turn.begun ≡ None
   pub tells : told_after ≡ option_map (λ entries. entries ++ turn_entries turn) told
   pub added : log_after ≡ with_lines log turn.lines
-  pub fails : FailsSo at most seat.client (es ++ turn.answers) (own ++ turn.lines) part
+  pub fails : FailsSo at before most seat.client (es ++ turn.answers) (own ++ turn.lines) part
+  pub takes : TakesNone old (es ++ turn.answers)
 
 -- what it is to the table, where all sessions stay
 pub record MissesStep (places : List Listening) (most moment : ℕ) (past : List TurnOf) (index : ℕ) (told told_after : Option (List LinksEntry))
@@ -71,12 +84,13 @@ pub record MissesStep (places : List Listening) (most moment : ℕ) (past : List
   pub turn : TurnOf
   pub seat : turn.seat ≡ it.seat
   pub its_moment : turn.moment ≡ moment
-  pub no_rest : must_rest (debt_of it.seat.session past) moment ≡ false
-  pub ready : turn.ready ≡ true
+  pub fails_in : FailsIn (must_end places (seats_of old) it.seat) (must_rest (debt_of it.seat.session past) moment) turn
   pub no_end : turn.end ≡ None
+  pub no_begin : turn.begun ≡ None
   pub tells : told_after ≡ option_map (λ entries. entries ++ turn_entries turn) told
   pub added : log_after ≡ with_lines log turn.lines
   pub ended : AllByRecursion (λ (t : TurnOf). IfEnded places most (past ++ turn ∷ []) t t.end) (past ++ turn ∷ [])
+  pub begun : AreBegun places [] (past ++ turn ∷ [])
   pub others : AllByRecursion (λ (p : Phase). IsClient places most (past ++ turn ∷ []) p.seat []) (before ++ after)
   pub stood : IsClient places most past it.seat []
   pub fails : IsFailedClient places most (past ++ turn ∷ []) it.seat part
@@ -99,7 +113,8 @@ pub record MissesArrival (places : List Listening) (most moment from : ℕ) (lob
   pub added : log_after ≡ with_lines log (flat_map (λ (a : Arrival). a.lines) arrivals)
   pub fails : ComingFails places moment from lobby (seats_of old) arrivals part
   pub seats : seats_of new ≡ seats_of old ++ taken_of arrivals
-  pub keeps : (past : List TurnOf) → Keeps places most lobby.next past old → Keeps places most lobby_after.next past new
+  pub keeps : (store : List KeptValue) (past : List TurnOf) → Keeps places most store lobby.next past old
+      → Keeps places most store lobby_after.next past new
 
 -- a line of several failed: the log has those before it
 pub record MissesLine (all : List (List ℕ)) (log log_after : Option (List (List ℕ))) (part : List ℕ) : Type 0 where

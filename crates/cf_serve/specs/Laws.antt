@@ -1,5 +1,6 @@
--- Laws of a service. The main definitions are `EachIsAlone`, `IsolatesSessions`, `StrangersAreRefused` and `FloodsAreBounded`. This
--- project's own.
+-- Laws of a service. The main definitions are `EachIsAlone`, `IsolatesSessions`, `StrangersAreRefused`, `FloodsAreBounded` and
+-- `RatesLastOverSessions`. This project's own.
+use Rattle.cf_lane.specs.Caller.{RateMoments}
 use Rattle.cf_links.specs.Links.{LinksEntry, answers_of}
 use Rattle.cf_outside.specs.Pair.{Entry}
 use Rattle.cf_relay.specs.Answers.{given}
@@ -16,11 +17,21 @@ use Rattle.cf_serve.specs.Debt.{refused_in, second_of}
 use Rattle.cf_serve.specs.Rounds.{TurnOf, ends_in, lines_in, turns_of}
 use Rattle.cf_serve.specs.Served.{IsServed}
 use Rattle.cf_serve.specs.Session.{IsSession, Listening}
+use Rattle.cf_lane.specs.Caller.{none_before}
+use Rattle.cf_lane.specs.Judged.{Judged}
+use Rattle.cf_lane.specs.Rates.{KeepsRates}
+use Rattle.cf_policy.specs.Verdict.{is_empty}
+use Rattle.cf_relay.specs.Turn.{AreItemsOf}
+use Rattle.std.specs.List.{flat_map}
+use Rattle.std.specs.Prelude.{Some, if◌then◌else◌, is_some, slice_get, ◌&&◌, ◌==◌}
+use Rattle.cf_serve.specs.Kept.{before_in, begins_in}
+use Rattle.cf_serve.specs.Phase.{listenings}
+use Rattle.cf_serve.specs.Rounds.{answers_in, is_client}
 use Rattle.cf_serve.specs.declared.table.Place.{Place}
 use Rattle.cf_serve.specs.declared.end.SessionEnd.{SessionEnd}
 use Rattle.cf_serve.specs.declared.end.SessionEnd.TheVariants as end
 
--- the session was a relay: its controller was reached, and memory was not wanting
+-- the session was a relay to its end: its controller was reached, memory was not wanting, and its client did not come again
 abbrev pub was_relayed : SessionEnd → Bool
 was_relayed end.Closed = true
 was_relayed (end.Cut reason) = true
@@ -28,6 +39,7 @@ was_relayed end.Silent = true
 was_relayed end.Lost = true
 was_relayed end.Unreached = false
 was_relayed end.Gone = false
+was_relayed end.Again = false
 was_relayed end.NoMemory = false
 
 -- sessions that stand, or ended and were a relay
@@ -35,21 +47,23 @@ abbrev pub AreRelayed : List SessionEnd → Type 0
 AreRelayed [] = Unit {0}
 AreRelayed (end ∷ ends) = was_relayed end ≡ true
 
--- what a session puts in the log follows from its own answers and from how it ended, whatever the other sessions do
+-- what a session puts in the log follows from its own answers, from what its client's earlier sessions had used as it began, and from how
+-- it ended, whatever the other sessions do
 abbrev pub EachIsAlone : Type 0
 EachIsAlone =
-    (at : Listening) (most : ℕ) (client other_client : Endpoint) (es : List Entry) (own other : List (List ℕ)) (ends : List SessionEnd)
-    → AreRelayed ends → IsSession at most client es own ends → IsSession at most other_client es other ends → own ≡ other
+    (at : Listening) (before : RateMoments) (most : ℕ) (client other_client : Endpoint) (es : List Entry) (own other : List (List ℕ))
+    (ends : List SessionEnd)
+    → AreRelayed ends → IsSession at before most client es own ends → IsSession at before most other_client es other ends → own ≡ other
 
--- two services, a session of each of the same place: where their own answers and their ends are the same, each side was given the same,
--- and their lines are the same. The other sessions, their number and their order may differ in every way
+-- two services, a session of each of the same place, with the same before them: where their own answers and their ends are the same, each
+-- side was given the same, and their lines are the same. The other sessions, their number and their order may differ in every way
 abbrev pub IsolatesSessions : Type 0
 IsolatesSessions =
-    (places others : List Place) (at : Listening) (most : ℕ) (entries other_entries : List LinksEntry) (lines other_lines : List (List ℕ))
+    (places others : List Place) (at : Listening) (before : RateMoments) (most : ℕ) (entries other_entries : List LinksEntry) (lines other_lines : List (List ℕ))
     (one : IsServed places most entries lines) (two : IsServed others most other_entries other_lines) (k l : ℕ)
     (client other_client : Endpoint)
-    → IsSession at most client (answers_of k entries) (lines_in k (turns_of one.rounds)) (ends_in k (turns_of one.rounds))
-    → IsSession at most other_client (answers_of l other_entries) (lines_in l (turns_of two.rounds)) (ends_in l (turns_of two.rounds))
+    → IsSession at before most client (answers_of k entries) (lines_in k (turns_of one.rounds)) (ends_in k (turns_of one.rounds))
+    → IsSession at before most other_client (answers_of l other_entries) (lines_in l (turns_of two.rounds)) (ends_in l (turns_of two.rounds))
     → answers_of k entries ≡ answers_of l other_entries → ends_in k (turns_of one.rounds) ≡ ends_in l (turns_of two.rounds)
     → AreRelayed (ends_in l (turns_of two.rounds))
     → ((s : Side) → given s (answers_of k entries) ≡ given s (answers_of l other_entries))
@@ -74,3 +88,43 @@ FloodsAreBounded =
     (places : List Place) (most : ℕ) (entries : List LinksEntry) (lines : List (List ℕ)) (served : IsServed places most entries lines)
     (before turns behind : List TurnOf) (session first count limit : ℕ) → turns_of served.rounds ≡ before ++ (turns ++ behind)
     → LieIn first count turns → RefuseAtMost limit turns → refused_in session turns ≤ count * 100 + limit
+
+-- a turn behind others in which a session begins: its relay begins there, and had not before
+abbrev pub begins_at : (past : List TurnOf) → TurnOf → Bool
+begins_at past t = is_some t.begun && is_empty (begins_in t.seat.session past)
+
+-- the number of the session, where one of the client of this listening place and address begins
+abbrev pub began_at : (place address : ℕ) → (past : List TurnOf) → TurnOf → List ℕ
+began_at place address past t = if is_client place address t.seat && begins_at past t then t.seat.session ∷ [] else []
+
+-- the sessions of a client that begin in turns behind others, in that order
+abbrev pub sessions_of : (place address : ℕ) → (past : List TurnOf) → List TurnOf → List ℕ
+sessions_of place address past [] = []
+sessions_of place address past (t ∷ ts) = began_at place address past t ++ sessions_of place address (past ++ t ∷ []) ts
+
+-- the turns up to the one in which a session begins
+abbrev pub turns_to : (session : ℕ) → List TurnOf → List TurnOf
+turns_to session [] = []
+turns_to session (t ∷ ts) = t ∷ (if t.seat.session == session && is_some t.begun then [] else turns_to session ts)
+
+-- the items of a session: those of its own answers, after what it began with. Its clock does not go back behind where it began: none of
+-- them is at a moment before that of a round up to that one
+pub record IsSessionOf (asset : Asset) (turns : List TurnOf) (session : ℕ) (js : List Judged) : Type 0 where
+  pub items : AreItemsOf asset (before_in session turns) (answers_in session turns) js
+  pub forward : AllByRecursion (λ (j : Judged). AllByRecursion (λ (t : TurnOf). t.moment ≤ j.moment) (turns_to session turns)) js
+
+-- those of each of these sessions
+abbrev pub AreSessionsOf : Asset → List TurnOf → (sessions : List ℕ) → List (List Judged) → Type 0
+AreSessionsOf asset turns [] [] = Unit {0}
+AreSessionsOf asset turns [] (js ∷ more) = ⊥
+AreSessionsOf asset turns (session ∷ later) [] = ⊥
+AreSessionsOf asset turns (session ∷ later) (js ∷ more) = IsSessionOf asset turns session js × AreSessionsOf asset turns later more
+
+-- over all sessions of a client address at an asset, one after the other, no rule lets more commands through than its rate: a new connection
+-- begins with what the earlier ones had used
+abbrev pub RatesLastOverSessions : Type 0
+RatesLastOverSessions =
+    (places : List Place) (most : ℕ) (entries : List LinksEntry) (lines : List (List ℕ)) (served : IsServed places most entries lines)
+    (place address : ℕ) (at : Listening) (sessions : List (List Judged)) → slice_get (listenings places) place ≡ Some at
+    → AreSessionsOf at.asset (turns_of served.rounds) (sessions_of place address [] (turns_of served.rounds)) sessions
+    → KeepsRates at.asset none_before (flat_map (λ js. js) sessions)

@@ -2,7 +2,10 @@ pub mod Broken
 pub mod Debt
 pub mod Door
 pub mod Failing
+pub mod Keeping
+pub mod Kept
 pub mod Laws
+pub mod Lending
 pub mod Minute
 pub mod Phase
 pub mod Rounds

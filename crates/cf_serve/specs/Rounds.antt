@@ -4,21 +4,23 @@
 -- In a round at most one client comes at each listening place: it is taken, or closed where no rule of its asset names it or there is no
 -- place for it. Then each
 -- session that stands has one place, in the order in which the sessions came: a turn where the links say that something can move for
--- it, and else nothing.
+-- it, and else nothing. A session of a client that came again at an asset with rates is ended there and not asked.
+use Rattle.cf_lane.specs.Caller.{RateMoments}
 use Rattle.cf_links.specs.Links.{Came, Left, LinksEntry, Of, Ready, Woke}
 use Rattle.cf_outside.specs.Pair.{Entry}
 use Rattle.cf_policy.specs.declared.Asset.{Asset}
 use Rattle.cf_view.specs.declared.Endpoint.{Endpoint}
-use Rattle.std.specs.List.{flat_map, sum_by}
-use Rattle.std.specs.Prelude.{Bool, List, None, Option, Some, [], false, if◌then◌else◌, length, map, nat_lt, option_to_list}
-use Rattle.std.specs.Prelude.{slice_get, ℕ, ◌&&◌, ◌++◌, ◌+◌}
-use Rattle.std.specs.Prelude.{◌∷◌, ◌≡◌, ◌≤◌, ◌==◌}
+use Rattle.std.specs.List.{AllByRecursion, flat_map, list_any, sum_by}
+use Rattle.std.specs.Prelude.{Bool, List, None, Option, Some, [], false, if◌then◌else◌, is_some, length, map, nat_lt, option_to_list}
+use Rattle.std.specs.Prelude.{slice_get, true, ℕ, ◌&&◌, ◌++◌, ◌+◌}
+use Rattle.std.specs.Prelude.{◌∷◌, ◌≡◌, ◌≤◌, ◌==◌, ◌⊎◌}
 use Rattle.cf_serve.specs.Door.{closed_lines, is_named, lobby_closed}
 use Rattle.cf_serve.specs.Session.{Listening}
 use Rattle.cf_serve.specs.declared.door.Closing.{Closing}
 use Rattle.cf_serve.specs.declared.door.Closing.TheVariants as closing
 use Rattle.cf_serve.specs.declared.door.Lobby.{Lobby}
 use Rattle.cf_serve.specs.declared.end.SessionEnd.{SessionEnd}
+use Rattle.cf_serve.specs.declared.end.SessionEnd.TheVariants as end
 
 -- a session's number, that of the listening place to which its client came, and the endpoint from which it came
 pub record Seat : Type 0 where
@@ -33,7 +35,8 @@ pub record Arrival : Type 0 where
   pub lines : List (List ℕ)
 
 -- what a round was to one session: the moment of the round, its answers, the lines that it got, how many of its commands were admitted and
--- how many refused, and its end where this was its last
+-- how many refused, and its end where this was its last. Where its relay began, what it began with: what the client's earlier sessions had
+-- used of the rules that have a rate; and where it ended, what all of them used, this one among them
 pub record TurnOf : Type 0 where
   pub seat : Seat
   pub moment : ℕ
@@ -43,6 +46,8 @@ pub record TurnOf : Type 0 where
   pub admitted : ℕ
   pub refused : ℕ
   pub end : Option SessionEnd
+  pub begun : Option RateMoments
+  pub left : RateMoments
 
 -- a round, and the moment at which it began
 pub record Round : Type 0 where
@@ -56,7 +61,8 @@ left_by session (Some end) = Left session ∷ []
 
 abbrev pub turn_entries : TurnOf → List LinksEntry
 turn_entries t =
-    if t.ready then Ready t.seat.session ∷ (map (Of t.seat.session) t.answers ++ left_by t.seat.session t.end) else []
+    if t.ready then Ready t.seat.session ∷ (map (Of t.seat.session) t.answers ++ left_by t.seat.session t.end)
+    else left_by t.seat.session t.end
 
 abbrev pub arrival_entries : Arrival → List LinksEntry
 arrival_entries a = Came a.seat.session a.seat.place a.seat.client ∷ left_by a.seat.session a.closed
@@ -94,9 +100,12 @@ lines_in session past = part (λ (t : TurnOf). t.lines) session past
 abbrev pub ends_in : (session : ℕ) → List TurnOf → List SessionEnd
 ends_in session past = part (λ (t : TurnOf). option_to_list t.end) session past
 
--- a turn is of the moment of its round; a session that is not ready has no answer, no line and no end
+-- a turn is of the moment of its round; a session that is not ready has no answer, and does not begin; and it has no line and no end, but
+-- where its client came again
 abbrev pub IsTurn : (moment : ℕ) → TurnOf → Type 0
-IsTurn moment t = (t.moment ≡ moment) × (t.ready ≡ false → (t.answers ≡ []) × ((t.lines ≡ []) × (t.end ≡ None)))
+IsTurn moment t =
+    (t.moment ≡ moment)
+    × (t.ready ≡ false → (t.answers ≡ []) × ((t.begun ≡ None) × ((t.end ≡ Some end.Again) ⊎ ((t.lines ≡ []) × (t.end ≡ None)))))
 
 abbrev pub AreTurns : (moment : ℕ) → List TurnOf → Type 0
 AreTurns moment [] = Unit {0}
@@ -151,6 +160,38 @@ AreArrivals places moment from lobby standing (a ∷ more) =
     IsArrival places moment from lobby standing a
     × AreArrivals places moment (a.seat.place + 1) (lobby_with lobby moment a) (standing ++ taken_by a) more
 
+-- a session is of the client of this listening place and address, or of the client of another session
+abbrev pub is_client : (place address : ℕ) → Seat → Bool
+is_client place address seat = seat.place == place && seat.client.address == address
+
+abbrev pub is_same_client : Seat → Seat → Bool
+is_same_client seat other = is_client other.place other.client.address seat
+
+-- some rule has a rate
+abbrev pub has_rates : Asset → Bool
+has_rates asset = list_any (λ r. is_some r.rate) asset.rules
+
+-- another session of the same client came later, and so did one among these
+abbrev pub is_later : Seat → (other : Seat) → Bool
+is_later seat other = is_same_client other seat && nat_lt seat.session other.session
+
+abbrev pub has_later : List Seat → Seat → Bool
+has_later standing seat = list_any (is_later seat) standing
+
+-- the client of a session came again, at an asset that has rates: they are one client's, over all its sessions, one after the other
+abbrev pub must_end : List Listening → (standing : List Seat) → Seat → Bool
+must_end places standing seat =
+    elim (slice_get places seat.place) [ None ↦ false | Some at ↦ has_rates at.asset && has_later standing seat ]
+
+-- such a session is not asked, and ends; no other ends so
+abbrev pub IsAgain : (again : Bool) → TurnOf → Type 0
+IsAgain true t = (t.ready ≡ false) × (t.end ≡ Some end.Again)
+IsAgain false t = t.end ≡ Some end.Again → ⊥
+
+-- of a turn of a round in which these sessions stand
+abbrev pub IsAgainOf : List Listening → (standing : List Seat) → TurnOf → Type 0
+IsAgainOf places standing t = IsAgain (must_end places standing t.seat) t
+
 -- the sessions that stand behind a round
 abbrev pub stays : TurnOf → List Seat
 stays t = elim t.end [ None ↦ t.seat ∷ [] | Some end ↦ [] ]
@@ -161,6 +202,7 @@ pub record IsRound (places : List Listening) (lobby : Lobby) (standing : List Se
   pub arrive : AreArrivals places r.moment 0 lobby standing r.arrivals
   pub in_turn : map (λ (t : TurnOf). t.seat) r.turns ≡ standing ++ taken_of r.arrivals
   pub each : AreTurns r.moment r.turns
+  pub again : AllByRecursion (IsAgainOf places (standing ++ taken_of r.arrivals)) r.turns
   pub counts : lobby_after ≡ lobby_behind lobby r.moment r.arrivals
   pub stay : standing_after ≡ flat_map stays r.turns
 

@@ -6,6 +6,7 @@ use Rattle.std.specs.List.{AllByRecursion, flat_map}
 use Rattle.std.specs.Prelude.{Err, List, None, Ok, Option, Result, Some, [], length, map, option_map, slice_get, ℕ, ◌++◌, ◌+◌, ◌-◌}
 use Rattle.std.specs.Prelude.{◌<◌, ◌^◌, ◌∷◌, ◌≡◌, ◌⊎◌}
 use Rattle.cf_serve.specs.Debt.{AreMeasured}
+use Rattle.cf_serve.specs.Kept.{AreBegun, before_in}
 use Rattle.cf_serve.specs.Phase.{listenings}
 use Rattle.cf_serve.specs.Door.{first_lobby}
 use Rattle.cf_serve.specs.Minute.{all_lines}
@@ -32,11 +33,11 @@ listen_lines (place ∷ places) (moment ∷ moments) = line_about place.asset.no
 abbrev pub left_of : List Seat → List LinksEntry
 left_of standing = map (λ (s : Seat). Left s.session) standing
 
--- a client that came is a session by its own answers and its own lines alone
+-- a client that came is a session by its own answers and its own lines, and by what its earlier sessions had used as it began, alone
 abbrev pub IsClient : List Listening → (most : ℕ) → List TurnOf → Seat → List SessionEnd → Type 0
 IsClient places most past seat ends =
     (at : Listening) → slice_get places seat.place ≡ Some at
-    → IsSession at most seat.client (answers_in seat.session past) (lines_in seat.session past) ends
+    → IsSession at (before_in seat.session past) most seat.client (answers_in seat.session past) (lines_in seat.session past) ends
 
 -- the last turn of a session that ended, and that end alone
 abbrev pub IfEnded : List Listening → (most : ℕ) → List TurnOf → TurnOf → Option SessionEnd → Type 0
@@ -60,6 +61,8 @@ pub record IsServed (places : List Place) (most : ℕ) (entries : List LinksEntr
   pub ended : AllByRecursion (λ (t : TurnOf). IfEnded (listenings places) most (turns_of rounds) t t.end) (turns_of rounds)
   -- who has too many refused commands to pay for has no turn
   pub measured : AreMeasured (listenings places) [] (turns_of rounds)
+  -- each session begins with what the earlier ones of its client left
+  pub begun : AreBegun (listenings places) [] (turns_of rounds)
   pub stand : AllByRecursion (λ (s : Seat). IsClient (listenings places) most (turns_of rounds) s []) standing
 
 -- places were opened, from the first on

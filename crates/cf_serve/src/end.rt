@@ -1,6 +1,6 @@
 //! How a session of a service ends.
 //! Of a silent or lost one the last line has the greatest moment that it told, 0 before its first; the lines of a client that
-//! took the last place, of a controller that was not reached and of want of memory have the round's.
+//! took the last place, of a controller that was not reached, of one whose client came again and of want of memory have the round's.
 
 use cf_audit::CutReason;
 
@@ -19,6 +19,8 @@ pub enum SessionEnd {
     Unreached,
     /// The client had gone before the controller was reached.
     Gone,
-    /// Memory was wanting as the controller was reached.
+    /// The client came again, at an asset that has rates.
+    Again,
+    /// Memory was wanting as the controller was reached, or room for what is kept of the client.
     NoMemory,
 }

@@ -1,7 +1,7 @@
 //! Laws of a service, as the contracts of functions with empty bodies.
-ghost use Rattle.cf_serve.specs.Laws.{EachIsAlone, FloodsAreBounded, IsolatesSessions, StrangersAreRefused};
+ghost use Rattle.cf_serve.specs.Laws.{EachIsAlone, FloodsAreBounded, IsolatesSessions, RatesLastOverSessions, StrangersAreRefused};
 
-use cf_lane::has_one_judgement;
+use cf_lane::{has_one_judgement, rates_hold};
 use cf_policy::allows_by_first_rule;
 
 /// What a session gets and what it leaves in the log follow from its own answers, whatever the other sessions do.
@@ -23,3 +23,11 @@ pub fn strangers_are_refused()
 pub fn floods_are_bounded()
     ensures bounded { FloodsAreBounded }
 {}
+
+/// Over all sessions of a client address at an asset, one after the other, no rule lets more commands through than its rate.
+pub fn rates_last_over_sessions()
+    ensures last { RatesLastOverSessions }
+{
+    has_one_judgement();
+    rates_hold();
+}

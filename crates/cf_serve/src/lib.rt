@@ -5,7 +5,9 @@ mod debt;
 mod door;
 mod end;
 mod fault;
+mod kept;
 mod laws;
+mod lending;
 mod minute;
 mod session;
 mod table;
@@ -13,6 +15,8 @@ mod top;
 
 pub use end::SessionEnd;
 pub use fault::ServeFault;
-pub use laws::{floods_are_bounded, sessions_are_isolated, strangers_are_refused};
+pub use laws::{
+    floods_are_bounded, rates_last_over_sessions, sessions_are_isolated, strangers_are_refused,
+};
 pub use table::Place;
 pub use top::{serve, serve_desk};

@@ -1,28 +1,36 @@
 //! The sessions of a service that stand, and their turns in a round.
 //! A round is data: its moment, the clients that came, and a turn for each session that stands.
-ghost use Rattle.std.specs.Prelude.{◌≡◌, ◌<◌, ◌≤◌, ◌+◌, ◌-◌, false, ◌^◌, ◌++◌, ◌∷◌, [], if◌then◌else◌, IfOk, Err, IsErr, List, OnErr};
+ghost use Rattle.std.specs.Prelude.{◌≡◌, ◌<◌, ◌≤◌, ◌+◌, ◌-◌, false, ◌^◌, ◌++◌, ◌∷◌, ◌&&◌, ◌||◌, [], if◌then◌else◌, IfOk, IfSome, Err, IsErr, List, OnErr};
 ghost use Rattle.std.specs.Prelude.{OnOk, Option, Some, length, map, option_map, slice_get, true, vec_capacity, vec_len, ℕ};
+ghost use Rattle.cf_lane.specs.Caller.{RateMoments};
 ghost use Rattle.cf_lane.specs.Handled.{WritesLog};
 ghost use Rattle.cf_lane.specs.Log.{with_lines};
+ghost use Rattle.cf_lane.specs.Rings.{AreRingsOf};
 ghost use Rattle.cf_links.specs.Links.{LinksPlace};
 ghost use Rattle.cf_outside.specs.Desk.{DeskValue};
 ghost use Rattle.cf_outside.specs.Faults.{HasCause};
 ghost use Rattle.cf_outside.specs.Pair.{Entry, FaultsBy};
 ghost use Rattle.cf_policy.specs.Within.{IsAssetWithin};
 ghost use Rattle.cf_relay.specs.declared.limit.TheConstants.{MOST_BYTES};
-ghost use Rattle.cf_serve.specs.Phase.{KeepsPlace, MayTurn, Phase, SeatDoes, StandsAs, debt_at, listening_at, listening_of, listenings, phase_of};
+ghost use Rattle.cf_serve.specs.Lending.{KeptValue};
+ghost use Rattle.cf_serve.specs.Phase.{BeginsWith, KeepsPlace, MayTurn, Phase, SeatDoes, StandsAs, TurnKeeps, debt_at, listening_at, listening_of};
+ghost use Rattle.cf_serve.specs.Phase.{listenings, phase_of, rings_for, seat_at};
 ghost use Rattle.cf_serve.specs.Failing.{MissesArrival, MissesLine, MissesRound, MissesRounds, MissesSeat, MissesStep, MissesTurns};
 ghost use Rattle.cf_serve.specs.Served.{HasMade, left_of};
 ghost use Rattle.cf_serve.specs.Door.{first_lobby};
 ghost use Rattle.cf_serve.specs.Minute.{last_behind, lines_at, no_minutes, stands_lines, tally_at};
-ghost use Rattle.cf_serve.specs.Rounds.{TurnOf, closing_of, count_of, has_place};
-ghost use Rattle.cf_serve.specs.Table.{Arrive, IfWhole, IsMinuteOf, IsTable, Keeps, MayLeave, RoundDoes, RoundsDo, StepDoes, TurnsDo, new_phase};
+ghost use Rattle.cf_serve.specs.Rounds.{TurnOf, closing_of, count_of, has_place, has_rates, is_later, must_end};
+ghost use Rattle.cf_serve.specs.declared.session.Served.{Served as ServedOf};
+ghost use Rattle.cf_serve.specs.Table.{AreCalm, Arrive, IfWhole, IsMinuteOf, IsTable, Keeps, MayLeave, RoundDoes, RoundsDo, SeatsStep, StepDoes};
+ghost use Rattle.cf_serve.specs.Table.{TurnsDo, new_phase};
 ghost use Rattle.cf_serve.specs.Table.{seats_of};
 ghost use Rattle.cf_serve.specs.declared.table.Place.{Place as PlaceOf};
-ghost use Rattle.std.specs.List.{AllByRecursion};
+ghost use Rattle.std.specs.List.{AllByRecursion, list_any};
 
 use crate::door::{Closing, Lobby, names_client};
 use crate::fault::ServeFault;
+use crate::kept::Keeping;
+use crate::lending::{has_rates, keep_rings};
 use crate::minute::Minutes;
 use crate::session::{Served, Terms};
 use cf_audit::What;
@@ -67,13 +75,15 @@ fn place_behind(index: usize, stays: bool) -> usize
     if stays { index + 1 } else { index }
 }
 
-/// Gives a session its turn where something can move for it and it need not rest, and leaves it where it ends; answers whether it
-/// stays.
+/// Ends a session whose client came again. Any other has its turn where something can move for it and it need not rest. It is left where
+/// it ends; answers whether it stays.
 fn turn_one<L: Service, D: Desk>(
     served: &mut Served,
     alloc: Global,
     terms: &Terms<'_>,
+    again: bool,
     buf: &mut [u8],
+    keeping: &mut Keeping,
     links: &mut L,
     desk: &mut D,
 ) -> Result<bool, WriteFault>
@@ -81,20 +91,27 @@ fn turn_one<L: Service, D: Desk>(
     requires within { IsAssetWithin terms.now.asset.now }
     requires most { 0 < terms.now.most }
     requires may { MayTurn (listening_of terms.now) terms.now.most (Phase.linked (phase_of served.old)) }
+    requires fits { IfSome (rings_for terms.now.asset.now keeping.old terms.now.place served.old.client.address)
+        (AreRingsOf terms.now.asset.now) }
     requires whole { DeskValue.whole (D.value desk.old) ≡ true }
     requires buffer { length buf.old ≡ MOST_BYTES }
+    ensures over { IfOk result (λ stays. again ≡ true → stays ≡ false) }
     ensures place { IfOk result (λ stays. KeepsPlace served.old.number (L.place links.old) (L.place links.new) stays) }
     ensures served { OnErr result (L.place links.new ≡ L.place links.old) }
     ensures round { LinksPlace.round_faults (L.place links.new) ≡ LinksPlace.round_faults (L.place links.old) }
-    ensures does { IfOk result (λ stays. (es : List Entry) (own : List (List ℕ))
-        → StandsAs (listening_of terms.now) terms.now.most es own (Phase.linked (phase_of served.old))
-        → SeatDoes (listening_of terms.now) terms.now.most terms.now.moment es own (L.told links.old) (L.told links.new)
+    ensures does { IfOk result (λ stays. (before found : RateMoments) (es : List Entry) (own : List (List ℕ))
+        → BeginsWith (rings_for terms.now.asset.now keeping.old terms.now.place served.old.client.address) before
+        (Phase.linked (phase_of served.old)) (Phase.linked (phase_of served.new))
+        → StandsAs (listening_of terms.now) before terms.now.most es own (Phase.linked (phase_of served.old))
+        → SeatDoes (listening_of terms.now) again before found terms.now.most terms.now.moment es own (L.told links.old) (L.told links.new)
         (DeskValue.lines (D.value desk.old)) (DeskValue.lines (D.value desk.new)) (phase_of served.old) (phase_of served.new) stays) }
-    ensures breaks { OnErr result ((es : List Entry) (own : List (List ℕ))
-        → StandsAs (listening_of terms.now) terms.now.most es own (Phase.linked (phase_of served.old))
-        → MissesSeat (listening_of terms.now) terms.now.most terms.now.moment es own (L.told links.old) (L.told links.new)
+    ensures breaks { OnErr result ((before : RateMoments) (es : List Entry) (own : List (List ℕ))
+        → StandsAs (listening_of terms.now) before terms.now.most es own (Phase.linked (phase_of served.old))
+        → MissesSeat (listening_of terms.now) again before terms.now.most terms.now.moment es own (L.told links.old) (L.told links.new)
         (DeskValue.lines (D.value desk.old)) (DeskValue.lines (D.value desk.new)) (DeskValue.line_part (D.value desk.new))
-        (Phase.seat (phase_of served.old)) (debt_at (Phase.linked (phase_of served.old)))) }
+        (Phase.seat (phase_of served.old)) (debt_at (Phase.linked (phase_of served.old))) (Phase.linked (phase_of served.old))) }
+    ensures keeps { IfOk result (λ stays. TurnKeeps terms.now.asset.now (seat_at served.old.number terms.now.place served.old.client)
+        terms.now.moment keeping.old keeping.new stays (Phase.linked (phase_of served.old)) (Phase.linked (phase_of served.new))) }
     ensures may { IfOk result (λ stays. stays ≡ true
         → MayTurn (listening_of terms.now) terms.now.most (Phase.linked (phase_of served.new))) }
     ensures same { served.new ≡ record served.old { linked = served.new.linked } }
@@ -104,6 +121,11 @@ fn turn_one<L: Service, D: Desk>(
     ensures buffer { length buf.new ≡ MOST_BYTES }
 {
     let number = served.number;
+    if again {
+        served.end_again(terms, desk)?;
+        links.leave(number);
+        return Ok(false);
+    }
     if served.must_rest(terms.moment) {
         links.rest(number);
         return Ok(true);
@@ -111,7 +133,7 @@ fn turn_one<L: Service, D: Desk>(
     if !links.is_ready(number) {
         return Ok(true);
     }
-    match served.turn(alloc, terms, buf, links, desk)? {
+    match served.turn(alloc, terms, buf, keeping, links, desk)? {
         None => Ok(true),
         Some(_) => {
             links.leave(number);
@@ -120,12 +142,15 @@ fn turn_one<L: Service, D: Desk>(
     }
 }
 
-/// The sessions that stand, in the order in which they came, what is kept of all clients that came, and what is kept for the lines of a
-/// minute.
+/// The sessions that stand, in the order in which they came, what is kept of all clients that came, what is kept of the clients of assets
+/// with rates between their sessions, and what is kept for the lines of a minute.
 #[derive(Drop)]
 pub(crate) struct Table {
     pub(crate) sessions: Vec<Served>,
     pub(crate) lobby: Lobby,
+    pub(crate) keeping: Keeping,
+    /// Whether a client of an asset with rates was taken since the last turns.
+    pub(crate) has_new: bool,
     pub(crate) minutes: Minutes,
 }
 
@@ -134,13 +159,17 @@ impl Table {
     pub(crate) fn new(alloc: Global) -> Result<Table, AllocError>
         ensures none { IfOk result (λ table. (Table.sessions table).items ≡ []) }
         ensures lobby { IfOk result (λ table. Table.lobby table ≡ first_lobby) }
+        ensures keeping { IfOk result (λ table. Table.keeping table ≡ []) }
         ensures minutes { IfOk result (λ table. Table.minutes table ≡ no_minutes) }
         ensures room { IfOk result (λ table. 256 ≤ vec_capacity (Table.sessions table)) }
     {
         let sessions = Vec::with_capacity(alloc, SESSION_LIMIT)?;
+        let keeping = Keeping::new(alloc)?;
         Ok(Table {
             sessions,
             lobby: Lobby::new(),
+            keeping,
+            has_new: false,
             minutes: Minutes::new(),
         })
     }
@@ -157,11 +186,45 @@ impl Table {
         }
     }
 
+    /// Whether of those that stand one of this client came later than this number.
+    fn has_later(&self, place: usize, client: Endpoint, number: u64) -> bool
+        ensures { result ≡ list_any (λ (s : ServedOf). is_later (seat_at number place client) (Phase.seat (phase_of s))) self.now.sessions.items }
+    {
+        self.sessions
+            .iter()
+            .any(|other| other.is_later(place, client, number))
+    }
+
+    /// Whether the client of a session came again, where a client of an asset with rates was taken since the last turns.
+    fn came_again(&self, served: &Served, asset: &Asset) -> bool
+        ensures { result ≡ ((self.now.has_new && has_rates asset.now)
+            && list_any (λ (s : ServedOf). is_later (Phase.seat (phase_of served.now)) (Phase.seat (phase_of s))) self.now.sessions.items) }
+    {
+        self.has_new
+            && has_rates(asset)
+            && self.has_later(served.place, served.client, served.number)
+    }
+
+    /// Whether the client of the session of a place came again, and its asset has rates.
+    fn must_end(&self, index: usize, places: &[Place<'_>]) -> bool
+        requires index { index < length self.now.sessions.items }
+        requires placed { AllByRecursion (λ (p : Phase). p.seat.place < length (listenings places.now)) (map phase_of self.now.sessions.items) }
+        requires within { AllByRecursion (λ place. IsAssetWithin (PlaceOf.asset place).now) places.now }
+        requires calm { self.now.has_new ≡ false → AreCalm (listenings places.now) (seats_of (map phase_of self.now.sessions.items)) }
+        ensures { (served : ServedOf) → slice_get self.now.sessions.items index ≡ Some served
+            → result ≡ must_end (listenings places.now) (seats_of (map phase_of self.now.sessions.items)) (Phase.seat (phase_of served)) }
+    {
+        let served = &self.sessions[index];
+        let place = place_of(places, served.place);
+        self.came_again(served, place.asset)
+    }
+
     /// Gives the session of a place its turn; it is taken out where it ends. Answers whether it stays.
     pub(crate) fn turn_at<L: Service, D: Desk>(
         &mut self,
         alloc: Global,
         index: usize,
+        again: bool,
         places: &[Place<'_>],
         moment: u64,
         most: u64,
@@ -171,21 +234,23 @@ impl Table {
     ) -> Result<bool, WriteFault>
         requires index { index < length self.old.sessions.items }
         requires few { length places.now ≤ 256 }
-        requires table { IsTable (listenings places.now) most (LinksPlace.serves (L.place links.old)) self.old.lobby.next
+        requires table { IsTable (listenings places.now) most self.old.keeping (LinksPlace.serves (L.place links.old)) self.old.lobby.next
             (map phase_of self.old.sessions.items) }
+        requires again { (served : ServedOf) → slice_get self.old.sessions.items index ≡ Some served
+            → again ≡ must_end (listenings places.now) (seats_of (map phase_of self.old.sessions.items)) (Phase.seat (phase_of served)) }
         requires within { AllByRecursion (λ place. IsAssetWithin (PlaceOf.asset place).now) places.now }
         requires most { 0 < most }
         requires whole { DeskValue.whole (D.value desk.old) ≡ true }
         requires buffer { length buf.old ≡ MOST_BYTES }
-        ensures table { OnOk result (IsTable (listenings places.now) most (LinksPlace.serves (L.place links.new)) self.new.lobby.next
+        ensures table { OnOk result (IsTable (listenings places.now) most self.new.keeping (LinksPlace.serves (L.place links.new)) self.new.lobby.next
             (map phase_of self.new.sessions.items)) }
         ensures does { IfOk result (λ stays. (past : List TurnOf)
-            → Keeps (listenings places.now) most self.old.lobby.next past (map phase_of self.old.sessions.items)
-            → StepDoes (listenings places.now) most self.old.lobby.next moment past index (L.told links.old) (L.told links.new)
+            → Keeps (listenings places.now) most self.old.keeping self.old.lobby.next past (map phase_of self.old.sessions.items)
+            → StepDoes (listenings places.now) most self.new.keeping self.old.lobby.next moment past index (L.told links.old) (L.told links.new)
             (DeskValue.lines (D.value desk.old)) (DeskValue.lines (D.value desk.new)) self.old.minutes.tallies self.new.minutes.tallies
             (map phase_of self.old.sessions.items) (map phase_of self.new.sessions.items) stays) }
         ensures breaks { OnErr result ((past : List TurnOf)
-            → Keeps (listenings places.now) most self.old.lobby.next past (map phase_of self.old.sessions.items)
+            → Keeps (listenings places.now) most self.old.keeping self.old.lobby.next past (map phase_of self.old.sessions.items)
             → MissesStep (listenings places.now) most moment past index (L.told links.old) (L.told links.new)
             (DeskValue.lines (D.value desk.old)) (DeskValue.lines (D.value desk.new)) (DeskValue.line_part (D.value desk.new))
             (map phase_of self.old.sessions.items) (map phase_of self.new.sessions.items)) }
@@ -193,6 +258,9 @@ impl Table {
         ensures len { IfOk result (λ stays. vec_len self.new.sessions + (if stays then 0 else 1) ≡ vec_len self.old.sessions) }
         ensures leave { OnErr result (MayLeave (LinksPlace.serves (L.place links.new)) self.new.lobby.next
             (map phase_of self.new.sessions.items)) }
+        ensures seats { IfOk result (λ stays. SeatsStep (listenings places.now) index (seats_of (map phase_of self.old.sessions.items))
+            (seats_of (map phase_of self.new.sessions.items)) stays) }
+        ensures has_new { self.new.has_new ≡ self.old.has_new }
         ensures lobby { self.new.lobby ≡ self.old.lobby }
         ensures last { self.new.minutes.last ≡ self.old.minutes.last }
         ensures round { LinksPlace.round_faults (L.place links.new) ≡ LinksPlace.round_faults (L.place links.old) }
@@ -206,16 +274,19 @@ impl Table {
         let place = place_of(places, number);
         let terms = Terms {
             asset: place.asset,
+            place: number,
             port: place.at.port,
             moment,
             most,
         };
+        let keeping = &mut self.keeping;
         let before = served.counts();
-        let stays = turn_one(served, alloc, &terms, buf, links, desk)?;
+        let stays = turn_one(served, alloc, &terms, again, buf, keeping, links, desk)?;
         let after = served.counts();
         self.minutes.add(number, before, after);
         if !stays {
-            self.sessions.remove(index);
+            let served = self.sessions.remove(index);
+            keep_rings(served, place.asset, moment, &mut self.keeping);
         }
         Ok(stays)
     }
@@ -239,14 +310,18 @@ impl Table {
     }
 
     /// The place of the next session, from this one on, for which the links say that something can move; how many stand where there is
-    /// none.
+    /// none. Where a client of an asset with rates was taken, none is passed over.
     fn next_at<L: Service>(&self, index: usize, links: &mut L) -> usize
         requires index { index ≤ vec_len self.now.sessions }
         ensures index { index ≤ result }
         ensures within { result ≤ vec_len self.now.sessions }
+        ensures all { self.now.has_new ≡ true → result ≡ index }
         ensures told { L.told links.new ≡ L.told links.old }
         ensures place { L.place links.new ≡ L.place links.old }
     {
+        if self.has_new {
+            return index;
+        }
         match self.sessions.get(index) {
             Some(served) => match links.next_ready(served.number) {
                 Some(number) => self.place_from(index, number),
@@ -266,26 +341,28 @@ impl Table {
         links: &mut L,
         desk: &mut D,
     ) -> Result<(), WriteFault>
-        requires table { IsTable (listenings places.now) most (LinksPlace.serves (L.place links.old)) self.old.lobby.next
+        requires table { IsTable (listenings places.now) most self.old.keeping (LinksPlace.serves (L.place links.old)) self.old.lobby.next
             (map phase_of self.old.sessions.items) }
         requires few { length places.now ≤ 256 }
+        requires calm { self.old.has_new ≡ false → AreCalm (listenings places.now) (seats_of (map phase_of self.old.sessions.items)) }
         requires within { AllByRecursion (λ place. IsAssetWithin (PlaceOf.asset place).now) places.now }
         requires most { 0 < most }
         requires whole { DeskValue.whole (D.value desk.old) ≡ true }
-        ensures table { OnOk result (IsTable (listenings places.now) most (LinksPlace.serves (L.place links.new)) self.new.lobby.next
+        ensures table { OnOk result (IsTable (listenings places.now) most self.new.keeping (LinksPlace.serves (L.place links.new)) self.new.lobby.next
             (map phase_of self.new.sessions.items)) }
         ensures does { OnOk result ((past : List TurnOf)
-            → Keeps (listenings places.now) most self.old.lobby.next past (map phase_of self.old.sessions.items)
-            → TurnsDo (listenings places.now) most self.old.lobby.next moment past (L.told links.old) (L.told links.new)
+            → Keeps (listenings places.now) most self.old.keeping self.old.lobby.next past (map phase_of self.old.sessions.items)
+            → TurnsDo (listenings places.now) most self.new.keeping self.old.lobby.next moment past (L.told links.old) (L.told links.new)
             (DeskValue.lines (D.value desk.old)) (DeskValue.lines (D.value desk.new)) self.old.minutes.tallies self.new.minutes.tallies
             (map phase_of self.old.sessions.items) (map phase_of self.new.sessions.items)) }
         ensures breaks { OnErr result ((past : List TurnOf)
-            → Keeps (listenings places.now) most self.old.lobby.next past (map phase_of self.old.sessions.items)
+            → Keeps (listenings places.now) most self.old.keeping self.old.lobby.next past (map phase_of self.old.sessions.items)
             → MissesTurns (listenings places.now) most moment past (L.told links.old) (L.told links.new)
             (DeskValue.lines (D.value desk.old)) (DeskValue.lines (D.value desk.new)) (DeskValue.line_part (D.value desk.new))
             (map phase_of self.old.sessions.items) (map phase_of self.new.sessions.items)) }
         ensures leave { OnErr result (MayLeave (LinksPlace.serves (L.place links.new)) self.new.lobby.next
             (map phase_of self.new.sessions.items)) }
+        ensures calm { OnOk result (AreCalm (listenings places.now) (seats_of (map phase_of self.new.sessions.items))) }
         ensures lobby { self.new.lobby ≡ self.old.lobby }
         ensures last { self.new.minutes.last ≡ self.old.minutes.last }
         ensures round { LinksPlace.round_faults (L.place links.new) ≡ LinksPlace.round_faults (L.place links.old) }
@@ -297,9 +374,13 @@ impl Table {
         let mut buf = [0u8; MOST_BYTES];
         let mut index = self.next_at(0, links);
         while index < self.sessions.len() {
-            let stays = self.turn_at(alloc, index, places, moment, most, &mut buf, links, desk)?;
+            let again = self.must_end(index, places);
+            let stays = self.turn_at(
+                alloc, index, again, places, moment, most, &mut buf, links, desk,
+            )?;
             index = self.next_at(place_behind(index, stays), links);
         }
+        self.has_new = false;
         Ok(())
     }
 
@@ -351,8 +432,8 @@ impl Table {
         requires free { (session : ℕ) → self.old.lobby.next ≤ session → LinksPlace.serves (L.place links.old) session ≡ false }
         requires within { AllByRecursion (λ place. IsAssetWithin (PlaceOf.asset place).now) places.now }
         requires whole { DeskValue.whole (D.value desk.old) ≡ true }
-        ensures table { (most : ℕ) → IsTable (listenings places.now) most (LinksPlace.serves (L.place links.old)) self.old.lobby.next
-            (map phase_of self.old.sessions.items) → IsTable (listenings places.now) most (LinksPlace.serves (L.place links.new))
+        ensures table { (most : ℕ) → IsTable (listenings places.now) most self.old.keeping (LinksPlace.serves (L.place links.old)) self.old.lobby.next
+            (map phase_of self.old.sessions.items) → IsTable (listenings places.now) most self.new.keeping (LinksPlace.serves (L.place links.new))
             self.new.lobby.next (map phase_of self.new.sessions.items) }
         ensures free { (session : ℕ) → self.new.lobby.next ≤ session → LinksPlace.serves (L.place links.new) session ≡ false }
         ensures round { LinksPlace.round_faults (L.place links.new) ≡ LinksPlace.round_faults (L.place links.old) }
@@ -362,6 +443,9 @@ impl Table {
         ensures breaks { OnErr result ((most : ℕ) → MissesArrival (listenings places.now) most moment place self.old.lobby self.new.lobby
             (L.told links.old) (L.told links.new) (DeskValue.lines (D.value desk.old)) (DeskValue.lines (D.value desk.new))
             (DeskValue.line_part (D.value desk.new)) (map phase_of self.old.sessions.items) (map phase_of self.new.sessions.items)) }
+        ensures calm { (self.old.has_new ≡ false → AreCalm (listenings places.now) (seats_of (map phase_of self.old.sessions.items)))
+            → self.new.has_new ≡ false → AreCalm (listenings places.now) (seats_of (map phase_of self.new.sessions.items)) }
+        ensures keeping { self.new.keeping ≡ self.old.keeping }
         ensures minutes { self.new.minutes ≡ self.old.minutes }
         ensures room { vec_capacity self.old.sessions ≤ vec_capacity self.new.sessions }
         ensures whole { OnOk result (DeskValue.whole (D.value desk.new) ≡ true) }
@@ -377,7 +461,7 @@ impl Table {
         };
         let at = place_of(places, place);
         let Some(closing) = self.closing(at.asset, place, client.address) else {
-            self.take_in(place, client);
+            self.take_in(place, client, at.asset);
             return Ok(());
         };
         links.leave(self.lobby.next);
@@ -388,12 +472,14 @@ impl Table {
     }
 
     /// A client has its place in the table, under the next number.
-    fn take_in(&mut self, place: usize, client: Endpoint)
+    fn take_in(&mut self, place: usize, client: Endpoint, asset: &Asset)
         requires room { vec_len self.old.sessions < vec_capacity self.old.sessions }
         requires next { self.old.lobby.next < 2 ^ 64 - 1 }
         ensures items { map phase_of self.new.sessions.items ≡ map phase_of self.old.sessions.items
             ++ new_phase self.old.lobby.next place client ∷ [] }
         ensures lobby { self.new.lobby ≡ record self.old.lobby { next = self.old.lobby.next + 1 } }
+        ensures keeping { self.new.keeping ≡ self.old.keeping }
+        ensures has_new { self.new.has_new ≡ (self.old.has_new || has_rates asset.now) }
         ensures minutes { self.new.minutes ≡ self.old.minutes }
         ensures room { vec_capacity self.old.sessions ≤ vec_capacity self.new.sessions }
     {
@@ -405,6 +491,7 @@ impl Table {
         };
         let _ = self.sessions.push(served);
         self.lobby.next += 1;
+        self.has_new = self.has_new || has_rates(asset);
     }
 
     /// Takes a client at each listening place that has one, or closes it.
@@ -420,8 +507,8 @@ impl Table {
         requires free { (session : ℕ) → self.old.lobby.next ≤ session → LinksPlace.serves (L.place links.old) session ≡ false }
         requires within { AllByRecursion (λ place. IsAssetWithin (PlaceOf.asset place).now) places.now }
         requires whole { DeskValue.whole (D.value desk.old) ≡ true }
-        ensures table { (most : ℕ) → IsTable (listenings places.now) most (LinksPlace.serves (L.place links.old)) self.old.lobby.next
-            (map phase_of self.old.sessions.items) → IsTable (listenings places.now) most (LinksPlace.serves (L.place links.new))
+        ensures table { (most : ℕ) → IsTable (listenings places.now) most self.old.keeping (LinksPlace.serves (L.place links.old)) self.old.lobby.next
+            (map phase_of self.old.sessions.items) → IsTable (listenings places.now) most self.new.keeping (LinksPlace.serves (L.place links.new))
             self.new.lobby.next (map phase_of self.new.sessions.items) }
         ensures round { LinksPlace.round_faults (L.place links.new) ≡ LinksPlace.round_faults (L.place links.old) }
         ensures does { OnOk result ((most : ℕ) → Arrive (listenings places.now) most moment 0 (length places.now) self.old.lobby
@@ -430,6 +517,9 @@ impl Table {
         ensures breaks { OnErr result ((most : ℕ) → MissesArrival (listenings places.now) most moment 0 self.old.lobby self.new.lobby
             (L.told links.old) (L.told links.new) (DeskValue.lines (D.value desk.old)) (DeskValue.lines (D.value desk.new))
             (DeskValue.line_part (D.value desk.new)) (map phase_of self.old.sessions.items) (map phase_of self.new.sessions.items)) }
+        ensures calm { (self.old.has_new ≡ false → AreCalm (listenings places.now) (seats_of (map phase_of self.old.sessions.items)))
+            → self.new.has_new ≡ false → AreCalm (listenings places.now) (seats_of (map phase_of self.new.sessions.items)) }
+        ensures keeping { self.new.keeping ≡ self.old.keeping }
         ensures minutes { self.new.minutes ≡ self.old.minutes }
         ensures room { vec_capacity self.old.sessions ≤ vec_capacity self.new.sessions }
         ensures whole { OnOk result (DeskValue.whole (D.value desk.new) ≡ true) }
@@ -519,27 +609,29 @@ impl Table {
     ) -> Result<(), ServeFault>
         requires few { length places.now ≤ 256 }
         requires room { 256 ≤ vec_capacity self.old.sessions }
-        requires table { IsTable (listenings places.now) most (LinksPlace.serves (L.place links.old)) self.old.lobby.next
+        requires table { IsTable (listenings places.now) most self.old.keeping (LinksPlace.serves (L.place links.old)) self.old.lobby.next
             (map phase_of self.old.sessions.items) }
+        requires calm { self.old.has_new ≡ false → AreCalm (listenings places.now) (seats_of (map phase_of self.old.sessions.items)) }
         requires within { AllByRecursion (λ place. IsAssetWithin (PlaceOf.asset place).now) places.now }
         requires most { 0 < most }
         requires whole { DeskValue.whole (D.value desk.old) ≡ true }
-        ensures table { OnOk result (IsTable (listenings places.now) most (LinksPlace.serves (L.place links.new)) self.new.lobby.next
+        ensures table { OnOk result (IsTable (listenings places.now) most self.new.keeping (LinksPlace.serves (L.place links.new)) self.new.lobby.next
             (map phase_of self.new.sessions.items)) }
         ensures does { OnOk result ((past : List TurnOf)
-            → Keeps (listenings places.now) most self.old.lobby.next past (map phase_of self.old.sessions.items)
+            → Keeps (listenings places.now) most self.old.keeping self.old.lobby.next past (map phase_of self.old.sessions.items)
             → (last : Option ℕ) → IsMinuteOf self.old.minutes last past
-            → RoundDoes places.now most self.old.lobby self.new.lobby self.new.minutes last past (L.told links.old) (L.told links.new)
+            → RoundDoes places.now most self.new.keeping self.old.lobby self.new.lobby self.new.minutes last past (L.told links.old) (L.told links.new)
             (DeskValue.lines (D.value desk.old)) (DeskValue.lines (D.value desk.new))
             (map phase_of self.old.sessions.items) (map phase_of self.new.sessions.items)) }
         ensures breaks { result ≡ Err ServeFault.Write → (past : List TurnOf)
-            → Keeps (listenings places.now) most self.old.lobby.next past (map phase_of self.old.sessions.items)
+            → Keeps (listenings places.now) most self.old.keeping self.old.lobby.next past (map phase_of self.old.sessions.items)
             → (last : Option ℕ) → IsMinuteOf self.old.minutes last past
             → MissesRound places.now most self.old.lobby last past (L.told links.old) (L.told links.new)
             (DeskValue.lines (D.value desk.old)) (DeskValue.lines (D.value desk.new)) (DeskValue.line_part (D.value desk.new))
             (map phase_of self.old.sessions.items) (map phase_of self.new.sessions.items) }
         ensures leave { OnErr result (MayLeave (LinksPlace.serves (L.place links.new)) self.new.lobby.next
             (map phase_of self.new.sessions.items)) }
+        ensures calm { OnOk result (AreCalm (listenings places.now) (seats_of (map phase_of self.new.sessions.items))) }
         ensures room { vec_capacity self.old.sessions ≤ vec_capacity self.new.sessions }
         ensures whole { OnOk result (DeskValue.whole (D.value desk.new) ≡ true) }
         ensures log { WritesLog (D.value desk.old) (D.value desk.new) }
@@ -581,21 +673,22 @@ impl Table {
     ) -> Result<(), ServeFault>
         requires few { length places.now ≤ 256 }
         requires room { 256 ≤ vec_capacity self.old.sessions }
-        requires table { IsTable (listenings places.now) most (LinksPlace.serves (L.place links.old)) self.old.lobby.next
+        requires table { IsTable (listenings places.now) most self.old.keeping (LinksPlace.serves (L.place links.old)) self.old.lobby.next
             (map phase_of self.old.sessions.items) }
+        requires calm { self.old.has_new ≡ false → AreCalm (listenings places.now) (seats_of (map phase_of self.old.sessions.items)) }
         requires within { AllByRecursion (λ place. IsAssetWithin (PlaceOf.asset place).now) places.now }
         requires most { 0 < most }
         requires whole { DeskValue.whole (D.value desk.old) ≡ true }
-        ensures table { IfWhole result (IsTable (listenings places.now) most (LinksPlace.serves (L.place links.new)) self.new.lobby.next
+        ensures table { IfWhole result (IsTable (listenings places.now) most self.new.keeping (LinksPlace.serves (L.place links.new)) self.new.lobby.next
             (map phase_of self.new.sessions.items)) }
         ensures does { IfWhole result ((made : ℕ) × (HasMade result made × ((past : List TurnOf)
-            → Keeps (listenings places.now) most self.old.lobby.next past (map phase_of self.old.sessions.items)
+            → Keeps (listenings places.now) most self.old.keeping self.old.lobby.next past (map phase_of self.old.sessions.items)
             → (last : Option ℕ) → IsMinuteOf self.old.minutes last past
-            → RoundsDo places.now most self.old.lobby self.new.lobby self.new.minutes last made past (L.told links.old) (L.told links.new)
+            → RoundsDo places.now most self.new.keeping self.old.lobby self.new.lobby self.new.minutes last made past (L.told links.old) (L.told links.new)
             (DeskValue.lines (D.value desk.old)) (DeskValue.lines (D.value desk.new))
             (map phase_of self.old.sessions.items) (map phase_of self.new.sessions.items)))) }
         ensures breaks { result ≡ Err ServeFault.Write → (made : ℕ) × ((made < 2 ^ 64 - 1) × ((past : List TurnOf)
-            → Keeps (listenings places.now) most self.old.lobby.next past (map phase_of self.old.sessions.items)
+            → Keeps (listenings places.now) most self.old.keeping self.old.lobby.next past (map phase_of self.old.sessions.items)
             → (last : Option ℕ) → IsMinuteOf self.old.minutes last past
             → MissesRounds places.now most self.old.lobby last made past (L.told links.old) (L.told links.new)
             (DeskValue.lines (D.value desk.old)) (DeskValue.lines (D.value desk.new)) (DeskValue.line_part (D.value desk.new))

@@ -9,6 +9,7 @@ mod flood;
 mod full;
 mod logs;
 mod minutes;
+mod rates;
 mod runs;
 mod sessions;
 mod set_back;

@@ -9,6 +9,7 @@ mod packets;
 mod remarked;
 mod sessions;
 
+use crate::tests::packets::number;
 use cf_outside::MemoryDesk;
 use cf_samples::rows::octets;
 use cf_samples::{WRITE, rows};
@@ -35,7 +36,12 @@ fn named(block: &str) -> (&str, &str) {
 
 /// What stands after a word, in the first line that begins with it.
 fn field<'a>(lines: &'a str, word: &str) -> Option<&'a str> {
-    lines.lines().find_map(|line| line.strip_prefix(word))
+    for line in lines.lines() {
+        if let Some(behind) = line.strip_prefix(word) {
+            return Some(behind);
+        }
+    }
+    None
 }
 
 /// The octets of `W`, the write of the samples; of a part of the octets 00 to fa over and over, as `COUNT@3..36`; or of digits.
@@ -53,12 +59,12 @@ fn text(rt: &impl Abort, alloc: Global, spelled: &str) -> Vec<u8> {
 /// The octets from a place to another of 00 to fa over and over.
 fn counting(rt: &impl Abort, alloc: Global, part: &str) -> Vec<u8> {
     let (from, to) = part.split_once("..").expect(rt, part);
-    let from = from.parse::<u32>().expect(rt, part);
-    let to = to.parse::<u32>().expect(rt, part);
-    (from..to)
-        .map(|place| (place % 251) as u8)
-        .collect(alloc)
-        .expect(rt, "memory")
+    let (from, to) = (number(rt, from), number(rt, to));
+    let mut octets = Vec::new(alloc);
+    for place in from..to {
+        octets.push((place % 251) as u8).expect(rt, "memory");
+    }
+    octets
 }
 
 /// Octets in digits.

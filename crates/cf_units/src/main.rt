@@ -77,7 +77,10 @@ fn play(sheet: &mut Sheet, block: &str) {
 fn joined(alloc: Global, text: &str) -> Option<String> {
     let mut all = String::new(alloc);
     let mut is_whole = true;
-    for line in text.lines().filter(|line| !line.starts_with('#')) {
+    for line in text.lines() {
+        if line.starts_with('#') {
+            continue;
+        }
         if let Some(rest) = line.strip_prefix(' ') {
             is_whole &= all.push_str(rest).is_ok();
         } else {

@@ -143,18 +143,26 @@ fn tell_round(sheet: &mut Sheet, queue: &mut Outq, rest: &str) {
     let (mss, step) = parted(rest);
     let mss = sheet.size(mss);
     let step = sheet.place(step);
-    let bytes: Result<Vec<u8>, _> = (0..400_000_u32)
-        .map(|i| (i % 251) as u8)
-        .collect(sheet.alloc());
-    let Ok(bytes) = bytes else {
+    let mut bytes = Vec::new(sheet.alloc());
+    if !counts(&mut bytes) {
         return sheet.refuse("memory ran out");
-    };
+    }
     if !goes_round(queue, mss, step, &bytes) {
         sheet.put("another piece: ");
     }
     sheet.put_signed("", queue.length());
     sheet.put_signed(" ", queue.sent());
     sheet.put_signed(" ", queue.unacked());
+}
+
+/// Puts the octets 00 to fa over and over, 400,000 of them, and tells whether memory sufficed.
+fn counts(bytes: &mut Vec<u8>) -> bool {
+    for i in 0..400_000_u32 {
+        if bytes.push((i % 251) as u8).is_err() {
+            return false;
+        }
+    }
+    true
 }
 
 fn goes_round(queue: &mut Outq, mss: usize, step: i64, bytes: &[u8]) -> bool {

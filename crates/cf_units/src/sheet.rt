@@ -28,6 +28,16 @@ pub fn parted(text: &str) -> (&str, &str) {
     text.split_once(' ').unwrap_or((text, ""))
 }
 
+/// Whether each of these octets is this one.
+fn are_all(octets: &[u8], one: u8) -> bool {
+    for octet in octets {
+        if *octet != one {
+            return false;
+        }
+    }
+    true
+}
+
 impl Sheet {
     /// Nothing found yet.
     pub fn new(alloc: Global) -> Self {
@@ -129,8 +139,7 @@ impl Sheet {
     pub fn put_spelled(&mut self, octets: &View<'_>) {
         let (first, second) = octets.pieces();
         let one = first.first().or(second.first()).copied().unwrap_or(0);
-        let is_same = |octet: &u8| *octet == one;
-        if octets.len() > 7 && first.iter().all(is_same) && second.iter().all(is_same) {
+        if octets.len() > 7 && are_all(first, one) && are_all(second, one) {
             self.put_octets(&[one]);
             self.put_number("*", octets.len() as u64);
         } else {

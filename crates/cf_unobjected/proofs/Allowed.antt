@@ -1,20 +1,10 @@
 -- A capture to which a judge objects nowhere has flows of one stream each, which decodes to what is let through.
 use Rattle.std.proofs.Common.{◌≡◌, ◌∙◌, length, ℕ, zero, suc, List, [], ◌∷◌, ◌++◌, map, slice_get, Option, None, Some, refl, sym, ap, subst}
-use Rattle.std.specs.List.{AllByRecursion}
-use Rattle.std.proofs.lemmas.List.{map-append}
-use Rattle.std.proofs.lemmas.Option.{none-some, same_Some}
-use Rattle.cf_judge.specs.Objections.{AreReadBy, IsReadBy, Reading, objection_of}
-use Rattle.cf_judge.specs.Plain.{AreRead}
-use Rattle.cf_policy.specs.declared.Asset.{Asset}
-use Rattle.cf_session.specs.Laws.{HasLetter, Part}
+use Rattle.cf_unobjected.proofs.Common.{AllByRecursion, AreFlowsOf, AreRead, AreReadBy, Asset, Endpoint, FlowValue, HasConflict, HasLetter, IsFlowOf, IsReadBy, Letter, Reading, Stream, Watched, letter_at, letter_count, map-append, none-some, objection_of, part_of, same_Some, watched}
+use Rattle.cf_session.specs.Laws.{Part}
 use Rattle.cf_stream.specs.FirstCopy.{IsTaken}
-use Rattle.cf_stream.specs.Stream.{Letter, Stream, letter_at, letter_count, letters}
-use Rattle.cf_view.specs.declared.Endpoint.{Endpoint}
-use Rattle.cf_watch.specs.Carried.{HasConflict}
-use Rattle.cf_watch.specs.Flow.{AreFlowsOf, IsFlowOf}
-use Rattle.cf_watch.specs.FlowValue.{FlowValue}
-use Rattle.cf_watch.specs.Watched.{Watched, watched}
-use Rattle.cf_unobjected.specs.Allowed.{DecodesToAllowed, GoesOnAs, IsPutTogether, UnobjectedAreAllowed, part_of}
+use Rattle.cf_stream.specs.Stream.{letters}
+use Rattle.cf_unobjected.specs.Allowed.{DecodesToAllowed, GoesOnAs, IsPutTogether, UnobjectedAreAllowed}
 use Rattle.cf_unobjected.proofs.Copies.{is_front, taken_is_put}
 use Rattle.cf_unobjected.proofs.GoingOn.{go_on}
 use Rattle.cf_unobjected.proofs.LetThrough.{decodes_to_allowed}

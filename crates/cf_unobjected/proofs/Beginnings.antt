@@ -1,19 +1,16 @@
 -- Any beginning of the stream to a controller, read by a judge.
 use Rattle.std.proofs.Common.{◌≡◌, ◌∙◌, ◌++◌, ℕ, List, [], None, refl, sym, ap, subst, replicate}
-use Rattle.std.specs.List.{AllByRecursion, flat_map}
+use Rattle.cf_unobjected.proofs.Common.{AllByRecursion, Asset, IsRightlyPassed, Passed, all_both, all_front, flat_map, user_of}
 use Rattle.cf_decode.specs.Laws.{DecodesTo}
 use Rattle.cf_decode.specs.Received.{segments_in}
-use Rattle.cf_decode.specs.Units.{Passed, units_from}
+use Rattle.cf_decode.specs.Units.{units_from}
 use Rattle.cf_dnplink.specs.LinkFrame.{blocks_of}
-use Rattle.cf_dnplink.specs.UserOctets.{user_of}
 use Rattle.cf_dnptrans.specs.Passing.{IsSent, PutTogether, all_segments, answers_for}
 use Rattle.cf_dnptrans.specs.Transport.{unfinished}
-use Rattle.cf_dnptrans.specs.declared.assembly.SegmentAnswer.TheVariants as answers
-use Rattle.cf_policy.specs.declared.Asset.{Asset}
-use Rattle.cf_unobjected.specs.Passed.{IsRightlyPassed}
 use Rattle.cf_unobjected.specs.Unobjected.{IsUnobjected}
-use Rattle.cf_unobjected.proofs.Dnp3.{IsRightFragment, IsServed, IsTaken, all_both, all_front, fine, fragments_in, more_taken, right_fragments, segments_append, sent_fragments, unit_segments, units_served, whole_taken}
+use Rattle.cf_unobjected.proofs.Dnp3.{IsRightFragment, IsServed, IsTaken, fine, fragments_in, more_taken, right_fragments, segments_append, sent_fragments, unit_segments, units_served, whole_taken}
 use Rattle.cf_unobjected.proofs.Unobjected.{reads}
+use Rattle.cf_dnptrans.specs.declared.assembly.SegmentAnswer.TheVariants as answers
 
 abbrev PutsTogether : Type 0
 PutsTogether =

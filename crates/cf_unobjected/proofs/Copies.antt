@@ -1,17 +1,15 @@
 -- Where no packet of a flow has a conflict, all that is put together of its packets is a beginning of what is taken of first copies.
 use Rattle.std.proofs.Common.{◌≡◌, ◌≢◌, ◌+◌, ◌-◌, ◌<◌, ◌≤◌, ◌∙◌, ◌⊎◌, ◌+ℤ◌, ◌<ℤ◌, ◌==◌, ◌&&◌, if◌then◌else◌, ℕ, ℤ, zero, suc, pos, negsuc, Bool, true, false, List, [], ◌∷◌, ◌++◌, length, map, get_or, nat_lt, slice_get, Option, None, Some, option_map, refl, sym, ap, inl, inr, arith}
-use Rattle.std.specs.Option.{option_or}
-use Rattle.std.proofs.lemmas.Bool.{and_parts, cases_Bool, cases_eq, cases_lt, cases_order, eqb-true, false≢true, true≢false}
-use Rattle.std.proofs.lemmas.Bool.Decides.{nat_tests}
+use Rattle.cf_unobjected.proofs.Common.{Carried, HasConflict, HasLetter, Letter, Stream, and_parts, cases_Bool, cases_lt, copy_of, false≢true, letter_at, letter_count, nat_tests, none-some, offer_of, option_or, part_of, same_Some, slice_get-get_or, true≢false}
+use Rattle.std.proofs.lemmas.Bool.{cases_eq, cases_order, eqb-true}
 use Rattle.std.proofs.lemmas.Int.{ints}
-use Rattle.std.proofs.lemmas.Option.{none-some, same_Some, slice_get-get_or, slice_get-map, slice_get_within}
-use Rattle.cf_session.specs.Laws.{HasLetter, IsFront, IsReassembly, Part}
+use Rattle.std.proofs.lemmas.Option.{slice_get-map, slice_get_within}
+use Rattle.cf_session.specs.Laws.{IsFront, IsReassembly, Part}
 use Rattle.cf_stream.proofs.PlaceOrZero.{place_or_zero_from}
 use Rattle.cf_stream.specs.FirstCopy.{IsTaken, offered}
 use Rattle.cf_stream.specs.Position.{place_or_zero}
-use Rattle.cf_stream.specs.Stream.{Byte, End, Letter, Stream, letter_at, letter_count, letter_from, letters}
-use Rattle.cf_watch.specs.Carried.{Carried, Differs, HasConflict, copy_of, end_after, end_of, letter_of, offer_of}
-use Rattle.cf_unobjected.specs.Allowed.{part_of}
+use Rattle.cf_stream.specs.Stream.{Byte, End, letter_from, letters}
+use Rattle.cf_watch.specs.Carried.{Differs, end_after, end_of, letter_of}
 
 -- ---- letters
 

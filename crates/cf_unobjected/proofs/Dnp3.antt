@@ -1,49 +1,30 @@
 -- Frames of a beginning of the stream to a controller, read by a judge.
 use Rattle.std.proofs.Common.{◌≡◌, ◌≤◌, ◌+◌, ◌∙◌, ◌++◌, ℕ, zero, suc, List, [], ◌∷◌, Bool, true, false, Option, None, Some, if◌then◌else◌, length, map, nat_lt, replicate, reverse, refl, sym, ap, subst, arith, inl, inr}
-use Rattle.std.specs.List.{AllByRecursion, flat_map}
-use Rattle.std.proofs.lemmas.Bool.{cases_Bool, eq-eqb}
-use Rattle.std.proofs.lemmas.Bool.Decides.{nat_tests}
+use Rattle.cf_unobjected.proofs.Common.{Adu, AllByRecursion, Apdu, Asset, Fate, Frame, FrameValue, HasCommandFate, IsRightlyPassed, Judged, Passed, UnitValue, all_both, all_front, cases_Bool, complaint_of, completed_in, fate_by_asdu, fate_of_fragment, fate_of_frame, fate_of_segment, fate_of_whole, flat_map, goes_on, is_data, nat_tests, stray_of, user_of, verdict_of}
+use Rattle.std.proofs.lemmas.Bool.{eq-eqb}
 use Rattle.cf_decode.specs.Received.{has_segment, segment_in, segments_in}
-use Rattle.cf_decode.specs.Units.{Fragment, Passed, Whole, data_frame, units_from, units_of}
-use Rattle.cf_dnplink.specs.LinkFrame.{FrameValue, blocks_of, frame_with}
-use Rattle.cf_dnplink.specs.UserOctets.{user_of}
+use Rattle.cf_decode.specs.Units.{Fragment, Whole, data_frame, units_from, units_of}
+use Rattle.cf_dnplink.specs.LinkFrame.{blocks_of, frame_with}
 use Rattle.cf_dnptrans.specs.Passing.{IsSent, all_segments, answers_for, answers_to, completed, fragments_of}
 use Rattle.cf_dnptrans.specs.Segments.{count_of}
-use Rattle.cf_dnptrans.specs.Segments as pieces
 use Rattle.cf_dnptrans.specs.Transport.{answer_to, last_fragment}
 use Rattle.cf_dnptrans.specs.declared.assembly.SegmentAnswer.{SegmentAnswer}
-use Rattle.cf_judge.specs.Ruling.{complaint_of}
-use Rattle.cf_judge.specs.Plain.{completed_in, fate_by_asdu}
 use Rattle.cf_lane.proofs.Earlier.{segments_of-more}
-use Rattle.cf_lane.specs.Dnp3 as lane
-use Rattle.cf_lane.specs.Dnp3.{fate_of_fragment, fate_of_frame, fate_of_segment, fate_of_whole, is_data, segments_of, stray_of}
+use Rattle.cf_lane.specs.Dnp3.{segments_of}
 use Rattle.cf_lane.specs.Item.{Took}
-use Rattle.cf_lane.specs.Judged.{Judged, goes_on}
-use Rattle.cf_lane.specs.Modbus.{HasCommandFate}
-use Rattle.cf_lane.specs.Unit.{Adu, Apdu, Frame, UnitValue}
-use Rattle.cf_policy.specs.Verdict.{verdict_of}
-use Rattle.cf_policy.specs.declared.Asset.{Asset}
-use Rattle.cf_lane.specs.declared.fate.Fate.{Fate}
-use Rattle.cf_dnptrans.specs.declared.assembly.SegmentAnswer.TheVariants as answers
 use Rattle.cf_lane.specs.declared.fate.Admission.{Admission}
+use Rattle.cf_unobjected.proofs.Unobjected.{AreFine, no_complaint}
+use Rattle.cf_dnptrans.specs.Segments as pieces
+use Rattle.cf_lane.specs.Dnp3 as lane
+use Rattle.cf_dnptrans.specs.declared.assembly.SegmentAnswer.TheVariants as answers
 use Rattle.cf_lane.specs.declared.fate.Fate.TheVariants as fate
 use Rattle.cf_audit.specs.declared.line.Why.TheVariants as why
 use Rattle.cf_view.specs.declared.Side.TheVariants as side
-use Rattle.cf_unobjected.specs.Passed.{IsRightlyPassed}
-use Rattle.cf_unobjected.proofs.Unobjected.{AreFine, no_complaint}
 
 -- no segment is dropped
 abbrev pub IsTaken : SegmentAnswer → Type 0
 IsTaken (answers.Dropped because) = ⊥
 IsTaken _ = Unit {0}
-
-pub all_both : {X : Type 0} (P : X → Type 0) (xs ys : List X) → AllByRecursion P xs → AllByRecursion P ys → AllByRecursion P (xs ++ ys)
-all_both P [] ys a b = b
-all_both P (x ∷ xs) ys a b = (a.0, all_both P xs ys a.1 b)
-
-pub all_front : {X : Type 0} (P : X → Type 0) (xs ys : List X) → AllByRecursion P (xs ++ ys) → AllByRecursion P xs
-all_front P [] ys h = tt
-all_front P (x ∷ xs) ys h = (h.0, all_front P xs ys h.1)
 
 pub more_taken : (n : ℕ) → AllByRecursion IsTaken (replicate n answers.More)
 more_taken zero = tt

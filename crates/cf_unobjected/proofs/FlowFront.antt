@@ -1,14 +1,10 @@
 -- The front of one flow: its bytes up to a record, the record of each of them, and its conflict, if that came up to there.
 use Rattle.std.proofs.Common.{◌≡◌, ◌<◌, ◌≤◌, ◌∙◌, ◌⊎◌, ◌+◌, ℕ, zero, suc, List, [], ◌∷◌, ◌++◌, length, map, take, get_or, slice_get, Option, None, Some, refl, sym, ap, subst, inl, inr, arith, length-append}
-use Rattle.std.proofs.lemmas.List.{length-take-le, take-append-le, take_all}
-use Rattle.std.proofs.lemmas.Option.{none-some, slice_get-get_or, slice_get_within}
+use Rattle.cf_unobjected.proofs.Common.{Carried, Conflict, FlowValue, HasBytes, HasConflict, IsConflictAfter, IsFlowOf, Letter, Watched, copy_of, length-take-le, none-some, offer_of, slice_get-get_or}
+use Rattle.std.proofs.lemmas.List.{take-append-le, take_all}
+use Rattle.std.proofs.lemmas.Option.{slice_get_within}
 use Rattle.cf_stream.proofs.Taken.{some_taken}
-use Rattle.cf_stream.specs.Stream.{Letter}
-use Rattle.cf_watch.specs.Carried.{Carried, HasBytes, HasConflict, IsBornWith, IsConflictAfter, copy_of, offer_of}
-use Rattle.cf_watch.specs.Flow.{IsFlowOf}
-use Rattle.cf_watch.specs.FlowValue.{FlowValue}
-use Rattle.cf_watch.specs.Watched.{Watched}
-use Rattle.cf_watch.specs.declared.Conflict.{Conflict}
+use Rattle.cf_watch.specs.Carried.{IsBornWith}
 use Rattle.cf_unobjected.proofs.FlowFronts.{AreAfter, AreUpTo, IsFrontOf}
 use Rattle.cf_unobjected.proofs.OneList.{bytes_on, no_fewer}
 use Rattle.cf_unobjected.proofs.Within.{kept, kept_high, kept_low}

@@ -1,21 +1,14 @@
 -- The front of the bytes of a flow, up to a record, as it is read: what is wrong in it is what is wrong in all, where that came up to there.
 use Rattle.std.proofs.Common.{◌≡◌, ◌<◌, ◌≤◌, ◌+◌, ◌-◌, ◌∙◌, ℕ, List, [], ◌∷◌, ◌++◌, length, take, drop, get_or, Option, None, Some, option_map, refl, sym, ap, subst, inl, inr, arith, append_assoc, length-append, length-drop, take-append-drop}
-use Rattle.std.specs.Option.{option_or}
-use Rattle.std.proofs.lemmas.Bool.{cases_lt}
-use Rattle.std.proofs.lemmas.List.{get_or-drop, get_or-take, length-take-le, drop-take, take-take}
-use Rattle.cf_judge.specs.Objections.{first_wrong, objected, wrong, wrong_at}
-use Rattle.cf_judge.specs.Plain.{AreRead, Breaks, Ending, HasEnding, Whole, completed_in}
-use Rattle.cf_judge.specs.Ruling.{complaint_of}
+use Rattle.cf_unobjected.proofs.Common.{AreRead, Asset, Begins, Breaks, Ending, FlowValue, IsPartial, Judged, Objection, SpellsUnit, UnitValue, Whole, cases_lt, complaint_of, completed_in, first_wrong, length-take-le, objected, option_or, wrong}
+use Rattle.std.proofs.lemmas.List.{drop-take, get_or-drop, get_or-take, take-take}
+use Rattle.cf_judge.specs.Objections.{wrong_at}
+use Rattle.cf_judge.specs.Plain.{HasEnding}
 use Rattle.cf_judge.specs.declared.Complaint.{Complaint}
-use Rattle.cf_judge.specs.declared.Complaint.TheVariants as complaint
-use Rattle.cf_judge.specs.declared.Objection.{Objection}
-use Rattle.cf_lane.specs.Judged.{Judged}
-use Rattle.cf_lane.specs.Unit.{SpellsUnit, UnitValue}
-use Rattle.cf_policy.specs.declared.Asset.{Asset}
 use Rattle.cf_view.proofs.Framing.{take_split}
-use Rattle.cf_view.specs.Framing.{Begins, BreaksAt, IsFront, IsPartial}
-use Rattle.cf_watch.specs.FlowValue.{FlowValue}
+use Rattle.cf_view.specs.Framing.{BreaksAt, IsFront}
 use Rattle.cf_unobjected.proofs.Within.{kept, kept_high, kept_low}
+use Rattle.cf_judge.specs.declared.Complaint.TheVariants as complaint
 
 abbrev pub at_of : Objection → ℕ
 at_of o = o.at_record

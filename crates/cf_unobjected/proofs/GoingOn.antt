@@ -1,14 +1,8 @@
 -- The flows of a capture stay in their places as records come.
 use Rattle.std.proofs.Common.{◌≡◌, ◌+◌, ◌∙◌, ℕ, zero, suc, Bool, true, false, List, [], ◌∷◌, ◌++◌, if◌then◌else◌, length, set, slice_get, Option, None, Some, Result, Ok, Err, refl, sym, ap, subst, append_assoc}
-use Rattle.std.proofs.lemmas.Option.{none-some, same_Some}
-use Rattle.cf_leg.specs.Segment.{is_opening}
-use Rattle.cf_packet.specs.Packet.{PacketValue, read_record}
+use Rattle.cf_unobjected.proofs.Common.{Asset, PacketValue, Record, Watched, asset_place, begins_anew, begun_by, carried_by, goes, goes_at, goes_to, is_opening, last_place, none-some, same_Some, top_of, watched, with_packet, with_record}
+use Rattle.cf_packet.specs.Packet.{read_record}
 use Rattle.cf_packet.specs.declared.PacketRefusal.{PacketRefusal}
-use Rattle.cf_policy.specs.AtEndpoint.{asset_place}
-use Rattle.cf_policy.specs.declared.Asset.{Asset}
-use Rattle.cf_records.specs.Capture.{Record}
-use Rattle.cf_watch.specs.Carried.{top_of}
-use Rattle.cf_watch.specs.Watched.{Watched, begins_anew, begun_by, carried_by, goes, goes_at, goes_to, last_place, watched, with_packet, with_record}
 use Rattle.cf_unobjected.specs.Allowed.{GoesOnAs}
 
 -- a flow at a place goes on at the same place

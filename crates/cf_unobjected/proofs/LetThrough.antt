@@ -1,41 +1,29 @@
 -- Units without a complaint are let through.
 use Rattle.std.proofs.Common.{◌≡◌, ◌-◌, ℕ, List, [], ◌∷◌, ◌++◌, Bool, true, false, Option, None, Some, Result, Ok, Err, if◌then◌else◌, length, drop, nat_eq, nat_lt, slice_index, refl, sym, subst}
-use Rattle.std.specs.List.{AllByRecursion}
-use Rattle.std.proofs.lemmas.Option.{none-some}
+use Rattle.cf_unobjected.proofs.Common.{Adu, AduValue, AllByRecursion, Apdu, AreRead, Asset, Frame, FrameValue, HasCommandFate, HasPlainFate, IsPartial, Judged, Protocol, SpellsUnit, UnitValue, Whole, complaint_of, fate_by_asdu, fate_of_fragment, fate_of_frame, fate_of_segment, fate_of_whole, is_data, none-some, of_its_acts, of_no_form, of_other_station, stray_of, verdict_of}
 use Rattle.cf_apci.specs.Apdu.{Ack, ApduValue, Control, Info}
 use Rattle.cf_asdu.specs.Asdu.{station_of}
 use Rattle.cf_asdu.specs.declared.AsduRefusal.{AsduRefusal}
 use Rattle.cf_audit.specs.declared.Why.{Why}
-use Rattle.cf_dnplink.specs.LinkFrame.{FrameValue}
 use Rattle.cf_dnpobj.specs.Acts.{acts}
 use Rattle.cf_dnpobj.specs.Fragment.{FragmentValue, read_octets}
 use Rattle.cf_dnpobj.specs.declared.FragmentRefusal.{FragmentRefusal}
 use Rattle.cf_dnptrans.specs.declared.SegmentAnswer.{SegmentAnswer}
-use Rattle.cf_dnptrans.specs.declared.SegmentAnswer.TheVariants as answers
-use Rattle.cf_judge.specs.Plain.{AreRead, HasPlainFate, Whole, fate_by_asdu}
-use Rattle.cf_judge.specs.Ruling.{complaint_of}
 use Rattle.cf_lane.specs.Acts.{admission, by_refusal, fate_of_acts, first_refusal}
-use Rattle.cf_lane.specs.Dnp3.{answer_now, fate_of_frame, fate_of_fragment, fate_of_read, fate_of_segment, fate_of_whole, is_data, stray_of, whole_now}
+use Rattle.cf_lane.specs.Dnp3.{answer_now, fate_of_read, whole_now}
 use Rattle.cf_lane.specs.Iec104.{asdu_in, fate_by_form, fate_of_asdu}
-use Rattle.cf_lane.specs.Judged.{Judged}
-use Rattle.cf_lane.specs.Modbus.{HasCommandFate, of_its_acts, of_no_form, of_other_station}
 use Rattle.cf_lane.specs.Rates.{Says}
-use Rattle.cf_lane.specs.Unit.{Adu, Apdu, Frame, SpellsUnit, UnitValue}
 use Rattle.cf_lane.specs.declared.Admission.{Admission}
 use Rattle.cf_lane.specs.declared.Fate.{Fate}
-use Rattle.cf_lane.specs.declared.Fate.TheVariants as fate
 use Rattle.cf_lane.specs.declared.Refusal.{Refusal}
-use Rattle.cf_modbus.specs.Adu.{AduValue}
-use Rattle.cf_policy.specs.Verdict.{verdict_of}
-use Rattle.cf_policy.specs.declared.Asset.{Asset}
-use Rattle.cf_policy.specs.declared.Protocol.{Protocol}
-use Rattle.cf_policy.specs.declared.Protocol.TheVariants as protocol
-use Rattle.cf_view.specs.Framing.{IsPartial}
 use Rattle.cf_view.specs.Units.{BeginsWithUnits}
 use Rattle.cf_view.specs.declared.Act.{Act}
+use Rattle.cf_unobjected.specs.Allowed.{AreLetThrough, DecodesToAllowed, IsLetThrough}
+use Rattle.cf_dnptrans.specs.declared.SegmentAnswer.TheVariants as answers
+use Rattle.cf_lane.specs.declared.Fate.TheVariants as fate
+use Rattle.cf_policy.specs.declared.Protocol.TheVariants as protocol
 use Rattle.cf_view.specs.declared.Side.TheVariants as side
 use Rattle.cf_asdu.specs.Asdu as asdus
-use Rattle.cf_unobjected.specs.Allowed.{AreLetThrough, DecodesToAllowed, IsLetThrough}
 
 -- ---- which fates a unit may have
 

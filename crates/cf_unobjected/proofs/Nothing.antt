@@ -1,14 +1,7 @@
 -- A judgement without an objection has none to any flow: no conflict, and nothing wrong with a unit or behind them.
 use Rattle.std.proofs.Common.{◌≡◌, List, [], ◌∷◌, Bool, true, false, if◌then◌else◌, Option, None, Some, option_map, refl, sym, nat_lt}
-use Rattle.std.specs.List.{AllByRecursion}
-use Rattle.std.specs.Option.{option_or}
-use Rattle.std.proofs.lemmas.Option.{none-some}
-use Rattle.cf_lane.specs.Judged.{Judged}
-use Rattle.cf_judge.specs.Objections.{Reading, earlier, first_wrong, objected, objection_of, objection_to, sooner, wrong, wrong_at, wrong_by, wrong_in}
-use Rattle.cf_judge.specs.Plain.{Breaks, Ending, Whole}
-use Rattle.cf_judge.specs.Ruling.{complaint_of}
-use Rattle.cf_judge.specs.declared.Objection.{Objection}
-use Rattle.cf_watch.specs.FlowValue.{FlowValue}
+use Rattle.cf_unobjected.proofs.Common.{AllByRecursion, Breaks, Ending, FlowValue, Judged, Objection, Reading, Whole, complaint_of, first_wrong, none-some, objected, objection_of, objection_to, option_or, sooner, wrong, wrong_by}
+use Rattle.cf_judge.specs.Objections.{earlier, wrong_at, wrong_in}
 
 -- ---- options
 

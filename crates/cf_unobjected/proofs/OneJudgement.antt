@@ -1,11 +1,8 @@
 -- Flows have one judgement.
 use Rattle.std.proofs.Common.{◌≡◌, ◌∙◌, List, [], ◌∷◌, map, slice_get, Option, None, Some, refl, sym, ap, subst}
-use Rattle.cf_judge.specs.Objections.{AreReadBy, IsJudgementOf, IsReadBy, Reading, commands_in, objection_to}
-use Rattle.cf_judge.specs.Plain.{AreRead}
+use Rattle.cf_unobjected.proofs.Common.{AreRead, AreReadBy, Asset, FlowValue, IsReadBy, Reading, commands_in, objection_to, watched}
+use Rattle.cf_judge.specs.Objections.{IsJudgementOf}
 use Rattle.cf_judge.specs.declared.Judged.{Judged as Judgement}
-use Rattle.cf_policy.specs.declared.Asset.{Asset}
-use Rattle.cf_watch.specs.FlowValue.{FlowValue}
-use Rattle.cf_watch.specs.Watched.{watched}
 use Rattle.cf_unobjected.specs.OneJudgement.{JudgementsAreOne, RecordsHaveOneJudgement}
 use Rattle.cf_unobjected.proofs.OneList.{one_list}
 use Rattle.cf_unobjected.proofs.OneReading.{one_reading}

@@ -1,16 +1,12 @@
 -- What was watched is one list of flows.
 use Rattle.std.proofs.Common.{◌≡◌, ◌+◌, ◌≤◌, ◌∙◌, ◌⊎◌, ℕ, pos, List, [], ◌∷◌, ◌++◌, length, map, get_or, Option, None, Some, refl, sym, ap, subst, inl, inr, arith, length-append}
-use Rattle.std.proofs.lemmas.List.{map-append, same_lists}
-use Rattle.std.proofs.lemmas.Option.{slice_get-get_or}
+use Rattle.cf_unobjected.proofs.Common.{Carried, Conflict, FlowValue, HasBytes, HasConflict, IsConflictAfter, IsFlowOf, Letter, Stream, Watched, copy_of, map-append, offer_of, slice_get-get_or}
+use Rattle.std.proofs.lemmas.List.{same_lists}
 use Rattle.cf_stream.proofs.FirstCopy.{first_copy-append}
 use Rattle.cf_stream.proofs.Taken.{same_taken, taken_extends}
 use Rattle.cf_stream.specs.FirstCopy.{first_copy}
-use Rattle.cf_stream.specs.Stream.{Extends, Letter, Stream}
-use Rattle.cf_watch.specs.Carried.{AreBorn, Carried, HasBytes, HasConflict, IsBornWith, IsConflictAfter, IsConflictOf, copy_of, offer_of}
-use Rattle.cf_watch.specs.Flow.{IsFlowOf}
-use Rattle.cf_watch.specs.FlowValue.{FlowValue}
-use Rattle.cf_watch.specs.Watched.{Watched}
-use Rattle.cf_watch.specs.declared.Conflict.{Conflict}
+use Rattle.cf_stream.specs.Stream.{Extends}
+use Rattle.cf_watch.specs.Carried.{AreBorn, IsBornWith, IsConflictOf}
 use Rattle.cf_unobjected.specs.OneJudgement.{FlowsAreOne}
 
 -- ---- the conflict of a flow

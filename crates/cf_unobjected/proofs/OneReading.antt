@@ -1,15 +1,11 @@
 -- The octets of a flow are read in one way.
 use Rattle.std.proofs.Common.{◌≡◌, ◌-◌, ◌∙◌, ◌++◌, ℕ, List, [], ◌∷◌, drop, slice_index, refl, sym, ap, subst}
-use Rattle.cf_judge.specs.Plain.{AreRead, Breaks, Ending, HasEnding, HasPlainFate, Whole, completed_in}
+use Rattle.cf_unobjected.proofs.Common.{Adu, AreRead, Asset, Begins, Breaks, Ending, Fate, HasPlainFate, Judged, SpellsUnit, UnitValue, Whole, completed_in, verdict_of}
+use Rattle.cf_judge.specs.Plain.{HasEnding}
 use Rattle.cf_lane.proofs.Commands.{has_one_fate}
 use Rattle.cf_lane.proofs.Units.{free_unit}
-use Rattle.cf_lane.specs.Judged.{Judged}
-use Rattle.cf_lane.specs.Unit.{Adu, SpellsUnit, UnitValue, unit_break}
-use Rattle.cf_lane.specs.declared.fate.Fate.{Fate}
-use Rattle.cf_policy.specs.Verdict.{verdict_of}
-use Rattle.cf_policy.specs.declared.Asset.{Asset}
+use Rattle.cf_lane.specs.Unit.{unit_break}
 use Rattle.cf_view.proofs.Framing.{one_break, one_unit, partial_not_broken, unit_not_broken, unit_not_partial}
-use Rattle.cf_view.specs.Framing.{Begins}
 
 module _ (asset : Asset) (client : ℕ) where
   abbrev Spells : UnitValue → List ℕ → Type 0

@@ -1,42 +1,33 @@
 -- What items let through, item by item.
-use Rattle.cf_lane.specs.Caller.{Caller}
 use Rattle.std.proofs.Common.{◌≡◌, ◌≤◌, ◌∙◌, ◌++◌, ℕ, List, [], ◌∷◌, Bool, true, false, Option, None, Some, Result, Ok, Err, if◌then◌else◌, length, map, nat_eq, nat_le, nat_lt, slice_index, unwrap_or, refl, sym, ap, subst, arith}
-use Rattle.std.specs.List.{AllByRecursion}
-use Rattle.std.proofs.lemmas.Bool.{false≢true}
-use Rattle.std.proofs.lemmas.Bool.Decides.{nat_tests}
-use Rattle.std.proofs.lemmas.Option.{none-some}
+use Rattle.cf_unobjected.proofs.Common.{Adu, AduValue, AllByRecursion, Apdu, Asset, Fate, Frame, FrameValue, HasCommandFate, IsRightlyPassed, Judged, Passed, all_both, false≢true, fate_of_fragment, fate_of_frame, fate_of_segment, fate_of_whole, goes_on, is_data, nat_tests, none-some, of_its_acts, of_no_form, of_other_station, stray_of, user_of, verdict_of}
+use Rattle.cf_lane.specs.Caller.{Caller}
 use Rattle.cf_apci.specs.Apdu.{Ack, Control, Info}
 use Rattle.cf_audit.specs.declared.line.CutReason.{CutReason}
 use Rattle.cf_audit.specs.declared.line.Why.{Why}
 use Rattle.cf_decode.specs.Passed.{passed_by}
 use Rattle.cf_decode.specs.Dnp3.{passed_by_frame}
 use Rattle.cf_decode.specs.Iec104.{acks, passed_by_apdu}
-use Rattle.cf_decode.specs.Units.{Fragment, Passed, Whole}
-use Rattle.cf_dnplink.specs.LinkFrame.{FrameValue}
+use Rattle.cf_decode.specs.Units.{Fragment, Whole}
 use Rattle.cf_dnptrans.specs.Passing.{completed}
 use Rattle.cf_dnptrans.specs.declared.assembly.SegmentAnswer.{SegmentAnswer}
 use Rattle.cf_lane.specs.Acts.{admission, by_refusal, fate_of_acts, first_refusal, refusal_or}
 use Rattle.cf_lane.specs.Rates.{Says, is_spent, said, says_at, unless_spent, used_at}
-use Rattle.cf_dnplink.specs.UserOctets.{user_of}
 use Rattle.cf_dnptrans.specs.Transport.{fitting, is_linked, last_fragment, octets_of, since_first}
-use Rattle.cf_lane.specs.Dnp3.{answer_now, segments_of, fate_of_fragment, fate_of_frame, fate_of_read, fate_of_segment, fate_of_whole, is_data, stray_of}
+use Rattle.cf_lane.specs.Dnp3.{answer_now, fate_of_read, segments_of}
 use Rattle.cf_lane.specs.Fate.{HaveFates, HasItemFate}
 use Rattle.cf_lane.specs.Iec104.{asdu_in, asdu_refused, fate_by_form, fate_of_asdu, or_cut}
 use Rattle.cf_lane.specs.Item.{Item, Took}
-use Rattle.cf_lane.specs.Judged.{Judged, goes_on, in_turn, is_refused}
-use Rattle.cf_lane.specs.Modbus.{HasCommandFate, of_its_acts, of_no_form, of_other_station}
+use Rattle.cf_lane.specs.Judged.{in_turn, is_refused}
 use Rattle.cf_lane.specs.Numbers.{ack_cut, info_cut}
-use Rattle.cf_lane.specs.Unit.{Adu, Apdu, Frame}
 use Rattle.cf_lane.specs.declared.fate.Refusal.{Refusal}
-use Rattle.cf_modbus.specs.Adu.{AduValue}
-use Rattle.cf_policy.specs.Verdict.{verdict_of}
-use Rattle.cf_policy.specs.declared.Asset.{Asset}
 use Rattle.cf_policy.specs.declared.Verdict.{Verdict}
 use Rattle.cf_view.specs.declared.Act.{Act}
 use Rattle.cf_asdu.specs.Asdu.{refusal_reason, station_of}
 use Rattle.cf_asdu.specs.declared.asdu.AsduRefusal.{AsduRefusal}
 use Rattle.cf_dnpobj.specs.Fragment.{FragmentValue, read_octets}
 use Rattle.cf_dnpobj.specs.declared.fragment.FragmentRefusal.{FragmentRefusal}
+use Rattle.cf_lane.specs.declared.fate.Admission.{Admission}
 use Rattle.cf_asdu.specs.Asdu as asdu_form
 use Rattle.cf_asdu.specs.Acts as asdus
 use Rattle.cf_dnpobj.specs.Acts as fragments
@@ -45,14 +36,10 @@ use Rattle.cf_asdu.specs.declared.asdu.AsduRefusal.TheVariants as refusal
 use Rattle.cf_policy.specs.declared.Decider.TheVariants as decider
 use Rattle.cf_policy.specs.declared.Verdict.TheVariants as verdict
 use Rattle.cf_view.specs.declared.Reason.TheVariants as reason
-use Rattle.cf_lane.specs.declared.fate.Fate.{Fate}
 use Rattle.cf_dnptrans.specs.declared.assembly.SegmentAnswer.TheVariants as answers
-use Rattle.cf_lane.specs.declared.fate.Admission.{Admission}
 use Rattle.cf_lane.specs.declared.fate.Fate.TheVariants as fate
 use Rattle.cf_audit.specs.declared.line.Why.TheVariants as why
 use Rattle.cf_view.specs.declared.Side.TheVariants as side
-use Rattle.cf_unobjected.specs.Passed.{IsRightlyPassed}
-use Rattle.cf_unobjected.proofs.Dnp3.{all_both}
 
 fits_by : (octets xs : List ℕ) (b : Bool) → nat_le (length octets) 2048 ≡ b → (if b then Some octets else None) ≡ Some xs → length xs ≤ 2048
 fits_by octets xs true e h =

@@ -1,33 +1,23 @@
 -- The flows that are worked by hand.
 use Rattle.std.proofs.Common.{◌≡◌, ◌∙◌, ◌+◌, ◌<◌, ℕ, zero, suc, pos, Bool, true, false, [], ◌∷◌, map, replicate, slice_get, None, Some, Ok, refl, sym, ap, arith}
-use Rattle.std.proofs.lemmas.Bool.{false≢true}
-use Rattle.std.proofs.lemmas.Bool.Decides.{nat_tests}
-use Rattle.std.proofs.lemmas.Option.{none-some, same_Some}
-use Rattle.cf_session.specs.Laws.{HasLetter, IsFront, IsReassembly}
-use Rattle.cf_stream.specs.Stream.{Byte, End, Letter, Stream}
-use Rattle.cf_watch.specs.Carried.{Carried, Differs, HasConflict, copy_of, letter_of}
-use Rattle.cf_judge.specs.Objections.{IsJudgementOf, Reading}
-use Rattle.cf_judge.specs.Plain.{AreRead, Whole, completed_in}
-use Rattle.cf_lane.specs.Modbus.{HasCommandFate, of_its_acts}
-use Rattle.cf_lane.specs.Unit.{Adu, SpellsUnit}
+use Rattle.cf_unobjected.proofs.Common.{Adu, AreRead, Begins, Carried, FlowValue, HasCommandFate, HasConflict, HasLetter, IsPartial, Letter, Protocol, Reading, SpellsUnit, Stream, Whole, completed_in, copy_of, false≢true, nat_tests, none-some, of_its_acts, part_of, same_Some, verdict_of}
+use Rattle.cf_session.specs.Laws.{IsFront, IsReassembly}
+use Rattle.cf_stream.specs.Stream.{Byte, End}
+use Rattle.cf_watch.specs.Carried.{Differs, letter_of}
+use Rattle.cf_judge.specs.Objections.{IsJudgementOf}
 use Rattle.cf_lane.specs.declared.Fate.{Fate}
-use Rattle.cf_lane.specs.declared.Fate.TheVariants as fate
 use Rattle.cf_modbus.specs.Acts.{acts}
 use Rattle.cf_modbus.specs.Adu.{SpellsAdu}
 use Rattle.cf_modbus.specs.Request.{Reads, RequestValue}
-use Rattle.cf_policy.specs.Verdict.{verdict_of}
 use Rattle.cf_policy.specs.Within.{most_rated}
-use Rattle.cf_policy.specs.declared.Decider.TheVariants as decider
-use Rattle.cf_policy.specs.declared.Protocol.{Protocol}
-use Rattle.cf_policy.specs.declared.Protocol.TheVariants as protocol
-use Rattle.cf_view.specs.Framing.{Begins, IsPartial}
 use Rattle.cf_view.specs.Octets.{IsOctets}
-use Rattle.cf_view.specs.declared.Reason.TheVariants as reason
-use Rattle.cf_watch.specs.FlowValue.{FlowValue}
-use Rattle.cf_unobjected.specs.Allowed.{part_of}
 use Rattle.cf_unobjected.specs.OneJudgement.{JudgementsAreOne}
 use Rattle.cf_unobjected.specs.Rows.{RowsHold, clear, objected, one_client, one_flow, one_octet, other_client, other_flow, out_of_order, pumps, read_octets, read_of, reads, with_conflict}
 use Rattle.cf_unobjected.proofs.Copies.{byte_of, is_end}
+use Rattle.cf_lane.specs.declared.Fate.TheVariants as fate
+use Rattle.cf_policy.specs.declared.Decider.TheVariants as decider
+use Rattle.cf_policy.specs.declared.Protocol.TheVariants as protocol
+use Rattle.cf_view.specs.declared.Reason.TheVariants as reason
 
 no_end : (b : ℕ) → Some (Byte b) ≡ Some End → ⊥
 no_end b e = false≢true (ap is_end (same_Some (Byte b) End e))

@@ -1,21 +1,8 @@
 -- The judgement of a front of the records of a capture, and the shortest front that has an objection.
 use Rattle.std.proofs.Common.{◌≡◌, ◌≤◌, ◌-◌, ◌∙◌, ℕ, Bool, true, false, if◌then◌else◌, nat_lt, List, [], ◌∷◌, ◌++◌, length, map, take, drop, slice_get, Option, None, Some, option_map, refl, sym, ap, subst, inl, inr, arith, append_assoc, length-drop, take-append-drop}
-use Rattle.std.proofs.lemmas.Bool.{cases_lt, false≢true}
-use Rattle.std.proofs.lemmas.List.{append-nil, length-take-le}
-use Rattle.std.proofs.lemmas.Option.{none-some}
-use Rattle.cf_judge.specs.Objections.{AreReadBy, IsReadBy, Reading, commands_in, earlier, first_wrong, objected, objection_of, objection_to, sooner, wrong_by}
-use Rattle.cf_judge.specs.Plain.{AreRead, Ending}
+use Rattle.cf_unobjected.proofs.Common.{AreFlowsOf, AreRead, AreReadBy, Asset, Conflict, Ending, Endpoint, FlowValue, HasBytes, IsFlowOf, IsReadBy, Judged, Objection, Reading, Record, Watched, append-nil, cases_lt, commands_in, false≢true, first_wrong, length-take-le, none-some, objected, objection_of, objection_to, sooner, watched, wrong_by}
+use Rattle.cf_judge.specs.Objections.{earlier}
 use Rattle.cf_judge.specs.declared.Judged.{Judged as Judgement}
-use Rattle.cf_judge.specs.declared.Objection.{Objection}
-use Rattle.cf_lane.specs.Judged.{Judged}
-use Rattle.cf_policy.specs.declared.Asset.{Asset}
-use Rattle.cf_records.specs.Capture.{Record}
-use Rattle.cf_view.specs.declared.Endpoint.{Endpoint}
-use Rattle.cf_watch.specs.Carried.{HasBytes}
-use Rattle.cf_watch.specs.Flow.{AreFlowsOf, IsFlowOf}
-use Rattle.cf_watch.specs.FlowValue.{FlowValue}
-use Rattle.cf_watch.specs.Watched.{Watched, watched}
-use Rattle.cf_watch.specs.declared.Conflict.{Conflict}
 use Rattle.cf_unobjected.specs.ShortestFront.{FrontsAreJudged, HasObjection, ObjectionsAreOfShortestFronts, within}
 use Rattle.cf_unobjected.proofs.FlowFront.{flow_front, record_of}
 use Rattle.cf_unobjected.proofs.FlowFronts.{AreAfter, AreFronts, IsFrontOf, are_fronts}

@@ -1,26 +1,19 @@
 -- Flows to assets of a policy have a judgement.
 use Rattle.std.proofs.Common.{◌≡◌, ◌<◌, ◌-◌, ◌+◌, ℕ, zero, suc, List, [], ◌∷◌, ◌++◌, length, map, take, drop, slice_index, None, Result, Ok, Err, refl, sym, ap, subst, inl, inr, arith, length-drop}
-use Rattle.std.specs.List.{AllByRecursion}
+use Rattle.cf_unobjected.proofs.Common.{Adu, AduValue, AllByRecursion, Apdu, AreRead, AreReadBy, Asset, Breaks, Ending, FlowValue, Frame, HasCommandFate, HasPlainFate, IsReadBy, Judged, Protocol, Reading, SpellsUnit, UnitValue, Whole, commands_in, completed_in, fate_by_asdu, objection_to, of_its_acts, of_no_form, of_other_station, verdict_of}
 use Rattle.std.proofs.lemmas.Bool.{cases_eq}
 use Rattle.std.proofs.lemmas.List.{get_or-drop}
 use Rattle.std.proofs.lemmas.Option.{slice_get_cases}
-use Rattle.cf_judge.specs.Objections.{AreReadBy, IsReadBy, Reading, commands_in, objection_to}
-use Rattle.cf_judge.specs.Plain.{AreRead, Breaks, Ending, HasPlainFate, Whole, completed_in, fate_by_asdu, frame_fate}
+use Rattle.cf_judge.specs.Plain.{frame_fate}
 use Rattle.cf_lane.proofs.Units.{front_unit}
-use Rattle.cf_lane.specs.Judged.{Judged}
-use Rattle.cf_lane.specs.Modbus.{HasCommandFate, of_its_acts, of_no_form, of_other_station}
-use Rattle.cf_lane.specs.Unit.{Adu, Apdu, Frame, SpellsUnit, UnitValue, unit_break}
+use Rattle.cf_lane.specs.Unit.{unit_break}
 use Rattle.cf_lane.specs.declared.Fate.{Fate}
-use Rattle.cf_modbus.specs.Adu.{AduValue}
 use Rattle.cf_modbus.specs.Request.{Reads, RequestValue}
 use Rattle.cf_modbus.specs.declared.RequestRefusal.{RequestRefusal}
-use Rattle.cf_policy.specs.Verdict.{verdict_of}
-use Rattle.cf_policy.specs.declared.Asset.{Asset}
-use Rattle.cf_policy.specs.declared.Protocol.{Protocol}
-use Rattle.cf_policy.specs.declared.Protocol.TheVariants as protocol
 use Rattle.cf_view.specs.Octets.{IsOctets}
-use Rattle.cf_watch.specs.FlowValue.{FlowValue, IsForAsset}
+use Rattle.cf_watch.specs.FlowValue.{IsForAsset}
 use Rattle.cf_unobjected.specs.OneJudgement.{FlowsAreJudged}
+use Rattle.cf_policy.specs.declared.Protocol.TheVariants as protocol
 
 pdu_octets : (p : Protocol) (a : AduValue) (xs : List ℕ) → SpellsUnit p (Adu a) xs → IsOctets a.pdu
 pdu_octets protocol.Modbus a xs s = s.pdu

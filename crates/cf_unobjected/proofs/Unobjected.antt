@@ -1,20 +1,9 @@
 -- Units of a beginning of the stream to a controller, read by a judge.
 use Rattle.std.proofs.Common.{◌≡◌, ◌<◌, ◌-◌, ◌∙◌, ◌++◌, ℕ, List, [], ◌∷◌, true, None, length, drop, slice_index, option_map, zero, suc, arith, refl, sym, ap, subst}
-use Rattle.std.specs.Option.{option_or}
-use Rattle.std.proofs.lemmas.Bool.{false≢true}
+use Rattle.cf_unobjected.proofs.Common.{AreRead, Asset, Begins, Fate, HasPlainFate, IsPartial, Judged, Protocol, SpellsUnit, UnitValue, append-nil, complaint_of, completed_in, false≢true, first_wrong, goes_on, option_or, wrong}
 use Rattle.cf_lane.proofs.Units.{free_unit, nothing_unit}
-use Rattle.std.proofs.lemmas.List.{append-nil}
-use Rattle.cf_judge.specs.Objections.{first_wrong, wrong}
-use Rattle.cf_judge.specs.Ruling.{complaint_of}
-use Rattle.cf_judge.specs.Plain.{AreRead, HasPlainFate, completed_in}
-use Rattle.cf_judge.specs.Plain as plain
-use Rattle.cf_lane.specs.Judged.{Judged, goes_on}
-use Rattle.cf_lane.specs.Unit.{SpellsUnit, UnitValue}
-use Rattle.cf_policy.specs.declared.Asset.{Asset}
-use Rattle.cf_policy.specs.declared.Protocol.{Protocol}
-use Rattle.cf_view.specs.Framing.{Begins, IsPartial}
 use Rattle.cf_view.specs.Units.{BeginsWithUnits}
-use Rattle.cf_lane.specs.declared.fate.Fate.{Fate}
+use Rattle.cf_judge.specs.Plain as plain
 use Rattle.cf_lane.specs.declared.fate.Fate.TheVariants as fate
 
 -- a unit has an octet

@@ -1,7 +1,6 @@
 -- What comes with one of the first records, of options that say with which record they come.
 use Rattle.std.proofs.Common.{◌≡◌, ◌<◌, ◌≤◌, ℕ, true, false, if◌then◌else◌, nat_le, nat_lt, Option, None, Some, option_map, refl, sym, arith, inl, inr}
-use Rattle.std.proofs.lemmas.Bool.{cases_lt}
-use Rattle.std.proofs.lemmas.Bool.Decides.{nat_tests}
+use Rattle.cf_unobjected.proofs.Common.{cases_lt, nat_tests}
 
 module _ {A : Type 0} (number : A → ℕ) (n : ℕ) where
   abbrev pub kept : Option A → Option A

@@ -1,14 +1,9 @@
--- Steps of the proof: what is let through to a controller is nothing that a judge would object to: `PassedAreRight`.
-use Rattle.cf_lane.specs.Caller.{Caller}
-use Rattle.std.specs.Prelude.{◌≡◌, ◌≤◌, ℕ, List, true, false, None, length}
-use Rattle.std.specs.List.{AllByRecursion}
-use Rattle.cf_decode.specs.Passed.{passed}
+-- Steps of the proof: what is let through to a controller is nothing that a judge would object to: `IsRightlyPassed`.
+use Rattle.std.specs.Prelude.{◌≡◌, ◌≤◌, ℕ, true, false, None, length}
 use Rattle.cf_decode.specs.Units.{Fragment, Passed, Whole}
 use Rattle.cf_judge.specs.Plain.{fate_by_asdu}
 use Rattle.cf_lane.specs.Dnp3.{fate_of_fragment, is_data, stray_of}
-use Rattle.cf_lane.specs.Follows.{AreJudged}
-use Rattle.cf_lane.specs.History.{Element}
-use Rattle.cf_lane.specs.Judged.{Judged, goes_on}
+use Rattle.cf_lane.specs.Judged.{goes_on}
 use Rattle.cf_lane.specs.Modbus.{HasCommandFate}
 use Rattle.cf_lane.specs.Unit.{Adu, Apdu, Frame}
 use Rattle.cf_policy.specs.Verdict.{verdict_of}
@@ -26,8 +21,3 @@ IsRightlyPassed asset client (Whole (Frame x)) = (stray_of asset side.Client x �
 IsRightlyPassed asset client (Whole (Apdu a)) = goes_on (fate_by_asdu asset client a) ≡ true
 IsRightlyPassed asset client (Fragment octets) =
     (2 ≤ length octets) × (length octets ≤ 2048) × (goes_on (fate_of_fragment asset (verdict_of asset client) side.Client octets) ≡ true)
-
-abbrev pub PassedAreRight : Type 0
-PassedAreRight =
-    (asset : Asset) (client : Caller) (h : List Element) (js : List Judged) → AreJudged asset client h js →
-    AllByRecursion (IsRightlyPassed asset client.address) (passed asset js)

@@ -1,57 +1,107 @@
--- The records of a capture that were watched so far.
-use Rattle.std.proofs.Common.{◌≡◌, ◌+◌, ◌≤◌, ℕ, suc, All, List, [], ◌∷◌, ◌++◌, ◌∙◌, ap, length, map, reverse, slice_get, Some, Ok, refl, sym, subst, arith}
+-- The records of a capture that were taken so far, behind those of the captures before.
+use Rattle.std.proofs.Common.{◌≡◌, ◌≤◌, ℕ, suc, All, List, [], ◌∷◌, ◌++◌, ◌∙◌, ◌^◌, ap, length, map, reverse, slice_get, Result, Some, Ok, Err, refl, vec_items, sym, subst, arith}
 use Rattle.std.specs.List.{AllByRecursion}
-use Rattle.std.proofs.lemmas.List.{map-append, reverse-append}
-use Rattle.std.proofs.lemmas.List.Elements.{All-from_recursion, All-nil}
+use Rattle.std.proofs.lemmas.List.{reverse-append, reverse-reverse}
+use Rattle.std.proofs.lemmas.List.Elements.{All-from_recursion}
+use Rattle.std.proofs.lemmas.Result.{IfOk-weaker}
+use Rattle.std.specs.Prelude.{IfOk}
 use Rattle.cf_outside.specs.Files.{Content, IsAtEnd}
 use Rattle.cf_policy.specs.declared.Asset.{Asset}
 use Rattle.cf_records.proofs.Behind.{StandsBehind}
-use Rattle.cf_records.specs.Capture.{AtPlace, FileEnd, IsLast, Record}
+use Rattle.cf_records.specs.Capture.{AtPlace, FileEnd, IsLast, Large, Record}
 use Rattle.cf_records.specs.Form.{first_place}
 use Rattle.cf_records.specs.Reader.{FindsRecord, HasFormIn, ReaderValue}
 use Rattle.cf_records.specs.declared.Form.{Form}
-use Rattle.cf_records.specs.declared.Form.TheVariants as form
 use Rattle.cf_records.specs.declared.NextRecord.TheVariants as next
+use Rattle.cf_view.specs.declared.LinkSet.TheVariants as set
 use Rattle.cf_watch.specs.Flow.{AreFlowsOf}
-use Rattle.cf_watch.specs.FlowValue.{AreStretchesFor, FlowValue, IsForAsset, StretchValue, flow_value}
+use Rattle.cf_watch.specs.FlowValue.{AreStretchesFor, IsForAsset, StretchValue, flow_value, stretch_value}
+use Rattle.cf_watch.specs.Recorded.{IsCaptureIn, IsReadTo, IsRecordingOf, StopsAs, large_by}
+use Rattle.cf_watch.specs.Recorder.{HasRecorded, IsRecorderFor, IsRecorderOf}
 use Rattle.cf_watch.specs.Trail.{IsHeard, IsWatchOf}
 use Rattle.cf_watch.specs.Seen.{seen_by}
-use Rattle.cf_watch.specs.Watch.{EndsAt, IsRecordingFor, kinds_by, stretches_by}
+use Rattle.cf_watch.specs.Stretches.{all_stretches}
+use Rattle.cf_watch.specs.Watch.{HasFlows, kinds_by}
 use Rattle.cf_watch.specs.Watched.{Watched}
+use Rattle.cf_watch.specs.declared.fault.TheConstants.{CAPTURE_LIMIT}
+use Rattle.cf_watch.specs.declared.fault.WatchFault.TheVariants as fault
+use Rattle.cf_watch.specs.declared.recorder.Recorder.{Recorder}
 use Rattle.cf_watch.specs.declared.scope.Scope.{Scope}
 use Rattle.cf_watch.specs.declared.scope.Scope.TheVariants as scope
-use Rattle.cf_watch.specs.declared.fault.TheConstants.{CAPTURE_LIMIT}
 use Rattle.cf_watch.specs.declared.flow.Flow.{Flow}
+use Rattle.cf_watch.specs.declared.flow.Recording.{Recording}
 use Rattle.cf_watch.specs.declared.watching.Trail.{Trail}
-use Rattle.cf_watch.specs.declared.watching.Watch.{Watch}
 use Rattle.cf_watch.proofs.ForAssets.{are_for_seen}
+use Rattle.cf_watch.proofs.Seen.{watched_is_seen}
 use Rattle.cf_watch.proofs.StretchFlows.{stretches_are_for}
+use Rattle.cf_watch.proofs.Lengths.{large_is_long}
 use Rattle.cf_watch.proofs.Leading.{Leads, leads_first, leads_on, leads_to}
 
--- these records stand in front of a reader's place, the newest first, and their flows and stamps are kept
-pub record SoFar (scope : Scope) (assets : List Asset) (file : Content) (start : Form) (reader : ReaderValue) (number : ℕ) (watch : Watch) (stamps : List ℕ) : Type 0 where
-  pub has_form : HasFormIn (kinds_by scope) file (Ok start)
+-- ---- records, one after the other
+
+-- these records of a file stand in front of a reader's place, the newest first, and were taken behind those before
+pub record SoFar (by : Scope) (assets : List Asset) (file : Content) (start : Form) (reader : ReaderValue) (old now : Recorder) : Type 0 where
+  pub has_form : HasFormIn (kinds_by by) file (Ok start)
   pub newest : List Record
   pub leads : Leads file start reader.form reader.place (reverse newest)
-  pub heard : IsWatchOf number watch (seen_by scope assets newest)
-  pub count : length newest ≡ number
-  pub stamped : stamps ≡ map (λ r. r.stamp) (reverse newest)
+  pub more : (earlier : List Record) → IsRecorderFor by assets earlier old → IsRecorderFor by assets (newest ++ earlier) now
 
-pub so_far_first : (scope : Scope) (assets : List Asset) (file : Content) (reader : ReaderValue) (watch : Watch) (stamps : List ℕ) → HasFormIn (kinds_by scope) file (Ok reader.form) → reader.place ≡ first_place reader.form → IsWatchOf 0 watch [] →
-    stamps ≡ [] → SoFar scope assets file reader.form reader 0 watch stamps
-so_far_first scope assets file reader watch stamps h first heard none = record {
+pub so_far_first : (by : Scope) (assets : List Asset) (file : Content) (reader : ReaderValue) (old : Recorder) → HasFormIn (kinds_by by) file (Ok reader.form) → reader.place ≡ first_place reader.form →
+    SoFar by assets file reader.form reader old old
+so_far_first by assets file reader old h first = record {
   has_form = h;
   newest = [];
-  leads = subst (λ n. Leads file reader.form reader.form n []) (sym first) (leads_first (kinds_by scope) file reader.form h);
-  heard = heard;
-  count = refl;
-  stamped = none;
+  leads = subst (λ n. Leads file reader.form reader.form n []) (sym first) (leads_first (kinds_by by) file reader.form h);
+  more = λ earlier is. is;
 }
 
--- the first place is below the limit
-pub first_low : (f : Form) (place : ℕ) → place ≡ first_place f → place ≤ CAPTURE_LIMIT
-first_low (form.Classic h) place e = omega (arith, e)
-first_low (form.Blocks section) place e = omega (arith, e)
+module _ {by : Scope} {assets : List Asset} {file : Content} {start : Form} {reader : ReaderValue} {old now : Recorder} (so : SoFar by assets file start reader old now) where
+  -- one more
+  pub so_far_on : (new_reader : ReaderValue) (stamp : ℕ) (new : Recorder) → FindsRecord file reader new_reader (next.Whole stamp) →
+      ((newest : List Record) → IsRecorderFor by assets newest now → IsRecorderFor by assets (record { stamp = stamp; link = new_reader.link; body = new_reader.body } ∷ newest) new) →
+      SoFar by assets file start new_reader old new
+  so_far_on new_reader stamp new found takes =
+      let r : Record = record { stamp = stamp; link = new_reader.link; body = new_reader.body } in
+      record {
+        has_form = so.has_form;
+        newest = r ∷ so.newest;
+        leads = subst (Leads file start new_reader.form new_reader.place) (sym (reverse-append (r ∷ []) so.newest)) (leads_on file start reader new_reader stamp (reverse so.newest) so.leads found);
+        more = λ earlier is. takes (so.newest ++ earlier) (so.more earlier is);
+      }
+
+  -- the records end here
+  pub read_to : (place : ℕ) (found : AtPlace) → StandsBehind file reader place found → IsLast found → IsReadTo (kinds_by by) file found place
+  read_to place found stands is = record {
+    form = start;
+    has_form = so.has_form;
+    records = reverse so.newest;
+    are_records = leads_to file start reader place (reverse so.newest) found so.leads stands is;
+  }
+
+  -- with the file
+  pub is_capture : (place : ℕ) → StandsBehind file reader place FileEnd → IsCaptureIn (kinds_by by) file (reverse so.newest)
+  is_capture place stands = record {
+    form = start;
+    has_form = so.has_form;
+    place = place;
+    are_records = leads_to file start reader place (reverse so.newest) FileEnd so.leads stands tt;
+  }
+
+module _ {assets : List Asset} {file : Content} {start : Form} {reader : ReaderValue} {old now : Recorder} where
+  -- they end below an octet at place 2^40
+  pub large_stops : {by : Scope} (so : SoFar by assets file start reader old now) (place : ℕ) → StandsBehind file reader place Large → place ≤ 2 ^ 40 →
+      StopsAs by file (fault.Refused (large_by by))
+  large_stops {by = scope.Connections} so place stands near = (refl, large_is_long file reader place CAPTURE_LIMIT stands near (omega arith))
+  large_stops {by = scope.Recording} so place stands near = (refl, (place, read_to so place Large stands tt))
+
+-- records behind others, each in the order of the captures
+pub taken_behind : (assets : List Asset) (old new : Recorder) (newest earlier : List Record) →
+    ((before : List Record) → IsRecorderFor scope.Recording assets before old → IsRecorderFor scope.Recording assets (newest ++ before) new) → IsRecorderOf assets earlier old →
+    IsRecorderOf assets (earlier ++ reverse newest) new
+taken_behind assets old new newest earlier more is =
+    subst (λ rs. IsRecorderFor scope.Recording assets rs new) (sym (reverse-append earlier (reverse newest) ∙ ap (λ rs. rs ++ reverse earlier) (reverse-reverse newest))) (more (reverse earlier) is)
+
+-- ---- the flows of what was taken
 
 -- the flows of a watch
 are_flows : (ws : List Watched) (fs : List Flow) (ts : List Trail) → length fs ≡ length ws → length ts ≡ length ws →
@@ -62,60 +112,64 @@ are_flows (w ∷ ws) [] ts a b each = absurd (omega (arith, a))
 are_flows (w ∷ ws) (f ∷ fs) [] a b each = absurd (omega (arith, b))
 are_flows (w ∷ ws) (f ∷ fs) (t ∷ ts) a b each = ((each 0 f t w refl refl refl).flow, are_flows ws fs ts (omega (arith, a)) (omega (arith, b)) (λ i g u v x y z. each (suc i) g u v x y z))
 
-by_scope : (scope : Scope) (assets : List Asset) (ws : List Watched) (flows : List FlowValue) → AllByRecursion (IsForAsset assets) flows →
-    AreStretchesFor assets (stretches_by scope ws flows)
-by_scope scope.Connections assets ws flows h = All-nil (IsForAsset assets)
-by_scope scope.Recording assets ws flows h = stretches_are_for assets ws flows h
+module _ (by : Scope) (assets : List Asset) (newest : List Record) (r : Recorder) (is : IsRecorderFor by assets newest r) where
+  pub flows_now : AreFlowsOf (seen_by by assets newest) (map flow_value r.watch.flows.items)
+  flows_now = are_flows (seen_by by assets newest) r.watch.flows.items r.watch.trails.items is.heard.flow_count is.heard.trail_count is.heard.each
 
-module _ {scope : Scope} {assets : List Asset} {file : Content} {start : Form} {reader : ReaderValue} {number : ℕ} {watch : Watch} {stamps : List ℕ} (so : SoFar scope assets file start reader number watch stamps) where
-  pub so_far_on : (new_reader : ReaderValue) (stamp : ℕ) (new : Watch) (new_stamps : List ℕ) → FindsRecord file reader new_reader (next.Whole stamp) →
-      IsWatchOf (number + 1) new (seen_by scope assets (record { stamp = stamp; link = new_reader.link; body = new_reader.body } ∷ so.newest)) → new_stamps ≡ stamps ++ stamp ∷ [] →
-      SoFar scope assets file start new_reader (number + 1) new new_stamps
-  so_far_on new_reader stamp new new_stamps found heard more =
-      let r : Record = record { stamp = stamp; link = new_reader.link; body = new_reader.body } in
-      record {
-        has_form = so.has_form;
-        newest = r ∷ so.newest;
-        leads = subst (Leads file start new_reader.form new_reader.place) (sym (reverse-append (r ∷ []) so.newest)) (leads_on file start reader new_reader stamp (reverse so.newest) so.leads found);
-        heard = heard;
-        count = let c = so.count in omega (arith, c);
-        stamped = more ∙ ap (λ xs. xs ++ stamp ∷ []) so.stamped ∙ sym (map-append (λ (x : Record). x.stamp) (reverse so.newest) (r ∷ []))
-            ∙ ap (map (λ (x : Record). x.stamp)) (sym (reverse-append (r ∷ []) so.newest));
-      }
+  flows_for : AllByRecursion (IsForAsset assets) (map flow_value r.watch.flows.items)
+  flows_for = are_for_seen by assets newest (map flow_value r.watch.flows.items) flows_now
 
-  -- the records end here
-  abbrev pub ends_at : (place : ℕ) (found : AtPlace) → IsAtEnd file CAPTURE_LIMIT → StandsBehind file reader place found → IsLast found → EndsAt (kinds_by scope) file found place
-  ends_at place found short stands is = record {
-    short = short;
-    form = start;
-    has_form = so.has_form;
-    records = reverse so.newest;
-    are_records = leads_to file start reader place (reverse so.newest) found so.leads stands is;
-  }
+  pub for_assets : All (IsForAsset assets) (map flow_value r.watch.flows.items)
+  for_assets = All-from_recursion (IsForAsset assets) (map flow_value r.watch.flows.items) flows_for
 
-  flows_now : AreFlowsOf (seen_by scope assets so.newest) (map flow_value watch.flows.items)
-  flows_now = are_flows (seen_by scope assets so.newest) watch.flows.items watch.trails.items so.heard.flow_count so.heard.trail_count so.heard.each
+  pub for_assets_too : (stretches : List StretchValue) → stretches ≡ all_stretches (seen_by by assets newest) (map flow_value r.watch.flows.items) → AreStretchesFor assets stretches
+  for_assets_too stretches same =
+      subst (AreStretchesFor assets) (sym same) (stretches_are_for assets (seen_by by assets newest) (map flow_value r.watch.flows.items) flows_for)
 
-  pub is_recording : (place : ℕ) (flows : List FlowValue) (stretches : List StretchValue) → IsAtEnd file CAPTURE_LIMIT → StandsBehind file reader place FileEnd →
-      flows ≡ map flow_value watch.flows.items → stretches ≡ stretches_by scope (seen_by scope assets so.newest) (map flow_value watch.flows.items) →
-      IsRecordingFor scope assets file flows stretches stamps
-  is_recording place flows stretches short stands same others = record {
-    newest = so.newest;
-    place = place;
-    ends = ends_at place FileEnd short stands tt;
-    are_newest = refl;
-    are_flows = subst (AreFlowsOf (seen_by scope assets so.newest)) (sym same) flows_now;
-    are_stretches = others ∙ ap (stretches_by scope (seen_by scope assets so.newest)) (sym same);
-    are_stamps = so.stamped;
-  }
+-- those of a recording
+pub is_recording : (assets : List Asset) (records : List Record) (r : Recorder) (stretches : List StretchValue) → IsRecorderOf assets records r →
+    stretches ≡ all_stretches (seen_by scope.Recording assets (reverse records)) (map flow_value r.watch.flows.items) →
+    IsRecordingOf assets records (map flow_value r.watch.flows.items) stretches r.stamps.items
+is_recording assets records r stretches is others = record {
+  are_flows = flows_now scope.Recording assets (reverse records) r is;
+  are_stretches = others;
+  are_stamps = is.stamped refl ∙ ap (map (λ (x : Record). x.stamp)) (reverse-reverse records);
+}
 
-  flows_for : AllByRecursion (IsForAsset assets) (map flow_value watch.flows.items)
-  flows_for = are_for_seen scope assets so.newest (map flow_value watch.flows.items) flows_now
+-- those of connections
+pub has_flows : (assets : List Asset) (file : Content) (newest : List Record) (r : Recorder) → IsAtEnd file CAPTURE_LIMIT → IsCaptureIn set.Plain file (reverse newest) →
+    IsRecorderFor scope.Connections assets newest r → HasFlows assets file (map flow_value r.watch.flows.items)
+has_flows assets file newest r short capture is = record {
+  newest = newest;
+  place = capture.place;
+  ends = record { short = short; form = capture.form; has_form = capture.has_form; records = reverse newest; are_records = capture.are_records };
+  are_newest = refl;
+  are_flows = subst (λ ws. AreFlowsOf ws (map flow_value r.watch.flows.items)) (sym (watched_is_seen assets newest)) (flows_now scope.Connections assets newest r is);
+}
 
-  pub for_assets : (flows : List FlowValue) → flows ≡ map flow_value watch.flows.items → All (IsForAsset assets) flows
-  for_assets flows same = subst (All (IsForAsset assets)) (sym same) (All-from_recursion (IsForAsset assets) (map flow_value watch.flows.items) flows_for)
+-- what is made of all that was kept
+module _ {E : Type 0} (self : Recorder) (r : Result Recording E) where
+  abbrev KeepsStretches : Recording → Type 0
+  KeepsStretches x = (number : ℕ) (ws : List Watched) → IsWatchOf number self.watch ws → map stretch_value x.stretches.items ≡ all_stretches ws (map flow_value self.watch.flows.items)
 
-  pub for_assets_too : (stretches : List StretchValue) → stretches ≡ stretches_by scope (seen_by scope assets so.newest) (map flow_value watch.flows.items) →
-      AreStretchesFor assets stretches
-  for_assets_too stretches is =
-      subst (AreStretchesFor assets) (sym is) (by_scope scope assets (seen_by scope assets so.newest) (map flow_value watch.flows.items) flows_for)
+  pub finished : IfOk r (λ x. x.flows ≡ self.watch.flows) → IfOk r (λ x. x.stamps ≡ self.stamps) → IfOk r KeepsStretches →
+      IfOk r (λ x. (assets : List Asset) (records : List Record) → IsRecorderOf assets records self → IsRecordingOf assets records (map flow_value x.flows.items) (map stretch_value x.stretches.items) x.stamps.items)
+  finished flows stamps others = made r flows stamps others
+    where
+      made : (r : Result Recording E) → IfOk r (λ x. x.flows ≡ self.watch.flows) → IfOk r (λ x. x.stamps ≡ self.stamps) → IfOk r KeepsStretches →
+          IfOk r (λ x. (assets : List Asset) (records : List Record) → IsRecorderOf assets records self → IsRecordingOf assets records (map flow_value x.flows.items) (map stretch_value x.stretches.items) x.stamps.items)
+      made (Ok x) flows stamps others = λ assets records is.
+          subst (λ fs. IsRecordingOf assets records fs (map stretch_value x.stretches.items) x.stamps.items) (ap (λ fs. map flow_value (vec_items fs)) (sym flows))
+          (subst (λ ss. IsRecordingOf assets records (map flow_value self.watch.flows.items) (map stretch_value x.stretches.items) ss) (ap (λ ss. vec_items ss) (sym stamps))
+          (is_recording assets records self (map stretch_value x.stretches.items) is (others self.count (seen_by scope.Recording assets (reverse records)) is.heard)))
+      made (Err e) flows stamps others = flows
+
+  pub finished_for : IfOk r (λ x. x.flows ≡ self.watch.flows) → IfOk r (λ x. (assets : List Asset) → HasRecorded assets self → All (IsForAsset assets) (map flow_value x.flows.items))
+  finished_for flows = IfOk-weaker r (λ x. x.flows ≡ self.watch.flows) (λ x. (assets : List Asset) → HasRecorded assets self → All (IsForAsset assets) (map flow_value x.flows.items))
+      (λ x same assets has.
+      subst (All (IsForAsset assets)) (ap (λ fs. map flow_value (vec_items fs)) (sym same)) (for_assets scope.Recording assets (reverse has.0) self has.1)) flows
+
+  pub finished_for_too : IfOk r KeepsStretches → IfOk r (λ x. (assets : List Asset) → HasRecorded assets self → AreStretchesFor assets (map stretch_value x.stretches.items))
+  finished_for_too others = IfOk-weaker r KeepsStretches (λ x. (assets : List Asset) → HasRecorded assets self → AreStretchesFor assets (map stretch_value x.stretches.items))
+      (λ x keeps assets has.
+      for_assets_too scope.Recording assets (reverse has.0) self has.1 (map stretch_value x.stretches.items) (keeps self.count (seen_by scope.Recording assets (reverse has.0)) has.1.heard)) others

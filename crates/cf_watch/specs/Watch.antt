@@ -1,5 +1,5 @@
 -- What a watcher answers about a capture file: WatchesAs.
-use Rattle.std.specs.Prelude.{◌≡◌, ℕ, List, [], map, reverse, drop, Result, Ok, Err}
+use Rattle.std.specs.Prelude.{◌≡◌, ℕ, List, reverse, drop, Result, Ok, Err}
 use Rattle.cf_outside.specs.Files.{Content, IsAtEnd, IsLongerThan, absent, holds, untold}
 use Rattle.cf_policy.specs.declared.Asset.{Asset}
 use Rattle.cf_records.specs.Capture.{AreRecords, AtPlace, Cut, FileEnd, LastPlace, Record, Refused, TooLong}
@@ -9,10 +9,8 @@ use Rattle.cf_view.specs.declared.LinkSet.{LinkSet}
 use Rattle.cf_view.specs.declared.LinkSet.TheVariants as set
 use Rattle.cf_records.specs.declared.Form.{Form}
 use Rattle.cf_watch.specs.Flow.{AreFlowsOf}
-use Rattle.cf_watch.specs.FlowValue.{FlowValue, StretchValue}
-use Rattle.cf_watch.specs.Seen.{seen_by}
-use Rattle.cf_watch.specs.Stretches.{all_stretches}
-use Rattle.cf_watch.specs.Watched.{Watched, watched}
+use Rattle.cf_watch.specs.FlowValue.{FlowValue}
+use Rattle.cf_watch.specs.Watched.{watched}
 use Rattle.cf_watch.specs.declared.fault.TheConstants.{CAPTURE_LIMIT}
 use Rattle.cf_watch.specs.declared.fault.WatchFault.{WatchFault}
 use Rattle.cf_watch.specs.declared.fault.WatchFault.TheVariants as fault
@@ -47,27 +45,6 @@ pub record HasFlows (assets : List Asset) (file : Content) (flows : List FlowVal
   pub are_newest : ends.records ≡ reverse newest
   pub are_flows : AreFlowsOf (watched assets newest) flows
 
--- what is told besides of what does not follow on the first bytes of flows: for a review all of it
-abbrev pub stretches_by : Scope → List Watched → List FlowValue → List StretchValue
-stretches_by scope.Connections ws flows = []
-stretches_by scope.Recording ws flows = all_stretches ws flows
-
--- the flows of all records of a file, as a scope says, their other stretches, and of the same records the stamps in microseconds, in the
--- order of the file
-pub record IsRecordingFor (scope : Scope) (assets : List Asset) (file : Content) (flows : List FlowValue) (stretches : List StretchValue)
-    (stamps : List ℕ) : Type 0 where
-  pub newest : List Record
-  pub place : ℕ
-  pub ends : EndsAt (kinds_by scope) file FileEnd place
-  pub are_newest : ends.records ≡ reverse newest
-  pub are_flows : AreFlowsOf (seen_by scope assets newest) flows
-  pub are_stretches : stretches ≡ stretches_by scope (seen_by scope assets newest) flows
-  pub are_stamps : stamps ≡ map (λ r. r.stamp) ends.records
-
--- the flows of a recording
-abbrev pub IsRecordingOf : List Asset → Content → List FlowValue → List StretchValue → (stamps : List ℕ) → Type 0
-IsRecordingOf assets file flows stretches stamps = IsRecordingFor scope.Recording assets file flows stretches stamps
-
 -- why a file of these link types is not watched to its end, as far as it is told
 abbrev pub FailsAs : LinkSet → Content → WatchFault → Type 0
 FailsAs kinds file (fault.Cut at) = EndsAt kinds file Cut at
@@ -75,6 +52,7 @@ FailsAs kinds file (fault.Refused refusal.TooLong) = (place : ℕ) × EndsAt kin
 FailsAs kinds file (fault.Refused (refusal.Block of)) = (place : ℕ) × EndsAt kinds file (Refused of) place
 FailsAs kinds file (fault.Refused (refusal.Header of)) = IsAtEnd file CAPTURE_LIMIT × HasFormIn kinds file (Err of)
 FailsAs kinds file (fault.Refused refusal.Long) = IsLongerThan file CAPTURE_LIMIT
+FailsAs kinds file (fault.Refused refusal.Large) = ⊥
 FailsAs kinds file fault.Read = Unit {0}
 FailsAs kinds file fault.NoMemory = Unit {0}
 

@@ -16,8 +16,8 @@ pub(crate) struct Piece {
 }
 
 /// For each byte of a flow the number, counted from 1, of the record with which the bytes reached it. Contracts see the list of these
-/// numbers; memory has 8 octets for each run of bytes with one number. It holds at most 2^32 - 1 of them, which no capture of
-/// `CAPTURE_LIMIT` octets has. This project's own.
+/// numbers; memory has 8 octets for each run of bytes with one number. It holds at most 2^32 - 1 of them: one more
+/// is answered as want of memory. This project's own.
 #[derive(Drop)]
 pub struct Born {
     pieces: Vec<Piece>,

@@ -2,13 +2,13 @@
 
 use cf_records::{BlockRefusal, FormRefusal, OpenFault};
 
-/// How many octets a capture that is watched has at most: 64 MiB. This project's own.
+/// How many octets a capture whose connections are watched has at most: 64 MiB. One of a recording may have more. This project's own.
 pub const CAPTURE_LIMIT: u64 = 67_108_864;
 
 /// Why a capture is refused.
 #[derive(Clone, Copy)]
 pub enum WatchRefusal {
-    /// It has more octets than `CAPTURE_LIMIT`. This is tested before its header.
+    /// Its connections are watched, and it has more octets than `CAPTURE_LIMIT`. This is tested before its header.
     Long,
     /// By its header, or its first section header.
     Header(FormRefusal),
@@ -16,6 +16,8 @@ pub enum WatchRefusal {
     Block(BlockRefusal),
     /// By the captured length of a record, which is above `CAPTURED_LIMIT`.
     TooLong,
+    /// An octet of a record or a block of a recording stands at place 2^40 or above.
+    Large,
 }
 
 /// Why a capture was not watched to its end.

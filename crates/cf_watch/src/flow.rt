@@ -52,7 +52,9 @@ pub struct Stretch {
     pub gap: Option<i64>,
 }
 
-/// What a capture shows: its flows to the assets of a policy, in the order of their beginning, and the stamp of each record.
+/// What captures show that are read one behind the other: their flows to the assets of a policy, in the order of their beginning, also those
+/// whose beginning they do not have, and the stamp of each record. A flow without a SYN begins with its first packet with text that has
+/// neither SYN nor RST, and goes on up to the next SYN.
 #[derive(Drop)]
 pub struct Recording {
     pub flows: Vec<Flow>,

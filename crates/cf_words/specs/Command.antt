@@ -12,7 +12,7 @@ pub data Command : Type 0 where
   Learn : (policy capture out : List ℕ) → Command
   Migrate : (policy out : List ℕ) → Command
   Packets : (capture : List ℕ) → Command
-  Review : (policy capture log : List ℕ) → Command
+  Review : (policy : List ℕ) (captures : List (List ℕ)) (log : List ℕ) → Command
   Run : (policy : List ℕ) (names : RunNamesValue) → Command
   Relay : (policy asset : List ℕ) (port idles : ℕ) (log : List ℕ) → Command
   World : (seed sessions : ℕ) (policy : List ℕ) (names : RunNamesValue) → Command
@@ -27,7 +27,7 @@ policy_file (Judge policy capture) = Some policy
 policy_file (Learn policy capture out) = Some policy
 policy_file (Migrate policy out) = Some policy
 policy_file (Packets capture) = None
-policy_file (Review policy capture log) = Some policy
+policy_file (Review policy captures log) = Some policy
 policy_file (Run policy names) = Some policy
 policy_file (Relay policy asset port idles log) = Some policy
 policy_file (World seed sessions policy names) = None
@@ -47,13 +47,13 @@ asset_name (Judge policy capture) = None
 asset_name (Learn policy capture out) = None
 asset_name (Migrate policy out) = None
 asset_name (Packets capture) = None
-asset_name (Review policy capture log) = None
+asset_name (Review policy captures log) = None
 asset_name (Run policy names) = None
 asset_name (Relay policy asset port idles log) = Some asset
 asset_name (World seed sessions policy names) = None
 asset_name (Sift policy asset client names) = Some asset
 
--- the file from which it reads its one capture; a world has one that it makes itself, and a draft has a list of captures
+-- the file from which it reads its one capture; a world has one that it makes itself, and what is read as one recording has a list of captures
 abbrev pub capture_file : Command → Option (List ℕ)
 capture_file (Check policy) = None
 capture_file (Compare policy other) = None
@@ -62,11 +62,17 @@ capture_file (Judge policy capture) = Some capture
 capture_file (Learn policy capture out) = Some capture
 capture_file (Migrate policy out) = None
 capture_file (Packets capture) = Some capture
-capture_file (Review policy capture log) = Some capture
+capture_file (Review policy captures log) = None
 capture_file (Run policy names) = Some names.capture
 capture_file (Relay policy asset port idles log) = None
 capture_file (World seed sessions policy names) = None
 capture_file (Sift policy asset client names) = None
+
+-- the captures that it reads as one recording
+abbrev pub recording_files : Command → List (List ℕ)
+recording_files (Draft policy out captures) = captures
+recording_files (Review policy captures log) = captures
+recording_files _ = []
 
 -- the files that it reads: POLICY, the second policy, CAPTURE and STREAM
 abbrev pub input_files : Command → List (List ℕ)
@@ -77,7 +83,7 @@ input_files (Judge policy capture) = policy ∷ capture ∷ []
 input_files (Learn policy capture out) = policy ∷ capture ∷ []
 input_files (Migrate policy out) = policy ∷ []
 input_files (Packets capture) = capture ∷ []
-input_files (Review policy capture log) = policy ∷ capture ∷ []
+input_files (Review policy captures log) = policy ∷ captures
 input_files (Run policy names) = policy ∷ names.capture ∷ []
 input_files (Relay policy asset port idles log) = policy ∷ []
 input_files (World seed sessions policy names) = policy ∷ names.capture ∷ []
@@ -92,7 +98,7 @@ output_files (Judge policy capture) = []
 output_files (Learn policy capture out) = out ∷ []
 output_files (Migrate policy out) = out ∷ []
 output_files (Packets capture) = []
-output_files (Review policy capture log) = log ∷ []
+output_files (Review policy captures log) = log ∷ []
 output_files (Run policy names) = names.out ∷ names.log ∷ []
 output_files (Relay policy asset port idles log) = log ∷ []
 output_files (World seed sessions policy names) = policy ∷ names.capture ∷ names.out ∷ names.log ∷ []

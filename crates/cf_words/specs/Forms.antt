@@ -1,5 +1,5 @@
 -- The words behind the name of each command, and the command that they are: `check_of` and its like.
-use Rattle.std.specs.Prelude.{◌≢◌, ℕ, ◌-◌, ◌^◌, ◌≤◌, ◌&&◌, nat_le, List, [], ◌∷◌, length, Option, None, Some, if◌then◌else◌, option_and_then, option_map}
+use Rattle.std.specs.Prelude.{◌≢◌, ℕ, ◌-◌, ◌^◌, ◌≤◌, ◌&&◌, nat_le, Bool, List, [], ◌∷◌, length, Option, None, Some, if◌then◌else◌, option_and_then, option_map}
 use Rattle.cf_policylang.specs.Numbers.{address}
 use Rattle.cf_run.specs.RunCapture.{AreApart, RunNamesValue}
 use Rattle.cf_sift.specs.Names.{SiftNamesValue}
@@ -16,12 +16,13 @@ abbrev pub compare_of : List (List ℕ) → Option Command
 compare_of (policy ∷ other ∷ []) = if are_names (policy ∷ other ∷ []) then Some (Compare policy other) else None
 compare_of _ = None
 
+-- one to 64 captures
+abbrev pub are_few : List (List ℕ) → Bool
+are_few captures = nat_le 1 (length captures) && nat_le (length captures) 64
+
 -- the words after `draft`: the names of a policy, of the policy that is written, and of one to 64 captures
 abbrev pub draft_of : List (List ℕ) → Option Command
-draft_of (policy ∷ out ∷ captures) =
-    if nat_le 1 (length captures) && (nat_le (length captures) 64 && are_names (policy ∷ out ∷ captures)) then
-    Some (Draft policy out captures)
-    else None
+draft_of (policy ∷ out ∷ captures) = if are_few captures && are_names (policy ∷ out ∷ captures) then Some (Draft policy out captures) else None
 draft_of _ = None
 
 -- the words after `judge`: the names of a policy and of a capture
@@ -52,9 +53,22 @@ relay_of (policy ∷ asset ∷ port ∷ idles ∷ log ∷ []) =
     else None
 relay_of _ = None
 
--- the words after `review`: the names of a policy, of a capture and of a log
+-- of a word and those behind it the last one, and those before that
+abbrev pub last_word : (word : List ℕ) → (behind : List (List ℕ)) → List ℕ
+last_word word [] = word
+last_word word (next ∷ behind) = last_word next behind
+
+abbrev pub words_before : (word : List ℕ) → (behind : List (List ℕ)) → List (List ℕ)
+words_before word [] = []
+words_before word (next ∷ behind) = word ∷ words_before next behind
+
+-- a review of these captures, where each word is the name of a file
+abbrev pub review_command : (policy : List ℕ) → (captures : List (List ℕ)) → (log : List ℕ) → (words : List (List ℕ)) → Option Command
+review_command policy captures log words = if are_few captures && are_names words then Some (Review policy captures log) else None
+
+-- the words after `review`: the names of a policy, of one to 64 captures, and last of a log
 abbrev pub review_of : List (List ℕ) → Option Command
-review_of (policy ∷ capture ∷ log ∷ []) = if are_names (policy ∷ capture ∷ log ∷ []) then Some (Review policy capture log) else None
+review_of (policy ∷ word ∷ behind) = review_command policy (words_before word behind) (last_word word behind) (policy ∷ word ∷ behind)
 review_of _ = None
 
 -- a run of these files, where each word is the name of one

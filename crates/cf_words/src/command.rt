@@ -2,10 +2,8 @@
 ghost use Rattle.std.specs.Prelude.{◌≡◌, IfSome, map, option_map, string_bytes};
 ghost use Rattle.cf_words.specs.Words.{HasFitWords, command_of, command_value};
 
-use crate::draft::read_draft;
-use crate::files::{
-    read_check, read_compare, read_judge, read_learn, read_migrate, read_packets, read_review,
-};
+use crate::captures::{read_draft, read_review};
+use crate::files::{read_check, read_compare, read_judge, read_learn, read_migrate, read_packets};
 use crate::relay::read_relay;
 use crate::run::read_run;
 use crate::sift::read_sift;
@@ -51,10 +49,10 @@ pub enum Command<'a> {
     Packets {
         capture: &'a str,
     },
-    /// Write all that a policy objects to in a capture.
+    /// Write all that a policy objects to in 1 to `MOST_CAPTURES` captures.
     Review {
         policy: &'a str,
-        capture: &'a str,
+        captures: &'a [String],
         log: &'a str,
     },
     /// Run a policy over a capture.

@@ -1,6 +1,6 @@
 //! The words of the commands that name files alone.
 ghost use Rattle.std.specs.Prelude.{◌≡◌, IfSome, map, option_map, string_bytes};
-ghost use Rattle.cf_words.specs.Forms.{check_of, compare_of, judge_of, learn_of, migrate_of, packets_of, review_of};
+ghost use Rattle.cf_words.specs.Forms.{check_of, compare_of, judge_of, learn_of, migrate_of, packets_of};
 ghost use Rattle.cf_words.specs.Words.{HasFitWords, command_value};
 
 use crate::command::Command;
@@ -98,23 +98,4 @@ pub(crate) fn read_packets(words: &[String]) -> Option<Command<'_>>
         return None;
     }
     Some(Command::Packets { capture })
-}
-
-/// The words after `review`.
-pub(crate) fn read_review(words: &[String]) -> Option<Command<'_>>
-    ensures command { option_map command_value result ≡ review_of (map string_bytes words.now) }
-    ensures fit { IfSome result HasFitWords }
-{
-    let [policy, capture, log] = words else {
-        return None;
-    };
-    let (policy, capture, log) = (policy.as_str(), capture.as_str(), log.as_str());
-    if !are_names(&[policy, capture, log]) {
-        return None;
-    }
-    Some(Command::Review {
-        policy,
-        capture,
-        log,
-    })
 }

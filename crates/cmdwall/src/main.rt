@@ -90,16 +90,7 @@ fn run_box(
     } else {
         WRITE_FAULT
     };
-    let printed = str::from_utf8(out.last()).unwrap_or("");
-    explain(
-        rt,
-        words,
-        status,
-        printed,
-        told.as_ref(),
-        files,
-        pair.fault(),
-    );
+    explain(rt, words, told.as_ref(), status, files, pair.fault());
     status
 }
 

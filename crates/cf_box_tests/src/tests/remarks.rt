@@ -1,11 +1,11 @@
-//! What standard error says of work that was done, by what the program printed of it: `box_main` prints, over files of the machine, and
-//! `explain` reads that and the files, as in the program.
+//! What standard error says of work that was done, by how it ended: `box_main` tells that, over files of the machine, and `explain` is given
+//! it and the files, as in the program.
 
 use crate::tests::{field, same};
 use cf_box::box_main;
 use cf_help::{expect_files, explain};
-use cf_machine::{Gather, Printing, RealFiles, RealSink};
-use cf_outside::MemoryPair;
+use cf_machine::{Gather, RealFiles};
+use cf_outside::{MemoryPair, MemorySink};
 use cf_samples::rows::octets;
 use cf_words::read_words;
 use std::alloc::{Allocator, Global};
@@ -17,8 +17,8 @@ use std::rt::Files;
 use std::test::Fail;
 use std::{fs, io};
 
-/// A row has the words and the packets of the capture `c`, and then, by docs/COMMANDS.md and docs/RUN.md, the status, what was printed
-/// last, and what is said of it.
+/// A row has the words and the packets of the capture `c`, and then, by docs/COMMANDS.md and docs/RUN.md, the status, what was printed,
+/// and what is said of it.
 const ROWS: &str = "judge: no packet to the asset
 words: judge p c
 capture: X
@@ -123,6 +123,72 @@ words: packets c
 capture: S
 gives
 0 1 1.000000 10.0.0.5:49152 > 10.0.0.9:502 S seq 1000 ack 0 win 65535 len 0
+
+packets: a datagram before the last lines
+words: packets c
+capture: D S SA A F
+gives
+0 1 1.000000 dropped nottcp
+2 1.000000 10.0.0.5:49152 > 10.0.0.9:502 S seq 1000 ack 0 win 65535 len 0
+3 1.002000 10.0.0.9:502 > 10.0.0.5:49152 SA seq 5000 ack 1001 win 65535 len 0
+4 1.003000 10.0.0.5:49152 > 10.0.0.9:502 A seq 1001 ack 5001 win 65535 len 0
+5 1.004000 10.0.0.5:49152 > 10.0.0.9:502 FA seq 1001 ack 5001 win 65535 len 0
+cmdwall: note: 1 of 5 records dropped: no TCP, as UDP or ICMP; the first is record 1
+
+check: a policy
+words: check p
+capture: S
+gives
+0 ok 1 1
+
+check: a rule that an earlier one covers
+words: check q
+capture: S
+gives
+0 ok 1 2
+cmdwall: q:13:1: warning: asset 1 \"pump\", rule 2 \"one\": it decides nothing: rule 1 \"set\" stands before it and has all that it has
+
+check: no policy
+words: check c
+capture: S
+gives
+5 policy refused 1 - asset 0 rule 0
+cmdwall: c: it begins as a capture does, and a policy is a text
+  in the words of a command POLICY stands before CAPTURE, as cmdwall judge POLICY CAPTURE
+
+compare: an act beyond
+words: compare q p
+capture: S
+gives
+15 no pump client 0.0.0.0 code 6 group 0 point 50 value -
+cmdwall: q:8:1: asset 1 \"pump\", rule 1 \"set\" allows code 6 (write single register), group 0, point 50, without a value from 0.0.0.0
+  p: asset 1 \"pump\": no allow rule with its client, code and group has the point, so default refuses it
+  no command has this act: a comparison goes over all numbers that rules can name
+  the first that a command has:
+q:8:1: asset 1 \"pump\", rule 1 \"set\" allows code 6 (write single register), group 0, point 50, value 0 from 0.0.0.0
+  p: asset 1 \"pump\": no allow rule with its client, code and group has the point, so default refuses it
+
+compare: included
+words: compare p q
+capture: S
+gives
+0 included
+
+compare: the second is no policy
+words: compare p c
+capture: S
+gives
+5 policy refused 1 - asset 0 rule 0
+cmdwall: c: it begins as a capture does, and a policy is a text
+  in the words of a command POLICY stands before CAPTURE, as cmdwall judge POLICY CAPTURE
+
+sift: no asset of the name
+words: sift p pomp 10.0.0.5 c o r l
+capture: S
+gives
+10 unknown asset
+cmdwall: p: it has no asset \"pomp\"; did you mean pump?
+  it has pump
 
 run: a session that closes
 words: run p c o l
@@ -246,6 +312,26 @@ codes = [6]
 points = [\"40..49\"]
 ";
 
+/// The same with a point more, and a rule that the other covers.
+const WIDER: &str = "version = 1
+[[asset]]
+name = \"pump\"
+address = \"10.0.0.9\"
+port = 502
+protocol = \"modbus\"
+station = 1
+[[asset.rule]]
+name = \"set\"
+action = \"allow\"
+codes = [6]
+points = [\"40..50\"]
+[[asset.rule]]
+name = \"one\"
+action = \"allow\"
+codes = [6]
+points = [\"45\"]
+";
+
 /// The packets of a client, 10.0.0.5:49152, and of the controller to it, each with its checksums (RFC 791, RFC 9293): the opening, an
 /// allowed write and a refused one, both FINs and the last ACK, a reset, an ACK to port 503, and a datagram of UDP.
 const PACKETS: &str = "\
@@ -279,9 +365,23 @@ struct Machine<'a> {
     rt: &'a HostRuntime,
     folder: String,
     said: RefCell<String>,
+    /// The policies that were opened, in their order.
+    opened: RefCell<String>,
 }
 
 impl Machine<'_> {
+    /// Notes that a file is opened.
+    fn note(&self, name: &str) -> io::Result<()> {
+        if !is_policy(name) {
+            return Ok(());
+        }
+        let Ok(mut opened) = self.opened.try_borrow_mut() else {
+            return unasked();
+        };
+        opened.push_str(name)?;
+        Ok(())
+    }
+
     /// Where a file of this name lies.
     fn place_of(&self, name: &str) -> io::Result<String> {
         Ok(format!(in self.rt.alloc(); "{}/{name}", self.folder)?)
@@ -313,6 +413,10 @@ impl Eprint for Machine<'_> {
     }
 }
 
+fn is_policy(name: &str) -> bool {
+    name == "p" || name == "q"
+}
+
 /// What no command asks of the machine.
 fn unasked<T>() -> io::Result<T> {
     Err(io::Error::from(io::ErrorKind::Unsupported))
@@ -324,6 +428,7 @@ impl Files for Machine<'_> {
     type Dir = <HostRuntime as Files>::Dir;
 
     fn open_file(&self, how: &OpenOptions, path: &str) -> io::Result<Self::File> {
+        self.note(path)?;
         self.rt.open_file(how, self.place_of(path)?.as_str())
     }
 
@@ -431,7 +536,7 @@ fn words_of(alloc: Global, given: &str) -> Result<Vec<String>, Fail> {
     Ok(words)
 }
 
-/// The status of words, what they print last, and what is said of it.
+/// The status of words, what they print, and what is said of it.
 fn told(machine: &Machine<'_>, words: &[String]) -> Result<String, Fail> {
     let alloc = machine.alloc();
     let mut files = RealFiles::new(machine, alloc, Gather::Pieces);
@@ -439,27 +544,20 @@ fn told(machine: &Machine<'_>, words: &[String]) -> Result<String, Fail> {
         Some(command) => expect_files(&command, &mut files).is_ok(),
         None => false,
     };
-    let mut out = RealSink::new(io::sink(), Printing::AtOnce);
+    let mut out = MemorySink::new(alloc);
     let mut pair = MemoryPair::new(alloc);
     let mut told = None;
     let status = box_main(alloc, words, &mut files, &mut out, &mut pair, &mut told);
     let is_written = files.finish();
-    let printed = str::from_utf8(out.last()).unwrap_or("");
-    explain(
-        machine,
-        words,
-        status,
-        printed,
-        told.as_ref(),
-        &mut files,
-        None,
-    );
+    explain(machine, words, told.as_ref(), status, &mut files, None);
     let mark = if is_expected && is_written {
         ""
     } else {
         "unwritten "
     };
-    let printed = printed.trim_end();
+    let printed = str::from_utf8(out.bytes.as_slice())
+        .unwrap_or("")
+        .trim_end();
     match machine.said.try_replace(String::new(alloc)) {
         Ok(said) => Ok(format!(in alloc; "{mark}{status} {printed}\n{said}")?),
         Err(_) => Err("a cell in use".into()),
@@ -472,6 +570,15 @@ fn plays(rt: &impl Abort, machine: &Machine<'_>, row: &str) -> Result<(), Fail> 
     fs::write(machine, "c", octets.as_slice())?;
     let words = words_of(machine.alloc(), field(given, "words:"))?;
     same(rt, given, told(machine, &words)?.trim_end(), wanted);
+    let mut policies = String::new(machine.alloc());
+    for word in words.iter().filter(|word| is_policy(word.as_str())) {
+        policies.push_str(word.as_str())?;
+    }
+    match machine.opened.try_replace(String::new(machine.alloc())) {
+        // What is said of a policy is made of what was read of it: it is opened once, as a pipe has to be.
+        Ok(opened) => same(rt, given, opened.as_str(), policies.as_str()),
+        Err(_) => return Err("a cell in use".into()),
+    }
     Ok(())
 }
 
@@ -492,8 +599,10 @@ fn what_was_printed_is_remarked_on(rt: HostRuntime) -> Result<(), Fail> {
         rt: &rt,
         folder: new_folder(&rt)?,
         said: RefCell::new(String::new(rt.alloc())),
+        opened: RefCell::new(String::new(rt.alloc())),
     };
-    fs::write(&machine, "p", POLICY)?;
+    fs::write(&rt, machine.place_of("p")?.as_str(), POLICY)?;
+    fs::write(&rt, machine.place_of("q")?.as_str(), WIDER)?;
     for row in ROWS.split("\n\n") {
         plays(&rt, &machine, row)?;
     }

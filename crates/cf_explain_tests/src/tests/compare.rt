@@ -4,7 +4,7 @@ ghost use Rattle.std.specs.Prelude.{IfOk};
 ghost use Rattle.cf_policy.specs.Within.{IsWithin};
 
 use crate::tests::changes::policy_octets;
-use cf_compare::{cells, compare};
+use cf_compare::{CompareFault, Compared, cells, compare};
 use cf_explain::{PolicyFile, differences_text, inclusion_message, kept_text};
 use cf_policy::Policy;
 use cf_policylang::read_policy;
@@ -258,13 +258,23 @@ pub(super) fn said(alloc: Global, given: &str, what: Telling) -> Result<String, 
         text: other_text.as_slice(),
         policy: &other,
     };
+    let answer = compare(alloc, ours.policy, other.policy);
     let mut text = match what {
-        Telling::Reason => return Ok(inclusion_message(alloc, &ours, &other)?),
+        Telling::Reason => return Ok(inclusion_message(alloc, &ours, &other, &answer)?),
         Telling::Kept => kept_text(alloc, &ours, &other)?,
-        Telling::Differences => differences_text(alloc, &ours, &other)?,
+        Telling::Differences => differences_text(alloc, &ours, &other, place_of(&answer))?,
     };
     text.push_str(".")?;
     Ok(text)
+}
+
+/// The place of the asset that a comparison stopped at.
+fn place_of(answer: &Result<Compared, CompareFault>) -> u32 {
+    match answer {
+        Ok(Compared::Missing(place) | Compared::Shown { asset: place, .. })
+        | Err(CompareFault::Cells(place)) => *place,
+        _ => 0,
+    }
 }
 
 /// What the comparison of two policies says.

@@ -24,18 +24,20 @@ pub(crate) struct Reader<F: Drop> {
     file: BufReader<F>,
     /// It is a pipe, a terminal or another thing whose octets may be waited for, and which does not go back.
     is_live: bool,
+    /// Its text is kept as it is read.
+    is_kept: bool,
     /// Of such a thing, what it gave last, and how many of these octets are given once more.
     last: ArrayVec<u8, KEPT>,
     again: usize,
 }
 
 impl<F: Read + Drop> Reader<F> {
-    /// Gives octets that were read ahead, if it is the file of this name and stands at this place; how many, which is 0 where it is
-    /// not so, or there are none.
+    /// Gives octets that were read ahead, if it is the file of this name and stands at this place, and its text is not kept; how many,
+    /// which is 0 where it is not so, or there are none.
     pub(crate) fn take_ahead(&mut self, name: &str, at: u64, buf: &mut [u8]) -> usize
         ensures { result ≤ length buf.new }
     {
-        if self.at != at || self.again > 0 || self.name.as_str() != name {
+        if self.at != at || self.again > 0 || self.is_kept || self.name.as_str() != name {
             return 0;
         }
         let ahead = self.file.buffer();
@@ -107,16 +109,22 @@ pub(crate) fn opened<R: FileSystem>(
     alloc: Global,
     kept: &mut Option<Reader<R::File>>,
     name: &str,
+    is_kept: bool,
 ) -> io::Result<(Reader<R::File>, bool)> {
     let reader = match kept.take() {
         Some(reader) if reader.name.as_str() == name => reader,
-        _ => open(rt, alloc, name)?,
+        _ => open(rt, alloc, name, is_kept)?,
     };
     let may_wait = reader.may_wait();
     Ok((reader, may_wait))
 }
 
-fn open<R: FileSystem>(rt: &R, alloc: Global, name: &str) -> io::Result<Reader<R::File>> {
+fn open<R: FileSystem>(
+    rt: &R,
+    alloc: Global,
+    name: &str,
+    is_kept: bool,
+) -> io::Result<Reader<R::File>> {
     let file = OpenOptions::new().read(true).open(rt, name)?;
     let is_live = !file.metadata()?.is_file();
     Ok(Reader {
@@ -124,6 +132,7 @@ fn open<R: FileSystem>(rt: &R, alloc: Global, name: &str) -> io::Result<Reader<R
         at: 0,
         file: BufReader::with_capacity(alloc, PIECE, file)?,
         is_live,
+        is_kept,
         last: ArrayVec::new(),
         again: 0,
     })

@@ -104,28 +104,67 @@ fn flags(rt: &impl Abort, letters: &str) -> u8 {
 
 /// The packet that a line spells after its moment.
 pub fn read_segment(rt: &impl Abort, alloc: Global, origins: &Origins, spelled: &str) -> Segment {
-    let mut fields = spelled.splitn(6, ' ');
-    let is_client = fields.next() == Some("c");
-    let (source, dest, origin, other) = if is_client {
-        (CLIENT, PUMP, origins.client, origins.controller)
+    let (who, rest) = parted(spelled);
+    if who == "c" {
+        read_between(
+            rt,
+            alloc,
+            &CLIENT,
+            &PUMP,
+            origins.client,
+            origins.controller,
+            rest,
+        )
     } else {
-        (PUMP, CLIENT, origins.controller, origins.client)
-    };
-    let flags = flags(rt, fields.next().unwrap_or(""));
-    let seq = sequence(rt, fields.next().unwrap_or(""), origin);
-    let ack = sequence(rt, fields.next().unwrap_or(""), other);
-    let window = word(rt, fields.next().unwrap_or(""));
-    let last = fields.next().unwrap_or("");
-    let mss = last.strip_prefix("mss").map(|size| word(rt, size));
+        read_between(
+            rt,
+            alloc,
+            &PUMP,
+            &CLIENT,
+            origins.controller,
+            origins.client,
+            rest,
+        )
+    }
+}
+
+/// The packet between two endpoints, whose SYNs have these numbers, that the flags and what stands after them spell.
+fn read_between(
+    rt: &impl Abort,
+    alloc: Global,
+    source: &Endpoint,
+    dest: &Endpoint,
+    origin: u32,
+    other: u32,
+    spelled: &str,
+) -> Segment {
+    let (letters, rest) = parted(spelled);
+    let (seq, rest) = parted(rest);
+    let (ack, rest) = parted(rest);
+    let (window, last) = parted(rest);
+    let mss = mss_in(rt, last);
     Segment {
-        source,
-        dest,
-        seq,
-        ack,
-        flags,
-        window,
+        source: *source,
+        dest: *dest,
+        seq: sequence(rt, seq, origin),
+        ack: sequence(rt, ack, other),
+        flags: flags(rt, letters),
+        window: word(rt, window),
         mss,
         text: text(rt, alloc, if mss.is_some() { "" } else { last }),
+    }
+}
+
+/// The first field of a text, and what stands after it.
+fn parted(text: &str) -> (&str, &str) {
+    text.split_once(' ').unwrap_or((text, ""))
+}
+
+/// The maximum segment size that a last field spells, if it does.
+fn mss_in(rt: &impl Abort, last: &str) -> Option<u16> {
+    match last.strip_prefix("mss") {
+        Some(size) => Some(word(rt, size)),
+        None => None,
     }
 }
 

@@ -4,7 +4,7 @@ use Rattle.cf_watch.specs.FlowValue.{flow_value}
 use Rattle.cf_words.specs.Command.{Draft as DraftCommand}
 use Rattle.cf_box.specs.Draft.{DraftLeaves}
 use Rattle.cf_ending.specs.Outside.{files_value, outside}
-use Rattle.cf_box.proofs.Drafting.{draft_meets, has_recorded, undrafted_meets, unread_meets}
+use Rattle.cf_box.proofs.Drafting.{draft_meets, has_read, undrafted_meets, unread_meets}
 use Rattle.cf_box.proofs.Passing.{unread_leaves}
 use Rattle.cf_box.proofs.Reading.{rises_front, rises_still, rises_then}
 use Rattle.cf_box.proofs.draft.draft_captures.Goals as goal
@@ -44,7 +44,7 @@ returns-clause-meets g c = λ sink pair.
     let names = map string_bytes c.args.captures.now in
     let flows = map flow_value c.in-Ok-read_captures.parts.flows.items in
     undrafted_meets c.args.policy_file.now c.args.out.now names before c.in-Ok.policy c.in-Ok.ensures.has flows
-    (has_recorded c.args.policy_file.now c.args.out.now names before c.in-Ok.policy c.in-Ok.ensures.has middle flows c.load_policy.ensures.only c.in-Ok-read_captures.ensures.read)
+    (has_read c.args.policy_file.now c.args.out.now names before c.in-Ok.policy c.in-Ok.ensures.has middle flows c.load_policy.ensures.only c.in-Ok-read_captures.ensures.read)
     after (record { content = c.read_captures.ensures.only.content ∙ c.load_policy.ensures.only.content; sink = refl; pair = refl }) c.in-Err-drafted.stop c.in-Err-drafted.ensures
 
 pub returns-clause-later : goal.returns-clause-later
@@ -62,7 +62,7 @@ returns-in-Ok-drafted-clause-meets g c = λ sink pair.
     let names = map string_bytes c.args.captures.now in
     let flows = map flow_value c.in-Ok-read_captures.parts.flows.items in
     draft_meets c.args.policy_file.now c.args.out.now names before c.in-Ok.policy c.in-Ok.ensures.has flows
-    (has_recorded c.args.policy_file.now c.args.out.now names before c.in-Ok.policy c.in-Ok.ensures.has middle flows c.load_policy.ensures.only c.in-Ok-read_captures.ensures.read)
+    (has_read c.args.policy_file.now c.args.out.now names before c.in-Ok.policy c.in-Ok.ensures.has middle flows c.load_policy.ensures.only c.in-Ok-read_captures.ensures.read)
     read after c.in-Ok-drafted.draft c.in-Ok-drafted.ensures
     (record {
       content = c.read_captures.ensures.only.content ∙ c.load_policy.ensures.only.content;

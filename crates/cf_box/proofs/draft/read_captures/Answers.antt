@@ -1,10 +1,14 @@
-use Rattle.std.proofs.Common.{ap, map}
-use Rattle.std.specs.Prelude.{string_bytes}
-use Rattle.cf_watch.specs.FlowValue.{flow_value}
-use Rattle.cf_box.proofs.Drafting.{all_read}
+use Rattle.std.proofs.Common.{map, subst}
+use Rattle.cf_watch.specs.FlowValue.{flow_value, stretch_value}
 use Rattle.cf_box.proofs.draft.read_captures.Goals as goal
 
-pub returns-in-Ok-clause-read : goal.returns-in-Ok-clause-read
-returns-in-Ok-clause-read g c =
-    all_read c.args.policy.now.assets (g.F.Files.content c.args.files.now) (map string_bytes c.args.captures.now) (map flow_value c.new-parts.result.flows.items)
-    (map flow_value c.read_each.new.parts.flows.items) (ap (map flow_value) c.new-parts.ensures) c.in-Ok.ensures.read
+pub returns-in-Ok-read_parts-clause-read : goal.returns-in-Ok-read_parts-clause-read
+returns-in-Ok-read_parts-clause-read g c =
+    let r = c.in-Ok.recording in
+    record {
+      flows = map flow_value r.flows.items;
+      stretches = map stretch_value r.stretches.items;
+      stamps = r.stamps.items;
+      recorded = c.in-Ok.ensures.recording;
+      are_read = c.in-Ok-read_parts.ensures;
+    }

@@ -1,4 +1,4 @@
-use Rattle.std.proofs.Common.{◌≡◌, ◌++◌, ℕ, List, Ok, Err, refl, sym, subst, ap, arith}
+use Rattle.std.proofs.Common.{◌≡◌, ◌∷◌, [], ◌++◌, ℕ, List, Ok, Err, refl, sym, subst, ap, arith}
 use Rattle.cf_outside.specs.Faults.{Rose}
 use Rattle.cf_outside.specs.Files.{Content}
 use Rattle.cf_outside.proofs.Frames.{reads_none, reads_on}
@@ -7,7 +7,7 @@ use Rattle.cf_records.specs.Capture.{Cut, FileEnd, Large, LastPlace, Refused, To
 use Rattle.cf_records.specs.Reader.{FindsRecord, ReaderValue}
 use Rattle.cf_records.specs.declared.NextRecord.TheVariants as next
 use Rattle.cf_ending.specs.Captures.{block_refusal}
-use Rattle.cf_ending.specs.PacketLine.{record_line}
+use Rattle.cf_ending.specs.PacketLine.{dropped_in, record_line}
 use Rattle.cf_ending.specs.declared.CaptureRefusal.TheVariants as refusal
 use Rattle.cf_ending.specs.declared.Done.TheVariants as done
 use Rattle.cf_ending.specs.declared.Stop.TheVariants as stop
@@ -23,6 +23,7 @@ records-init g c = record {
   listed = none_listed c.requires.form c.requires.place c.new-lines.ensures;
   near = first_near c.args.reader.now.form c.args.reader.now.place c.requires.place;
   few = omega arith;
+  fewer = omega arith;
   reads = reads_none c.args.name.now g.F.Files.content g.F.Files.read_faults g.F.Files.write_faults c.args.files.now;
   puts = omega arith;
 }
@@ -37,14 +38,18 @@ records-preserved g c =
     let reader : ReaderValue = c.next.new.self in
     let found : FindsRecord (g.F.Files.content c.args.files.now c.args.name.now) c.records.reader reader (next.Whole stamp) =
     subst (λ (content : List ℕ → Content). FindsRecord (content c.args.name.now) c.records.reader reader (next.Whole stamp)) before.reads.same read.found in
-    let with_line : List ℕ → Type 0 = λ line. c.gather_line.new.lines.items ≡ c.make_room.new.lines.items ++ line in
+    let with_line : List ℕ → Type 0 = λ line. c.gather_line-dropped.new.lines.items ≡ c.make_room.new.lines.items ++ line in
     let line : with_line (record_line c.records.number (record { stamp = stamp; link = reader.link; body = reader.body })) =
     subst (λ l. with_line (record_line c.records.number (record { stamp = stamp; link = l; body = reader.body }))) c.link.ensures
-    (subst (λ b. with_line (record_line c.records.number (record { stamp = stamp; link = c.link.result; body = b }))) c.body.ensures c.gather_line.ensures) in
+    (subst (λ b. with_line (record_line c.records.number (record { stamp = stamp; link = c.link.result; body = b }))) c.body.ensures c.gather_line-dropped.ensures.line) in
+    let count : c.gather_line-dropped.result ≡ dropped_in (record { stamp = stamp; link = reader.link; body = reader.body } ∷ []) =
+    subst (λ l. c.gather_line-dropped.result ≡ dropped_in (record { stamp = stamp; link = l; body = reader.body } ∷ [])) c.link.ensures
+    (subst (λ b. c.gather_line-dropped.result ≡ dropped_in (record { stamp = stamp; link = c.link.result; body = b } ∷ [])) c.body.ensures c.gather_line-dropped.ensures.dropped) in
     record {
-      listed = one_listed (more_put before.listed some first put) reader stamp found line;
+      listed = one_listed (more_put before.listed some first put) reader stamp found line count;
       near = read.near;
       few = omega (arith, before.few, read.on);
+      fewer = omega (arith, before.fewer, c.gather_line-dropped.ensures.one);
       reads = reads_on before.reads read.reads (λ none. absurd none);
       puts = omega (arith, before.puts, c.in-Done.ensures.cause.later);
     }
@@ -60,10 +65,10 @@ returns-in-End-clause-lists g c =
     let before = c.records.invariant in
     let stands = subst (λ (content : List ℕ → Content). StandsBehind (content c.args.name.now) c.records.reader c.next.new.self.place FileEnd) before.reads.same
     (stands_end (g.F.Files.content c.records.files c.args.name.now) c.records.reader c.next.new.self c.in-End.ensures.found) in
-    finished before.listed c.finish.result (Ok done.Listed) c.next.new.self.place FileEnd stands tt (λ put. (refl, refl, put)) (λ rose. omega (arith, before.puts, rose)) c.finish.ensures.ends
+    finished before.listed c.finish.result (Ok (done.Listed c.records.dropped)) c.next.new.self.place FileEnd stands tt (λ put. (ap (λ n. done.Listed n) before.listed.are_dropped, refl, put)) (λ rose. omega (arith, before.puts, rose)) c.finish.ensures.ends
 
 pub returns-in-End-clause-reads : goal.returns-in-End-clause-reads
-returns-in-End-clause-reads g c = reads_on c.records.invariant.reads c.in-End.ensures.reads (λ is. absurd (not_read c.finish.result (Ok done.Listed) c.finish.ensures.ends (λ e. cc e) is))
+returns-in-End-clause-reads g c = reads_on c.records.invariant.reads c.in-End.ensures.reads (λ is. absurd (not_read c.finish.result (Ok (done.Listed c.records.dropped)) c.finish.ensures.ends (λ e. cc e) is))
 
 pub returns-in-Cut-clause-lists : goal.returns-in-Cut-clause-lists
 returns-in-Cut-clause-lists g c =

@@ -1,6 +1,6 @@
-use Rattle.std.proofs.Common.{◌≡◌, ◌⊎◌, refl, subst}
+use Rattle.std.proofs.Common.{◌≡◌, ◌⊎◌, Some, refl, subst}
 use Rattle.cf_words.specs.Command.{Command, World}
-use Rattle.cf_box.specs.Ends.{Ends, TellsCounts}
+use Rattle.cf_box.specs.Ends.{Ends, TellsEnding}
 use Rattle.cf_ending.specs.Outside.{Outside, RisesIn, RoseIn, outside_value}
 use Rattle.cf_box.specs.Status.{AsksItsPair, CutsItsCapture, CutsItsStream, DeniesWhatItAsks, EndsItsIdles, ExceedsItsCells, ExceedsItsRules, LacksItsAsset, RefusesItsCapture, RefusesItsPolicy, inputs_of, outputs_of}
 use Rattle.cf_words.specs.Words.{command_value}
@@ -14,7 +14,7 @@ use Rattle.cf_box.proofs.top.box_main.Given.{Over}
 use Rattle.cf_box.proofs.top.box_main.Goals as goal
 use Rattle.cf_outside.specs.Frames.{KeepsOtherFiles}
 
-module _ (g : Over) (c : goal.After-report g) where
+module _ (g : Over) (c : goal.After-report-status g) where
   abbrev before : Outside
   before = outside_value g.F.Files g.O.Sink g.P.Pair c.args.files.now c.args.out.now c.args.pair.now
 
@@ -22,32 +22,32 @@ module _ (g : Over) (c : goal.After-report g) where
   middle = outside_value g.F.Files g.O.Sink g.P.Pair c.perform-ended.new.files c.perform-ended.new.out c.perform-ended.new.pair
 
   abbrev after : Outside
-  after = outside_value g.F.Files g.O.Sink g.P.Pair c.perform-ended.new.files c.report.new.out c.perform-ended.new.pair
+  after = outside_value g.F.Files g.O.Sink g.P.Pair c.perform-ended.new.files c.report-status.new.out c.perform-ended.new.pair
 
   abbrev command : Command
   command = command_value c.in-Some.command
 
   -- the answer of the command explains the status
-  explains : Explains command before after c.report.result
+  explains : Explains command before after c.report-status.result
   explains = record {
     r = c.perform-ended.result;
     middle = middle;
     meets = c.perform-ended.ensures.meets;
-    reports = record { prints = c.report.ensures.prints; files = refl; pair = refl };
+    reports = record { prints = c.report-status.ensures.prints; files = refl; pair = refl };
     early = c.perform-ended.ensures.puts;
-    late = c.report.ensures.later;
+    late = c.report-status.ensures.later;
   }
 
 pub returns-in-Some-clause-ends : goal.returns-in-Some-clause-ends
 returns-in-Some-clause-ends g c =
-    let e : Explains (command g c) (before g c) (after g c) c.report.result = explains g c in
-    subst (λ words. Ends words (before g c) (after g c) c.report.result) c.in-Some.ensures.command (e.r, e.middle, e.meets, e.reports)
+    let e : Explains (command g c) (before g c) (after g c) c.report-status.result = explains g c in
+    subst (λ words. Ends words (before g c) (after g c) c.report-status.result) c.in-Some.ensures.command (e.r, e.middle, e.meets, e.reports)
 
-pub returns-in-Some-clause-counted : goal.returns-in-Some-clause-counted
+pub returns-in-Some-clause-tells : goal.returns-in-Some-clause-tells
 unfolding explains
-returns-in-Some-clause-counted g c =
-    let e : Explains (command g c) (before g c) (after g c) c.report.result = explains g c in
-    subst (λ words. TellsCounts words (before g c) (after g c) c.report.result c.counted.result) c.in-Some.ensures.command (e.r, e.middle, e.meets, e.reports, c.counted.ensures)
+returns-in-Some-clause-tells g c =
+    let e : Explains (command g c) (before g c) (after g c) c.report-status.result = explains g c in
+    subst (λ words. TellsEnding words (before g c) (after g c) c.report-status.result (Some c.perform-ended.result)) c.in-Some.ensures.command (e.r, e.middle, e.meets, e.reports, refl)
 
 pub returns-in-Some-clause-read : goal.returns-in-Some-clause-read
 returns-in-Some-clause-read g c = λ is.
@@ -92,12 +92,12 @@ returns-in-Some-clause-includes g c = λ policy other is. includes_told (explain
 pub returns-in-Some-clause-exact : goal.returns-in-Some-clause-exact
 returns-in-Some-clause-exact g c = λ form is.
     let same : command g c ≡ form = let known = c.in-Some.ensures.command in cc in
-    exact_told c.has_one_cut.ensures c.has_one_judgement.ensures c.laws_hold.ensures.judged_once (subst (λ k. Explains k (before g c) (after g c) c.report.result) same (explains g c))
+    exact_told c.has_one_cut.ensures c.has_one_judgement.ensures c.laws_hold.ensures.judged_once (subst (λ k. Explains k (before g c) (after g c) c.report-status.result) same (explains g c))
 
 pub returns-in-Some-clause-complete : goal.returns-in-Some-clause-complete
 returns-in-Some-clause-complete g c = λ form is input fails.
     let same : command g c ≡ form = let known = c.in-Some.ensures.command in cc in
-    complete_told (subst (λ k. Explains k (before g c) (after g c) c.report.result) same (explains g c)) input fails
+    complete_told (subst (λ k. Explains k (before g c) (after g c) c.report-status.result) same (explains g c)) input fails
 
 pub returns-in-Some-clause-migrates : goal.returns-in-Some-clause-migrates
 returns-in-Some-clause-migrates g c = λ policy out is. migrates_told (explains g c) policy out (let known = c.in-Some.ensures.command in cc)
@@ -109,7 +109,7 @@ pub returns-in-Some-clause-drafts : goal.returns-in-Some-clause-drafts
 returns-in-Some-clause-drafts g c = λ policy file captures is. drafts_told (explains g c) policy file captures (let known = c.in-Some.ensures.command in cc)
 
 pub returns-in-Some-clause-reviews : goal.returns-in-Some-clause-reviews
-returns-in-Some-clause-reviews g c = λ policy capture file is. reviews_told (explains g c) policy capture file (let known = c.in-Some.ensures.command in cc)
+returns-in-Some-clause-reviews g c = λ policy file captures is. reviews_told (explains g c) policy captures file (let known = c.in-Some.ensures.command in cc)
 
 pub returns-in-Some-clause-lists : goal.returns-in-Some-clause-lists
 returns-in-Some-clause-lists g c = λ capture is. lists_told (explains g c) capture (let known = c.in-Some.ensures.command in cc)
@@ -136,7 +136,7 @@ returns-in-Some-clause-world g c = λ seed sessions policy names is. world_told 
 pub returns-in-Some-clause-own : goal.returns-in-Some-clause-own
 returns-in-Some-clause-own g c = λ seed sessions policy names is.
     let same : command g c ≡ World seed sessions policy names = let known = c.in-Some.ensures.command in cc in
-    own_told seed sessions policy names (subst (λ k. Explains k (before g c) (after g c) c.report.result) same (explains g c))
+    own_told seed sessions policy names (subst (λ k. Explains k (before g c) (after g c) c.report-status.result) same (explains g c))
 
 pub returns-in-Some-clause-stream : goal.returns-in-Some-clause-stream
 returns-in-Some-clause-stream g c = λ is. subst (λ words. CutsItsStream words (before g c) (after g c)) c.in-Some.ensures.command (stream_told (explains g c) is)

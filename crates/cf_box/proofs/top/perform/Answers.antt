@@ -36,7 +36,7 @@ pub returns-in-World-clause-meets : goal.returns-in-World-clause-meets
 returns-in-World-clause-meets g c = rw c.in-World.is (c.world.ensures.meets (sink_value g.O.Sink c.args.out.now) (pair_value g.P.Pair c.args.pair.now))
 
 pub returns-in-Review-clause-meets : goal.returns-in-Review-clause-meets
-returns-in-Review-clause-meets g c = rw c.in-Review.is (c.review_capture.ensures.meets (sink_value g.O.Sink c.args.out.now) (pair_value g.P.Pair c.args.pair.now))
+returns-in-Review-clause-meets g c = rw c.in-Review.is (c.review_captures.ensures.meets (sink_value g.O.Sink c.args.out.now) (pair_value g.P.Pair c.args.pair.now))
 
 pub returns-in-Check-clause-later : goal.returns-in-Check-clause-later
 returns-in-Check-clause-later g c = rw c.in-Check.is c.check.ensures.later
@@ -72,4 +72,4 @@ pub returns-in-World-clause-later : goal.returns-in-World-clause-later
 returns-in-World-clause-later g c = rw c.in-World.is c.world.ensures.later
 
 pub returns-in-Review-clause-later : goal.returns-in-Review-clause-later
-returns-in-Review-clause-later g c = rw c.in-Review.is c.review_capture.ensures.later
+returns-in-Review-clause-later g c = rw c.in-Review.is c.review_captures.ensures.later

@@ -32,12 +32,12 @@ returns-clause-serves g c =
     let log2 = (g.D.Desk.value c.rounds-ended.new.desk).lines in
     whole_two c.rounds-ended.result c.rounds-ended.ensures.does c.rounds-ended.ensures.table
     (λ d t. serves_all c.args.places.now most (g.L.Links.told c.args.links.now) told1 (g.D.Desk.value c.args.desk.now).lines log1
-    (HasMade c.rounds-ended.result) lobby c.rounds-ended.new.self.minutes d.0 told2 (g.L.Links.told c.leave_all.new.links) log2 serves ps d.1.0 c.in-Ok-open_places.ensures.all
+    (HasMade c.rounds-ended.result) c.rounds-ended.new.self.keeping lobby c.rounds-ended.new.self.minutes d.0 told2 (g.L.Links.told c.leave_all.new.links) log2 serves ps d.1.0 c.in-Ok-open_places.ensures.all
     (from_start places most (λ m n past q. (last : Option ℕ) → IsMinuteOf c.in-Ok.table.minutes last past →
-    RoundsDo c.args.places.now m n lobby c.rounds-ended.new.self.minutes last d.0 past told1 told2 log1 log2 q ps) (2 * c.from-most.result) c.in-Ok.table.lobby
-    (map phase_of c.in-Ok.table.sessions.items) same c.in-Ok.ensures.lobby (ap (map phase_of) c.in-Ok.ensures.none) d.1.1 None
+    RoundsDo c.args.places.now m c.rounds-ended.new.self.keeping n lobby c.rounds-ended.new.self.minutes last d.0 past told1 told2 log1 log2 q ps) (2 * c.from-most.result) c.in-Ok.table.keeping c.in-Ok.table.lobby
+    (map phase_of c.in-Ok.table.sessions.items) same c.in-Ok.ensures.keeping c.in-Ok.ensures.lobby (ap (map phase_of) c.in-Ok.ensures.none) d.1.1 None
     (minute_start c.in-Ok.table.minutes c.in-Ok.ensures.minutes))
-    (subst (λ m. IsTable places m serves lobby.next ps) same t) c.leave_all.ensures.told)
+    (subst (λ m. IsTable places m c.rounds-ended.new.self.keeping serves lobby.next ps) same t) c.leave_all.ensures.told)
 
 pub returns-clause-breaks : goal.returns-clause-breaks
 returns-clause-breaks g c = λ is.
@@ -54,7 +54,7 @@ returns-clause-breaks g c = λ is.
     breaks_all c.args.places.now most d.0 (g.L.Links.told c.args.links.now) told1 told2 (g.L.Links.told c.leave_all.new.links)
     (g.D.Desk.value c.args.desk.now).lines log1 log2 part ps d.1.0 c.in-Ok-open_places.ensures.all
     (from_start places most (λ m n past q. (last : Option ℕ) → IsMinuteOf c.in-Ok.table.minutes last past →
-    MissesRounds c.args.places.now m n last d.0 past told1 told2 log1 log2 part q ps) (2 * c.from-most.result) c.in-Ok.table.lobby
-    (map phase_of c.in-Ok.table.sessions.items) same c.in-Ok.ensures.lobby (ap (map phase_of) c.in-Ok.ensures.none) d.1.1 None
+    MissesRounds c.args.places.now m n last d.0 past told1 told2 log1 log2 part q ps) (2 * c.from-most.result) c.in-Ok.table.keeping c.in-Ok.table.lobby
+    (map phase_of c.in-Ok.table.sessions.items) same c.in-Ok.ensures.keeping c.in-Ok.ensures.lobby (ap (map phase_of) c.in-Ok.ensures.none) d.1.1 None
     (minute_start c.in-Ok.table.minutes c.in-Ok.ensures.minutes))
     c.leave_all.ensures.told

@@ -18,4 +18,4 @@ returns g c =
     let s = served c.args.most c.args.side c.args.self.now c.of_mut-queue.result.now n.queue n.idle (link_value g.L.Links c.args.session c.args.links.now) (link_value g.L.Links c.args.session n.links) c.requires.few c.of_mut-queue.ensures.value e.stands e.idles c.give_to.result e.cause
     c.in_ok-give_to.field-0 c.in_ok-give_to.was c.in_ok-give_to.ensures.gave
     c.of_mut.result.now c.finish_to.new.finished (link_value g.L.Links c.args.session c.finish_to.new.links) c.of_mut.ensures.value f.idles c.finish_to.result f.finishes f.cause in
-    record { place = search rules; goes = s.goes; stops = s.stops; sound = s.sound; moves = s.moves; buffer = search rules }
+    record { place = search rules; goes = s.goes; stops = s.stops; sound = s.sound; moves = s.moves; lane = search rules; buffer = search rules }

@@ -1,6 +1,7 @@
 use Rattle.cf_relay.proofs.Moving.{turn_moves}
 use Rattle.cf_relay.proofs.Scenes.{goes_stops, goes_then, if_err, on_ok, stops_more}
-use Rattle.cf_relay.proofs.Serving.{handed_on}
+use Rattle.cf_relay.proofs.Serving.{handed_on, keeps_any, keeps_each}
+use Rattle.std.proofs.Common.{◌∙◌}
 use Rattle.cf_relay.specs.Relaying.{relaying_value}
 use Rattle.cf_relay.proofs.relaying.Relaying.turn.Goals as goal
 
@@ -56,3 +57,25 @@ returns-clause-moves g c =
     (turn_moves c.args.directions c.args.most _ (relaying_value c.tell.new.self) (relaying_value c.take.new.self) (relaying_value c.take-2.new.self) (relaying_value c.serve.new.self) _ c.tell.ensures.unmoved c.in_ok-take.ensures.moves c.in_ok-take-2.ensures.moves
     c.in_ok-serve.ensures.moves)
     c.serve-2.ensures.moves
+
+pub returns-in_err-tell-clause-lane : goal.returns-in_err-tell-clause-lane
+returns-in_err-tell-clause-lane g c =
+    handed_on c.from_residual.result c.in_err-tell.field-0.0 _ c.from_residual.ensures.1
+    (keeps_any c.args.asset.now _ _ _ c.tell.ensures.lane c.requires.sound.of_asset)
+
+pub returns-in_err-take-clause-lane : goal.returns-in_err-take-clause-lane
+returns-in_err-take-clause-lane g c =
+    handed_on c.from_residual-in_err-take.result c.in_err-take.field-0.0 _ c.from_residual-in_err-take.ensures.1 c.in_err-take.ensures.lane
+
+pub returns-in_err-take-2-clause-lane : goal.returns-in_err-take-2-clause-lane
+returns-in_err-take-2-clause-lane g c =
+    handed_on c.from_residual-in_err-take-2.result c.in_err-take-2.field-0.0 _ c.from_residual-in_err-take-2.ensures.1 c.in_err-take-2.ensures.lane
+
+pub returns-in_err-serve-clause-lane : goal.returns-in_err-serve-clause-lane
+returns-in_err-serve-clause-lane g c =
+    handed_on c.from_residual-in_err-serve.result c.in_err-serve.field-0.0 _ c.from_residual-in_err-serve.ensures.1
+    (keeps_any c.args.asset.now _ _ _ c.serve.ensures.lane c.in_ok-take-2.ensures.sound.of_asset)
+
+pub returns-clause-lane : goal.returns-clause-lane
+returns-clause-lane g c =
+    keeps_each c.args.asset.now _ _ (c.serve-2.ensures.lane ∙ c.serve.ensures.lane) c.in_ok-take-2.ensures.sound.of_asset c.serve-2.result

@@ -9,6 +9,8 @@ loop-place-init g c = record {
   free = c.requires.free;
   table = λ most t. t;
   does = λ most. arrive_first _ most _ _ _ _ _;
+  calm = λ h. h;
+  keeping = refl;
   minutes = refl;
   round = refl;
   room = omega arith;
@@ -24,6 +26,8 @@ loop-place-preserved g c =
       free = c.arrive.ensures.free;
       table = λ most t. c.arrive.ensures.table most (i.table most t);
       does = λ most. arrive_then _ most _ _ _ _ _ _ _ _ _ _ _ _ _ _ (i.does most) (c.in_ok-arrive.ensures.does most);
+      calm = λ h. c.arrive.ensures.calm (i.calm h);
+      keeping = c.arrive.ensures.keeping ∙ i.keeping;
       minutes = c.arrive.ensures.minutes ∙ i.minutes;
       round = c.arrive.ensures.round ∙ i.round;
       room = omega (arith, i.room, c.arrive.ensures.room);
@@ -40,3 +44,6 @@ returns-in_err-arrive-clause-breaks g c =
     let i = c.loop-place.invariant in
     on_err c.from_residual.result _ (λ most.
     arrive_missed _ most _ _ _ _ _ _ _ _ _ _ _ _ _ _ _ (i.does most) (c.in_err-arrive.ensures.breaks most))
+
+pub returns-in_err-arrive-clause-calm : goal.returns-in_err-arrive-clause-calm
+returns-in_err-arrive-clause-calm g c = λ h. c.arrive.ensures.calm (c.loop-place.invariant.calm h)

@@ -2,6 +2,7 @@ use Rattle.std.proofs.Common.{ap, arith, false, map, refl, subst, sym, ℕ, ◌�
 use Rattle.std.proofs.lemmas.List.{length-map}
 use Rattle.cf_links.specs.Links.{LinksPlace}
 use Rattle.cf_serve.proofs.Arriving.{came_in, closed_missed, closed_quiet, closed_said, due, err_for_all, for_all, free_away, next_behind, none_came, not_due, table_away, table_in}
+use Rattle.cf_serve.proofs.Calming.{calm_taken}
 use Rattle.cf_serve.specs.Door.{came_by, has_line}
 use Rattle.cf_serve.specs.Phase.{listening_at, listenings, phase_of}
 use Rattle.cf_serve.specs.Table.{IsTable}
@@ -13,7 +14,7 @@ arrive-requires g c = record { unused = c.requires.free c.args.self.now.lobby.ne
 
 pub returns-in-Nobody-clause-table : goal.returns-in-Nobody-clause-table
 returns-in-Nobody-clause-table g c = λ most table.
-    subst (λ (p : LinksPlace). IsTable (listenings c.args.places.now) most p.serves c.args.self.now.lobby.next (map phase_of c.args.self.now.sessions.items))
+    subst (λ (p : LinksPlace). IsTable (listenings c.args.places.now) most c.args.self.now.keeping p.serves c.args.self.now.lobby.next (map phase_of c.args.self.now.sessions.items))
     (sym c.in-Nobody.ensures.place) table
 
 pub returns-in-Nobody-clause-does : goal.returns-in-Nobody-clause-does
@@ -22,13 +23,13 @@ returns-in-Nobody-clause-does g c = λ most. none_came _ _ _ _ _ _ _ _ _ c.in-No
 -- one that is closed
 pub returns-in-None-clause-table : goal.returns-in-None-clause-table
 returns-in-None-clause-table g c = λ most.
-    table_away _ most c.args.self.now.lobby.next _ _ (g.L.Links.place c.args.links.now) (g.L.Links.place c.arrive.new.self) (g.L.Links.place c.leave.new.self)
+    table_away _ most _ c.args.self.now.lobby.next _ _ (g.L.Links.place c.args.links.now) (g.L.Links.place c.arrive.new.self) (g.L.Links.place c.leave.new.self)
     (next_behind c.in-Some.closing c.args.self.now.lobby _ c.args.place c.args.moment c.in-Came.client.address c.close.ensures.lobby)
     c.in-Came.ensures.place c.leave.ensures.place
 
 pub returns-in-Some-close-clause-table : goal.returns-in-Some-close-clause-table
 returns-in-Some-close-clause-table g c = λ most.
-    table_away _ most c.args.self.now.lobby.next _ _ (g.L.Links.place c.args.links.now) (g.L.Links.place c.arrive.new.self) (g.L.Links.place c.leave.new.self)
+    table_away _ most _ c.args.self.now.lobby.next _ _ (g.L.Links.place c.args.links.now) (g.L.Links.place c.arrive.new.self) (g.L.Links.place c.leave.new.self)
     (next_behind c.in-Some.closing c.args.self.now.lobby _ c.args.place c.args.moment c.in-Came.client.address c.close.ensures.lobby)
     c.in-Came.ensures.place c.leave.ensures.place
 
@@ -78,11 +79,15 @@ returns-in-Some-close-clause-breaks g c =
 
 -- one that is taken
 pub returns-in_default-clause-table : goal.returns-in_default-clause-table
-returns-in_default-clause-table g c = λ most.
-    table_in _ most c.args.self.now.lobby.next c.args.place c.in-Came.client _ (g.L.Links.place c.args.links.now) (g.L.Links.place c.arrive.new.self) _ _
-    c.take_in.ensures.items (ap (λ (f : Lobby). f.next) c.take_in.ensures.lobby) (rw length-map c.requires.place) c.in-Came.ensures.place
+returns-in_default-clause-table g c = λ most. rw c.take_in.ensures.keeping (λ t.
+    table_in _ most c.args.self.now.lobby.next c.args.place c.in-Came.client _ _ (g.L.Links.place c.args.links.now) (g.L.Links.place c.arrive.new.self) _ _
+    c.take_in.ensures.items (ap (λ (f : Lobby). f.next) c.take_in.ensures.lobby) (rw length-map c.requires.place) c.in-Came.ensures.place t)
 
 pub returns-in_default-clause-does : goal.returns-in_default-clause-does
 returns-in_default-clause-does g c = λ most.
     came_in _ most c.args.moment c.args.place c.args.self.now.lobby _ _ _ c.in-Came.client _ _ _ (listening_at c.place_of-at.result)
     c.place_of-at.ensures.place _ c.in-Came.ensures.entry (sym c.in_default.is ∙ c.closing.ensures) c.take_in.ensures.items c.take_in.ensures.lobby refl
+
+pub returns-in_default-clause-calm : goal.returns-in_default-clause-calm
+returns-in_default-clause-calm g c =
+    calm_taken (listenings c.args.places.now) (listening_at c.place_of-at.result) _ _ _ _ _ _ _ c.place_of-at.ensures.place c.take_in.ensures.items c.take_in.ensures.has_new

@@ -10,7 +10,8 @@ loop-made-preserved g c =
     record {
       table = c.in-Ok.ensures.table;
       does = λ past keeps last is.
-          rounds_then _ _ _ last past _ _ _ _ _ _ _ _ _ _ _ _ _ _ (i.does past keeps last is) c.in-Ok.ensures.does;
+          rounds_then _ _ _ last past _ _ _ _ _ _ _ _ _ _ _ _ _ _ _ _ (i.does past keeps last is) c.in-Ok.ensures.does;
+      calm = λ not. c.in-Ok.ensures.calm;
       round = c.round.ensures.loops.still (λ is. let e = sym c.in-Ok.is ∙ is in cc) ∙ i.round;
       room = omega (arith, i.room, c.round.ensures.room);
       whole = c.in-Ok.ensures.whole;
@@ -20,13 +21,13 @@ loop-made-preserved g c =
 
 pub returns-clause-leave : goal.returns-clause-leave
 returns-clause-leave g c =
-    may_leave _ _ _ _ _ c.loop-made.invariant.table
+    may_leave _ _ _ _ _ _ c.loop-made.invariant.table
 
 pub returns-in-Err-clause-breaks : goal.returns-in-Err-clause-breaks
 returns-in-Err-clause-breaks g c = λ is. (
   c.loop-made._made,
   (
     omega (arith, c.loop-made.auto),
-    λ past keeps last its. rounds_fail _ _ _ last past _ _ _ _ _ _ _ _ _ _ _ _ _ (c.loop-made.invariant.does past keeps last its) (c.in-Err.ensures.breaks is),
+    λ past keeps last its. rounds_fail _ _ _ last past _ _ _ _ _ _ _ _ _ _ _ _ _ _ (c.loop-made.invariant.does past keeps last its) (c.in-Err.ensures.breaks is),
   ),
 )

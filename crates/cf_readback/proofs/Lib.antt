@@ -1,6 +1,0 @@
-pub mod Legs
-mod Ranges
-mod Reading
-mod Sending
-mod Worked
-pub mod Writing

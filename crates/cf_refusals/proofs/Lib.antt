@@ -1,4 +1,0 @@
-mod Deciding
-mod Replies
-mod Telling
-mod Worked

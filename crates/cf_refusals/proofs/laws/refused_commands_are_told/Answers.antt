@@ -1,5 +1,0 @@
-use Rattle.cf_refusals.proofs.Telling.{are_told}
-use Rattle.cf_refusals.proofs.laws.refused_commands_are_told.Goals as goal
-
-pub returns : goal.returns
-returns c = are_told

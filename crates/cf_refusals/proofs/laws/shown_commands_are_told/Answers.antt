@@ -1,5 +1,0 @@
-use Rattle.cf_refusals.proofs.Telling.{are_shown}
-use Rattle.cf_refusals.proofs.laws.shown_commands_are_told.Goals as goal
-
-pub returns : goal.returns
-returns c = are_shown
