@@ -117,7 +117,12 @@ impl<R: FileSystem> Writers<R> {
 
     /// Whether octets of the file of this name are held.
     pub(crate) fn holds_of(&self, name: &str) -> bool {
-        self.open.iter().any(|writer| writer.name.as_str() == name && !writer.held.is_empty())
+        for writer in self.open.iter() {
+            if writer.name.as_str() == name && !writer.held.is_empty() {
+                return true;
+            }
+        }
+        false
     }
 
     /// Writes what is held of every file. Where an octet cannot be written, what came behind it in other files is not written either, or
@@ -131,13 +136,18 @@ impl<R: FileSystem> Writers<R> {
                 done = Err(fault_of(self.alloc, writer.name.as_str(), error));
             }
         }
+        self.keep_first(first);
+        done
+    }
+
+    /// Takes back what was written beyond the first octets of all files, and holds nothing any more.
+    fn keep_first(&mut self, first: usize) {
         for (place, writer) in self.open.iter_mut().enumerate() {
             // Where it cannot be taken back it stays.
             let _ = writer.keep(self.order.share(place, first));
             writer.clear();
         }
         self.order.clear();
-        done
     }
 
     /// Makes a file empty, or anew where it is not there, and keeps it open as the latest.
@@ -301,9 +311,12 @@ fn lacks_feed<R: FileSystem>(rt: &R, name: &str) -> io::Result<bool> {
 fn find_writer<F: Drop>(writers: &[Writer<F>], name: &str) -> Option<usize>
     ensures { IfSome result (λ place. place < length writers.now) }
 {
-    writers
-        .iter()
-        .position(|writer| writer.name.as_str() == name)
+    for (place, writer) in writers.iter().enumerate() {
+        if writer.name.as_str() == name {
+            return Some(place);
+        }
+    }
+    None
 }
 
 /// An open file, of which nothing is held.
