@@ -260,10 +260,16 @@ fn write_followed<R: FileSystem>(
 /// Opens a file at its end, made where it is not there, and gives its last line the line feed that it may lack.
 fn opened_at_end<R: FileSystem>(rt: &R, name: &str) -> io::Result<R::File> {
     let mut file = OpenOptions::new().append(true).create(true).open(rt, name)?;
+    end_line(rt, name, &mut file)?;
+    Ok(file)
+}
+
+/// Gives the last line of a file that is open at its end the line feed that it may lack.
+fn end_line<R: FileSystem>(rt: &R, name: &str, file: &mut R::File) -> io::Result<()> {
     if file.metadata()?.is_file() && lacks_feed(rt, name)? {
         file.write_all(b"\n")?;
     }
-    Ok(file)
+    Ok(())
 }
 
 /// Goes on with the file that a name leads to now, where that is not the open one: a log that is renamed away is begun anew. It looks
@@ -298,6 +304,10 @@ fn second() -> i64 {
 /// Whether a file has octets, and the last of them is no line feed.
 fn lacks_feed<R: FileSystem>(rt: &R, name: &str) -> io::Result<bool> {
     let mut file = OpenOptions::new().read(true).open(rt, name)?;
+    ends_amid_line(&mut file)
+}
+
+fn ends_amid_line<F: Read + Seek>(file: &mut F) -> io::Result<bool> {
     if file.seek(SeekFrom::End(0))? == 0 {
         return Ok(false);
     }
