@@ -314,9 +314,15 @@ fn numbers(alloc: Global, spans: &[Span]) -> Result<Array, AllocError>
 {
     let mut numbers = Vec::new(alloc);
     for span in spans {
-        numbers.push(Value::Integer(span.low))?;
+        numbers.push(code_value(span))?;
     }
     Ok(numbers)
+}
+
+fn code_value(span: &Span) -> Value
+    ensures { view result ≡ integer span.now.low }
+{
+    Value::Integer(span.low)
 }
 
 fn action_text(action: Action) -> &'static str
