@@ -104,12 +104,7 @@ fn insert_text(alloc: Global, table: &mut Table, key: Key, text: &str) -> Result
     insert(alloc, table, key, Value::string(alloc, text)?)
 }
 
-fn insert_number(
-    alloc: Global,
-    table: &mut Table,
-    key: Key,
-    number: i64,
-) -> Result<(), AllocError>
+fn insert_number(alloc: Global, table: &mut Table, key: Key, number: i64) -> Result<(), AllocError>
     ensures { OnOk result (table_view table.new ≡ with_key key (integer number) (table_view table.old)) }
 {
     insert(alloc, table, key, Value::Integer(number))
