@@ -20,9 +20,9 @@ pub data WhatValue : Type 0 where
   Partial : Side → (count : ℕ) → WhatValue
   Close : (admitted refused : ℕ) → WhatValue
   Cut : CutReason → WhatValue
-  Listen Unreached Gone Read Unread : WhatValue
+  Listen Unreached Gone : WhatValue
   Away Stranger : (came : ℕ) → WhatValue
-  Lost Silent Again Renewed : (admitted refused : ℕ) → WhatValue
+  Lost Silent Again : (admitted refused : ℕ) → WhatValue
   NoMemory : WhatValue
   Stands : (standing admitted refused : ℕ) → WhatValue
 
@@ -50,9 +50,6 @@ what_value (what.Stranger came) = Stranger came
 what_value (what.Lost admitted refused) = Lost admitted refused
 what_value (what.Silent admitted refused) = Silent admitted refused
 what_value (what.Again admitted refused) = Again admitted refused
-what_value (what.Renewed admitted refused) = Renewed admitted refused
-what_value what.Read = Read
-what_value what.Unread = Unread
 what_value what.NoMemory = NoMemory
 what_value (what.Stands standing admitted refused) = Stands standing admitted refused
 
@@ -76,9 +73,6 @@ HasShortRule (Stranger came) = Unit {0}
 HasShortRule (Lost admitted refused) = Unit {0}
 HasShortRule (Silent admitted refused) = Unit {0}
 HasShortRule (Again admitted refused) = Unit {0}
-HasShortRule (Renewed admitted refused) = Unit {0}
-HasShortRule Read = Unit {0}
-HasShortRule Unread = Unit {0}
 HasShortRule NoMemory = Unit {0}
 HasShortRule (Stands standing admitted refused) = Unit {0}
 

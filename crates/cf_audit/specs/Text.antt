@@ -6,7 +6,7 @@ use Rattle.cf_view.specs.Text.{endpoint_text, moment_text}
 use Rattle.cf_view.specs.declared.Act.{Act}
 use Rattle.cf_audit.specs.Line.{Admit}
 use Rattle.cf_audit.specs.Line.{LineValue, WhatValue, Begun, Refuse, Stray, Partial, Close, Cut, Listen, Unreached, Lost, Silent}
-use Rattle.cf_audit.specs.Line.{Again, Away, Gone, NoMemory, Read, Renewed, Stands, Stranger, Unread}
+use Rattle.cf_audit.specs.Line.{Again, Away, Gone, NoMemory, Stands, Stranger}
 use Rattle.cf_audit.specs.Names.{side_name, reason_name, why_name, break_name, mark}
 use Rattle.cf_audit.specs.declared.line.CutReason.{CutReason}
 use Rattle.cf_audit.specs.declared.line.CutReason.TheVariants as cut
@@ -62,9 +62,6 @@ what_text (Stranger came) = codes "stranger" ++ came_text came
 what_text (Lost admitted refused) = codes "lost" ++ counts_text admitted refused
 what_text (Silent admitted refused) = codes "silent" ++ counts_text admitted refused
 what_text (Again admitted refused) = codes "again" ++ counts_text admitted refused
-what_text (Renewed admitted refused) = codes "renewed" ++ counts_text admitted refused
-what_text Read = codes "read"
-what_text Unread = codes "unread"
 what_text NoMemory = codes "nomemory"
 what_text (Stands standing admitted refused) = codes "stands " ++ decimal standing ++ counts_text admitted refused
 

@@ -122,15 +122,6 @@ pub enum What<'a> {
         admitted: u64,
         refused: u64,
     },
-    /// A policy was read that has another part for the asset of a session, with the session's numbers of commands.
-    Renewed {
-        admitted: u64,
-        refused: u64,
-    },
-    /// A policy was read, by whose part for the asset clients come from here on.
-    Read,
-    /// A policy changed and was not taken.
-    Unread,
     /// Memory was wanting for a session.
     NoMemory,
     /// A service lives: so many sessions stand at the asset's place, and so many commands of that place's sessions were admitted and refused.

@@ -249,9 +249,6 @@ fn push_what<const N: usize>(out: &mut ArrayString<N>, what: &What<'_>)
         What::Lost { admitted, refused } => push_counts(out, "lost", *admitted, *refused),
         What::Silent { admitted, refused } => push_counts(out, "silent", *admitted, *refused),
         What::Again { admitted, refused } => push_counts(out, "again", *admitted, *refused),
-        What::Renewed { admitted, refused } => push_counts(out, "renewed", *admitted, *refused),
-        What::Read => out.push_str("read"),
-        What::Unread => out.push_str("unread"),
         What::NoMemory => out.push_str("nomemory"),
         What::Stands {
             standing,

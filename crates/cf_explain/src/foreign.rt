@@ -8,7 +8,7 @@ const CAPTURES: &[u8; 20] =
 /// What a file begins as that is no TOML, and what to do, where its first octets say it. No text in UTF-8 begins as the captures but
 /// for those of pcapng, and no TOML as any of these.
 pub(crate) fn foreign(text: &[u8]) -> Option<&'static str> {
-    if CAPTURES.chunks(4).any(|mark| text.starts_with(mark)) {
+    if is_capture(text) {
         Some(
             ": it begins as a capture does, and a policy is a text\n  \
              in the words of a command POLICY stands before CAPTURE, as cmdwall judge POLICY CAPTURE",
@@ -20,6 +20,15 @@ pub(crate) fn foreign(text: &[u8]) -> Option<&'static str> {
     } else {
         None
     }
+}
+
+fn is_capture(text: &[u8]) -> bool {
+    for mark in CAPTURES.chunks(4) {
+        if text.starts_with(mark) {
+            return true;
+        }
+    }
+    false
 }
 
 /// Whether a file begins with the byte order mark of UTF-16, or with a printed character of ASCII in two octets.

@@ -126,7 +126,7 @@ fn beside(
     requires earlier { IsTold asset.now.rules number earlier.now }
 {
     let others = match earlier {
-        Earlier::Common(others) if !found.iter().any(|what| is_never(*what)) => others,
+        Earlier::Common(others) if !is_never_met(found) => others,
         _ => return Ok([None, None, None]),
     };
     let rule = &asset.rules.as_slice()[number];
@@ -139,8 +139,13 @@ fn beside(
 }
 
 /// Whether what is found says that a rule has no act of a command.
-fn is_never(what: What) -> bool {
-    matches!(what, What::Never(_, _))
+fn is_never_met(found: &[What]) -> bool {
+    for what in found {
+        if matches!(what, What::Never(_, _)) {
+            return true;
+        }
+    }
+    false
 }
 
 /// That a rule names points which no act of a command with one of its codes has, beside some that they have.

@@ -40,7 +40,12 @@ pub fn why_unmet(protocol: Protocol, rule: &Rule, code: u16) -> Option<Unmet>
 fn some_meets(rule: &Rule, kinds: &[Kind]) -> bool
     ensures { result ≡ list_any (meets rule.now) kinds.now }
 {
-    kinds.iter().any(|kind| meets(rule, kind))
+    for kind in kinds {
+        if meets(rule, kind) {
+            return true;
+        }
+    }
+    false
 }
 
 /// The first list that no kind of acts meets together with the lists before it.

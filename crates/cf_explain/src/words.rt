@@ -86,10 +86,14 @@ fn place_in(form: &str, count: usize, index: usize) -> usize {
 
 /// The place of the word of which there may be more, or the number of words.
 fn place_of_more(form: &str) -> usize {
-    match form.split(' ').position(|name| name.ends_with(MORE)) {
-        Some(place) => place,
-        None => count_of(form),
+    let mut place = 0usize;
+    for name in form.split(' ') {
+        if name.ends_with(MORE) {
+            return place;
+        }
+        place = place.saturating_add(1);
     }
+    place
 }
 
 /// What a word is, by what help calls it.

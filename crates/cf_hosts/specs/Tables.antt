@@ -17,12 +17,17 @@ rule_table code points =
 abbrev pub grouped_rule_table : (code : ℤ) → (group points : List ℕ) → Members
 grouped_rule_table code group points = with_member (codes "groups") (only (string group)) (rule_table code points)
 
--- an asset without a master
+-- an asset without a master and without its rules
+abbrev pub bare_asset_table : (name address : List ℕ) → (port : ℤ) → (protocol : List ℕ) → (station : ℤ) → Members
+bare_asset_table name address port protocol station =
+    with_member (codes "station") (integer station) (with_member (codes "protocol") (string protocol)
+    (with_member (codes "port") (integer port) (with_member (codes "address") (string address)
+    (with_member (codes "name") (string name) no_members))))
+
+-- an asset with one rule, without a master
 abbrev pub asset_table : (name address : List ℕ) → (port : ℤ) → (protocol : List ℕ) → (station : ℤ) → (rule : Members) → Members
 asset_table name address port protocol station rule =
-    with_member (codes "rule") (only (table rule)) (with_member (codes "station") (integer station)
-    (with_member (codes "protocol") (string protocol) (with_member (codes "port") (integer port)
-    (with_member (codes "address") (string address) (with_member (codes "name") (string name) no_members)))))
+    with_member (codes "rule") (only (table rule)) (bare_asset_table name address port protocol station)
 
 abbrev pub w0_table : Members
 w0_table = asset_table (codes "w0") (codes "10.2.0.1") (pos 502) (codes "modbus") (pos 1) (rule_table (pos 6) (codes "0..9"))

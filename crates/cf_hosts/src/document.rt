@@ -1,10 +1,11 @@
 //! The policy of a world: a table of TOML, its text, and what the text means.
-ghost use Rattle.std.specs.Prelude.{◌≡◌, IfOk, OnOk, string_bytes};
+ghost use Rattle.std.specs.Prelude.{◌≡◌, [], IfOk, OnOk, string_bytes};
 ghost use Rattle.cf_policy.specs.Within.{IsWithin};
 ghost use Rattle.cf_policylang.specs.Spelling.{with_member};
 ghost use Rattle.cf_hosts.specs.Document.{IsDocument, made_policy};
-ghost use Rattle.cf_hosts.specs.Tables.{asset_items, asset_table, document_table, grouped_rule_table, only, rule_table, w0_table, w1_table};
-ghost use Rattle.cf_hosts.specs.Tables.{w2_table};
+ghost use Rattle.cf_hosts.specs.Tables.{asset_items, asset_table, bare_asset_table, document_table, grouped_rule_table, only, rule_table};
+ghost use Rattle.cf_hosts.specs.Tables.{w0_table, w1_table, w2_table};
+ghost use Rattle.toml.specs.Data.{no_members, string};
 ghost use Rattle.toml.specs.View.{array_view, table_view, view};
 
 use cf_policy::Policy;
@@ -58,10 +59,18 @@ fn assets(alloc: Global) -> Result<Array, AllocError>
     ensures { IfOk result (λ a. array_view a ≡ asset_items) }
 {
     let mut assets = Vec::new(alloc);
+    push_assets(alloc, &mut assets)?;
+    Ok(assets)
+}
+
+fn push_assets(alloc: Global, assets: &mut Array) -> Result<(), AllocError>
+    requires { assets.old.items ≡ [] }
+    ensures { OnOk result (array_view assets.new ≡ asset_items) }
+{
     assets.push(Value::Table(w0(alloc)?))?;
     assets.push(Value::Table(w1(alloc)?))?;
     assets.push(Value::Table(w2(alloc)?))?;
-    Ok(assets)
+    Ok(())
 }
 
 /// The asset that speaks Modbus.
@@ -102,19 +111,31 @@ fn asset(
 ) -> Result<Table, AllocError>
     ensures { IfOk result (λ t. table_view t ≡ asset_table name.now address.now port protocol.now station (table_view rule)) }
 {
+    let rules = only(alloc, Value::Table(rule))?;
     let mut asset = Table::new(alloc);
-    insert(alloc, &mut asset, "name", Value::string(alloc, name)?)?;
-    insert(alloc, &mut asset, "address", Value::string(alloc, address)?)?;
-    insert(alloc, &mut asset, "port", Value::Integer(port))?;
-    insert(
-        alloc,
-        &mut asset,
-        "protocol",
-        Value::string(alloc, protocol)?,
-    )?;
-    insert(alloc, &mut asset, "station", Value::Integer(station))?;
-    insert(alloc, &mut asset, "rule", only(alloc, Value::Table(rule))?)?;
+    fill_asset(alloc, &mut asset, name, address, port, protocol, station)?;
+    insert(alloc, &mut asset, "rule", rules)?;
     Ok(asset)
+}
+
+/// Gives an empty table what an asset has but for its rules.
+fn fill_asset(
+    alloc: Global,
+    asset: &mut Table,
+    name: &str,
+    address: &str,
+    port: i64,
+    protocol: &str,
+    station: i64,
+) -> Result<(), AllocError>
+    requires { table_view asset.old ≡ no_members }
+    ensures { OnOk result (table_view asset.new ≡ bare_asset_table name.now address.now port protocol.now station) }
+{
+    insert_text(alloc, asset, "name", name)?;
+    insert_text(alloc, asset, "address", address)?;
+    insert(alloc, asset, "port", Value::Integer(port))?;
+    insert_text(alloc, asset, "protocol", protocol)?;
+    insert(alloc, asset, "station", Value::Integer(station))
 }
 
 /// The rule `ok`, which allows a code at points.
@@ -122,17 +143,21 @@ fn rule(alloc: Global, code: i64, points: &str) -> Result<Table, AllocError>
     ensures { IfOk result (λ t. table_view t ≡ rule_table code points.now) }
 {
     let mut rule = Table::new(alloc);
-    insert(alloc, &mut rule, "name", Value::string(alloc, "ok")?)?;
-    insert(alloc, &mut rule, "action", Value::string(alloc, "allow")?)?;
-    insert(
-        alloc,
-        &mut rule,
-        "codes",
-        only(alloc, Value::Integer(code))?,
-    )?;
-    let points = only(alloc, Value::string(alloc, points)?)?;
-    insert(alloc, &mut rule, "points", points)?;
+    fill_rule(alloc, &mut rule, code, points)?;
     Ok(rule)
+}
+
+/// Gives an empty table what that rule has.
+fn fill_rule(alloc: Global, rule: &mut Table, code: i64, points: &str) -> Result<(), AllocError>
+    requires { table_view rule.old ≡ no_members }
+    ensures { OnOk result (table_view rule.new ≡ rule_table code points.now) }
+{
+    insert_text(alloc, rule, "name", "ok")?;
+    insert_text(alloc, rule, "action", "allow")?;
+    let codes = only(alloc, Value::Integer(code))?;
+    insert(alloc, rule, "codes", codes)?;
+    let points = only(alloc, Value::string(alloc, points)?)?;
+    insert(alloc, rule, "points", points)
 }
 
 /// The rule `ok`, which allows a code of a group at points.
@@ -152,6 +177,13 @@ fn only(alloc: Global, value: Value) -> Result<Value, AllocError>
     let mut values = Vec::new(alloc);
     values.push(value)?;
     Ok(Value::Array(values))
+}
+
+/// Gives a table a text at a key.
+fn insert_text(alloc: Global, table: &mut Table, key: &str, text: &str) -> Result<(), AllocError>
+    ensures { OnOk result (table_view table.new ≡ with_member key.now (string text.now) (table_view table.old)) }
+{
+    insert(alloc, table, key, Value::string(alloc, text)?)
 }
 
 /// Gives a table a value at a key.

@@ -177,7 +177,6 @@ what_plain (line.Cut c) h = and_plain (codes "cut ") (cut_text c) (refl) (cut_pl
 what_plain (line.Lost admitted refused) h = and_plain (codes "lost") (counts_text admitted refused) refl (counts_plain admitted refused)
 what_plain (line.Silent admitted refused) h = and_plain (codes "silent") (counts_text admitted refused) refl (counts_plain admitted refused)
 what_plain (line.Again admitted refused) h = and_plain (codes "again") (counts_text admitted refused) refl (counts_plain admitted refused)
-what_plain (line.Renewed admitted refused) h = and_plain (codes "renewed") (counts_text admitted refused) refl (counts_plain admitted refused)
 what_plain (line.Away came) h = and_plain (codes "away") (came_text came) refl (came_plain came)
 what_plain (line.Stranger came) h = and_plain (codes "stranger") (came_text came) refl (came_plain came)
 what_plain (line.Stands standing admitted refused) h =

@@ -2,7 +2,7 @@
 -- bytes that are left at an end.
 use Rattle.cf_audit.specs.Line.{Admit}
 use Rattle.cf_audit.specs.Line.{Begun, Close, Cut, LineValue, Listen, Lost, NoMemory, Partial, Refuse, Silent, Stray, Unreached}
-use Rattle.cf_audit.specs.Line.{Again, Away, Gone, Read, Renewed, Stands, Stranger, Unread, WhatValue}
+use Rattle.cf_audit.specs.Line.{Again, Away, Gone, Stands, Stranger, WhatValue}
 use Rattle.cf_audit.specs.Text.{line_text}
 use Rattle.cf_lane.specs.Dnp3.{frame_octets, is_fragment_unfinished}
 use Rattle.cf_lane.specs.Iec104.{apdu_octets}
@@ -113,9 +113,6 @@ HasPlainRule (Stranger came) = Unit {0}
 HasPlainRule (Lost admitted refused) = Unit {0}
 HasPlainRule (Silent admitted refused) = Unit {0}
 HasPlainRule (Again admitted refused) = Unit {0}
-HasPlainRule (Renewed admitted refused) = Unit {0}
-HasPlainRule Read = Unit {0}
-HasPlainRule Unread = Unit {0}
 HasPlainRule NoMemory = Unit {0}
 HasPlainRule (Stands standing admitted refused) = Unit {0}
 

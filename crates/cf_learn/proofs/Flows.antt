@@ -9,7 +9,7 @@ use Rattle.cf_view.specs.declared.Act.{Act}
 use Rattle.cf_watch.specs.FlowValue.{FlowValue, flow_value}
 use Rattle.cf_watch.specs.declared.Flow.{Flow}
 use Rattle.cf_learn.specs.Assets.{AreSeen}
-use Rattle.cf_learn.specs.Reading.{Adds}
+use Rattle.cf_learn.specs.Reading.{Adds, AddsSame, HaveSame}
 use Rattle.cf_learn.specs.Seen.{act_of, seen_of}
 use Rattle.cf_learn.specs.Shown.{IsSeen, IsShown}
 use Rattle.cf_learn.specs.declared.seen.Seen.{Seen}
@@ -81,6 +81,23 @@ module _ (asset : Asset) (place : ℕ) where
       of_commands = λ client act h. ⊎_elim (λ early. are.of_commands client act early) (λ late. a.of_commands act late.1) (split client act h);
       clients = λ client act h. ⊎_elim (λ early. are.clients client act early) (λ late. subst (λ c. c < 2 ^ 32) late.0 small) (split client act h);
     }
+
+-- the same acts were seen
+pub seen_same : (asset : Asset) (place : ℕ) (flows : List FlowValue) (seen all : List Seen) → HaveSame seen all → AreSeen asset place flows all → AreSeen asset place flows seen
+seen_same asset place flows seen all same are = record {
+  exactly = λ client act. (
+    λ h. (are.exactly client act).0 ((same (seen_of client act)).0 h),
+    λ s. (same (seen_of client act)).1 ((are.exactly client act).1 s),
+  );
+  of_commands = λ client act h. are.of_commands client act ((same (seen_of client act)).0 h);
+  clients = λ client act h. are.clients client act ((same (seen_of client act)).0 h);
+}
+
+-- a flow more, of which what is there is not kept again
+pub seen_gathered : (asset : Asset) (place : ℕ) (flows : List FlowValue) (f : FlowValue) (old new : List Seen) → f.asset ≡ place → f.client.address < 2 ^ 32
+    → AddsSame asset.protocol f.client.address (IsShown asset f.bytes) old new → AreSeen asset place flows old → AreSeen asset place (flows ++ f ∷ []) new
+seen_gathered asset place flows f old new to small a are =
+    seen_same asset place (flows ++ f ∷ []) new a.all a.same (seen_more asset place flows f old a.all to small a.adds are)
 
 -- the flows up to the next place
 pub flows_more : (flows : List Flow) (i : ℕ) (d : Flow) → i < length flows → map flow_value (take (i + 1) flows) ≡ map flow_value (take i flows) ++ flow_value (get_or flows i d) ∷ []

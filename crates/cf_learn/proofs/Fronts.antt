@@ -21,7 +21,7 @@ use Rattle.cf_view.specs.Framing.{Begins, BreaksAt, IsPartial}
 use Rattle.cf_view.specs.declared.Break.{Break}
 use Rattle.cf_view.specs.Units.{BeginsWithUnits}
 use Rattle.cf_view.specs.declared.Act.{Act}
-use Rattle.cf_learn.specs.Reading.{Adds, TakesFront, TakesNone, TakesUnit, made_whole, new_messages}
+use Rattle.cf_learn.specs.Reading.{Adds, AddsSame, GathersFront, HaveSame, TakesFront, TakesNone, TakesUnit, made_whole, new_messages}
 use Rattle.cf_learn.specs.Shown.{Fragment, HasAct, HaveAct, IsShown, is_segment, message_in, messages, segment_of}
 use Rattle.cf_learn.specs.declared.seen.Seen.{Seen}
 use Rattle.cf_learn.proofs.Adding.{adds_both, adds_none, adds_same, have_one}
@@ -161,13 +161,42 @@ abbrev pub IsToldAt : (asset : Asset) (client : ℕ) (bytes : List ℕ) (place :
 IsToldAt asset client bytes place assembly old seen (Some used) = (0 < used) × ReadTo asset client bytes (place + used) assembly old seen
 IsToldAt asset client bytes place assembly old seen None = Adds asset.protocol client (IsShown asset bytes) old seen
 
-pub told_next : (asset : Asset) (client : ℕ) (bytes : List ℕ) (place : ℕ) (assembly : AssemblyValue) (old seen : List Seen) → ReadTo asset client bytes place assembly old seen
+pub told_next : (asset : Asset) (client : ℕ) (bytes : List ℕ) (place : ℕ) (assembly : AssemblyValue) (old seen : List Seen) (r : ReadTo asset client bytes place assembly old seen)
     → (rest : List ℕ) → rest ≡ drop place bytes → (now : AssemblyValue) (new : List Seen) (front : Option ℕ)
-    → ((earlier : List (List ℕ)) → IsAssemblyOf assembly earlier → TakesFront asset client earlier rest seen new now front) → IsToldAt asset client bytes place now old new front
-told_next asset client bytes place assembly old seen r rest lent now new (Some used) takes =
-    let t = takes (reverse (flat_map (segment_of asset) r.units)) r.assembly_is in (t.some, read_on asset client bytes place assembly old seen r rest lent used now new t)
-told_next asset client bytes place assembly old seen r rest lent now new None takes =
-    read_end asset client bytes place assembly old seen r rest lent new (takes (reverse (flat_map (segment_of asset) r.units)) r.assembly_is)
+    → TakesFront asset client (reverse (flat_map (segment_of asset) r.units)) rest seen new now front → IsToldAt asset client bytes place now old new front
+told_next asset client bytes place assembly old seen r rest lent now new (Some used) t = (t.some, read_on asset client bytes place assembly old seen r rest lent used now new t)
+told_next asset client bytes place assembly old seen r rest lent now new None t = read_end asset client bytes place assembly old seen r rest lent new t
+
+-- the same of what was gathered, which has the same as all that was added
+abbrev pub IsGatheredAt : (asset : Asset) (client : ℕ) (bytes : List ℕ) (place : ℕ) (assembly : AssemblyValue) (old seen : List Seen) → Option ℕ → Type 0
+IsGatheredAt asset client bytes place assembly old seen front = (all : List Seen) × HaveSame seen all × IsToldAt asset client bytes place assembly old all front
+
+pub gathered_next : (asset : Asset) (client : ℕ) (bytes : List ℕ) (place : ℕ) (assembly : AssemblyValue) (old all seen : List Seen) → HaveSame seen all
+    → ReadTo asset client bytes place assembly old all → (rest : List ℕ) → rest ≡ drop place bytes → (now : AssemblyValue) (new : List Seen) (front : Option ℕ)
+    → ((earlier : List (List ℕ)) (all : List Seen) → IsAssemblyOf assembly earlier → HaveSame seen all → GathersFront asset client earlier rest all new now front)
+    → IsGatheredAt asset client bytes place now old new front
+gathered_next asset client bytes place assembly old all seen same r rest lent now new front gathers =
+    let g = gathers (reverse (flat_map (segment_of asset) r.units)) all r.assembly_is same in
+    (g.after, g.same, told_next asset client bytes place assembly old all r rest lent now g.after front g.takes)
+
+pub gathered_all : (asset : Asset) (client : ℕ) (bytes : List ℕ) (place : ℕ) (assembly : AssemblyValue) (old seen : List Seen)
+    → IsGatheredAt asset client bytes place assembly old seen None → AddsSame asset.protocol client (IsShown asset bytes) old seen
+gathered_all asset client bytes place assembly old seen g = record { all = g.0; same = g.1; adds = g.2 }
+
+-- what was taken apart from all others, behind them
+adds_behind : (p : Protocol) (client : ℕ) (P : Act → Type 0) (all fresh : List Seen) → Adds p client P [] fresh → Adds p client P all (all ++ fresh)
+adds_behind p client P all fresh a = record { acts = a.acts; appended = ap (λ l. all ++ l) a.appended; exactly = a.exactly; of_commands = a.of_commands }
+
+pub takes_behind : (asset : Asset) (client : ℕ) (earlier : List (List ℕ)) (bytes : List ℕ) (all fresh : List Seen) (assembly : AssemblyValue) (front : Option ℕ)
+    → TakesFront asset client earlier bytes [] fresh assembly front → TakesFront asset client earlier bytes all (all ++ fresh) assembly front
+takes_behind asset client earlier bytes all fresh assembly (Some used) t = record {
+  unit = t.unit;
+  begins = t.begins;
+  some = t.some;
+  adds = adds_behind asset.protocol client (HaveAct asset (new_messages asset earlier t.unit)) all fresh t.adds;
+  stands = t.stands;
+}
+takes_behind asset client earlier bytes all fresh assembly None t = record { tail = t.tail; are = t.are; same = ap (λ l. all ++ l) t.same ∙ append-nil all }
 
 -- what is lent from a place on
 pub lent_from : (bytes rest : List ℕ) (place : ℕ) → rest ≡ take (length bytes - place) (drop place bytes) → rest ≡ drop place bytes

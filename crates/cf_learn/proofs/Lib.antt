@@ -7,4 +7,5 @@ mod Gathered
 mod Greatest
 mod Learned
 mod Numbered
+mod Same
 mod Within

@@ -48,3 +48,20 @@ abbrev pub TakesFront : Asset → (client : ℕ) → (earlier : List (List ℕ))
     → (used : Option ℕ) → Type 0
 TakesFront asset client earlier bytes old new assembly (Some used) = TakesUnit asset client earlier bytes old new assembly used
 TakesFront asset client earlier bytes old new assembly None = TakesNone asset bytes old new
+
+-- the same acts, in whatever order and however often each
+abbrev pub HaveSame : (seen all : List Seen) → Type 0
+HaveSame seen all = (s : Seen) → Contains seen s ↔ Contains all s
+
+-- what is added to what was gathered is acts of the client, but for what was there
+pub record AddsSame (protocol : Protocol) (client : ℕ) (IsSo : Act → Type 0) (old new : List Seen) : Type 0 where
+  pub all : List Seen
+  pub adds : Adds protocol client IsSo old all
+  pub same : HaveSame new all
+
+-- what is gathered is the same as with all acts of what stands at the front
+pub record GathersFront (asset : Asset) (client : ℕ) (earlier : List (List ℕ)) (bytes : List ℕ) (all new : List Seen) (assembly : AssemblyValue)
+    (used : Option ℕ) : Type 0 where
+  pub after : List Seen
+  pub takes : TakesFront asset client earlier bytes all after assembly used
+  pub same : HaveSame new after

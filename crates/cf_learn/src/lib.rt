@@ -2,6 +2,7 @@
 #![tactic(auto)]
 
 mod assets;
+mod gathering;
 mod learning;
 mod limit;
 mod reading;

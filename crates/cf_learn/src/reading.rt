@@ -1,6 +1,7 @@
 //! What flows show of an asset: the acts of the commands with its station and a right form, unit by unit of a client's bytes. Numbers
 //! of IEC 60870-5-104 and whether its transfer was started are not asked.
 ghost use Rattle.std.specs.Prelude.{◌≡◌, ◌+◌, ◌^◌, ◌<◌, ◌≤◌, ◌++◌, ℕ, List, IfOk, OnOk, length, map};
+ghost use Rattle.std.specs.List.Sorted.{IsStrictlySortedBy};
 ghost use Rattle.cf_apci.specs.Apdu.{apdu_value};
 ghost use Rattle.cf_dnplink.specs.LinkFrame.{IsFrame, frame_value};
 ghost use Rattle.cf_dnptrans.specs.AssemblyValue.{AssemblyValue, IsAssemblyOf};
@@ -10,11 +11,14 @@ ghost use Rattle.cf_modbus.specs.Adu.{adu_value};
 ghost use Rattle.cf_view.specs.Octets.{IsOctets};
 ghost use Rattle.cf_watch.specs.FlowValue.{flow_value};
 ghost use Rattle.cf_learn.specs.Assets.{AreSeen};
-ghost use Rattle.cf_learn.specs.Reading.{Adds, TakesFront, new_messages};
+ghost use Rattle.cf_learn.specs.Reading.{Adds, AddsSame, GathersFront, HaveSame, TakesFront, new_messages};
+ghost use Rattle.cf_learn.specs.Rules.{seen_cmp};
 ghost use Rattle.cf_learn.specs.Seen.{seen_of};
 ghost use Rattle.cf_learn.specs.Shown.{Asdu, Fragment, HasAct, HaveAct, IsShown, Request, is_segment, message_in};
 ghost use Rattle.cf_learn.specs.Shown.{segment_of};
+ghost use Rattle.cf_learn.specs.declared.seen.Seen.{Seen};
 
+use crate::gathering::Gathering;
 use crate::seen::Seen;
 use cf_apci::{Apdu, next_apdu};
 use cf_asdu::{act_at as asdu_act, act_count as asdu_acts, read_asdu};
@@ -28,16 +32,17 @@ use cf_view::{Act, Framed, Side, View};
 use cf_watch::Flow;
 use std::alloc::{AllocError, Global};
 
-/// What the flows show of the asset at this place.
+/// What the flows show of the asset at this place, in order and each act once, however often they show it.
 pub fn seen_in(
     alloc: Global,
     asset: &Asset,
     place: u32,
     flows: &[Flow],
 ) -> Result<Vec<Seen>, AllocError>
-    ensures { IfOk result (λ seen. AreSeen asset.now place (map flow_value flows.now) seen.items) }
+    ensures seen { IfOk result (λ seen. AreSeen asset.now place (map flow_value flows.now) seen.items) }
+    ensures once { IfOk result (λ seen. IsStrictlySortedBy seen_cmp seen.items) }
 {
-    let mut seen = Vec::new(alloc);
+    let mut seen = Gathering::new(alloc);
     for flow in flows {
         if flow.asset == place {
             push_bytes(
@@ -49,30 +54,54 @@ pub fn seen_in(
             )?;
         }
     }
-    Ok(seen)
+    seen.finish()
 }
 
 /// Adds what the bytes of a client to the asset show.
 fn push_bytes(
     alloc: Global,
-    seen: &mut Vec<Seen>,
+    seen: &mut Gathering,
     asset: &Asset,
     client: u32,
     bytes: &[u8],
 ) -> Result<(), AllocError>
-    ensures adds { OnOk result (Adds asset.now.protocol client (IsShown asset.now bytes.now) seen.old.items seen.new.items) }
+    ensures adds { OnOk result (AddsSame asset.now.protocol client (IsShown asset.now bytes.now)
+        (seen.old.sorted.items ++ seen.old.loose.items) (seen.new.sorted.items ++ seen.new.loose.items)) }
     ensures client { client < 2 ^ 32 }
 {
     let Ok(mut assembly) = Assembly::new(alloc) else {
         return Err(AllocError);
     };
+    let mut fresh = Vec::new(alloc);
     let mut at = 0;
-    let mut front = push_front(seen, &mut assembly, asset, client, &View::one(bytes))?;
+    let first = View::one(bytes);
+    let mut front = gather_front(seen, &mut fresh, &mut assembly, asset, client, &first)?;
     while let Some(used) = front {
         at += used;
-        front = push_front(seen, &mut assembly, asset, client, &View::one(&bytes[at..]))?;
+        let rest = View::one(&bytes[at..]);
+        front = gather_front(seen, &mut fresh, &mut assembly, asset, client, &rest)?;
     }
     Ok(())
+}
+
+/// Gathers the acts of the unit at the front of bytes, if one is whole, and tells how many octets it takes. `fresh` holds them meanwhile.
+fn gather_front(
+    seen: &mut Gathering,
+    fresh: &mut Vec<Seen>,
+    assembly: &mut Assembly,
+    asset: &Asset,
+    client: u32,
+    bytes: &View<'_>,
+) -> Result<Option<usize>, AllocError>
+    ensures front { (earlier : List (List ℕ)) (all : List Seen) → IsAssemblyOf assembly.old earlier →
+        HaveSame (seen.old.sorted.items ++ seen.old.loose.items) all →
+        IfOk result (λ front. GathersFront asset.now client earlier bytes.now.bytes all (seen.new.sorted.items ++ seen.new.loose.items)
+        assembly.new front) }
+{
+    fresh.clear();
+    let front = push_front(fresh, assembly, asset, client, bytes)?;
+    seen.add(fresh.as_slice())?;
+    Ok(front)
 }
 
 /// Adds the acts of the unit at the front of bytes, if one is whole, and tells how many octets it takes.

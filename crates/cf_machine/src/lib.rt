@@ -1,7 +1,6 @@
-//! The outside as the machine has it: its files, a writer as a sink, and a pair of streams over TCP.
+//! The outside as the machine has it: a writer as a sink, and streams over TCP; and its files, which have a crate of their own.
 #![tactic(auto)]
 
-mod files;
 mod link;
 mod links;
 mod peer;
@@ -9,7 +8,7 @@ mod sink;
 mod standard;
 mod streams;
 
-pub use files::{Fault, Gather, RealFiles, Twins, Withheld};
+pub use cf_files::{Fault, Gather, RealFiles, Twins, Withheld};
 pub use link::{LinkFault, LinkPair, Part};
 pub use links::{Announcement, RealLinks, Supervisor};
 pub use sink::{Printing, RealSink};

@@ -90,7 +90,12 @@ fn asset_name(place: Place, earlier: &[Asset], table: &Table) -> Result<Name, Po
 fn is_asset_taken(earlier: &[Asset], text: &str) -> bool
     ensures { result ≡ is_asset_taken earlier.now text.now }
 {
-    earlier.iter().any(|asset| asset.name.as_str() == text)
+    for asset in earlier {
+        if asset.name.as_str() == text {
+            return true;
+        }
+    }
+    false
 }
 
 /// The endpoint: its address, and then its port, at which the two together are tested.
@@ -130,9 +135,12 @@ fn number_at(
 fn is_endpoint_taken(earlier: &[Asset], endpoint: Endpoint) -> bool
     ensures { result ≡ is_endpoint_taken earlier.now endpoint }
 {
-    earlier
-        .iter()
-        .any(|asset| same_endpoint(&asset.endpoint, &endpoint))
+    for asset in earlier {
+        if same_endpoint(&asset.endpoint, &endpoint) {
+            return true;
+        }
+    }
+    false
 }
 
 fn protocol(place: Place, table: &Table) -> Result<Protocol, PolicyRefusal>

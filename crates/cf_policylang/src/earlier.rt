@@ -77,7 +77,12 @@ impl Earlier {
 fn some_rule_has(rules: &[Rule], name: &str) -> bool
     ensures { result ≡ list_any (λ r. bytes_eq r.name name.now) rules.now }
 {
-    rules.iter().any(|rule| rule.name.as_str() == name)
+    for rule in rules {
+        if rule.name.as_str() == name {
+            return true;
+        }
+    }
+    false
 }
 
 /// A number made of a name: equal names have equal ones, and other names nearly always others.

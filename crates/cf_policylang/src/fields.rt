@@ -41,7 +41,12 @@ fn some_key_is_other(known: &[Key], table: &Table) -> bool
 fn is_among(known: &[Key], text: &str) -> bool
     ensures { result ≡ is_among known.now text.now }
 {
-    known.iter().any(|key| text == key.as_str())
+    for key in known {
+        if text == key.as_str() {
+            return true;
+        }
+    }
+    false
 }
 
 /// The value at a key, if the table has it.
@@ -150,7 +155,12 @@ fn all_kind(kind: Kind, array: &Array) -> bool
 fn each_is_kind(kind: Kind, values: &[Value]) -> bool
     ensures { result ≡ list_all (λ v. is_kind kind (view v)) values.now }
 {
-    values.iter().all(|value| is_kind(kind, value))
+    for value in values {
+        if !is_kind(kind, value) {
+            return false;
+        }
+    }
+    true
 }
 
 /// An array each of whose entries is of the kind.

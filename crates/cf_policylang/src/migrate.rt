@@ -63,13 +63,23 @@ fn printed(alloc: Global, third: bool, sets: Array, assets: Array) -> Result<Str
 fn needs_third(assets: &[Asset]) -> bool
     ensures { result ≡ needs_third assets.now }
 {
-    assets.iter().any(|asset| has_log(asset.rules.as_slice()))
+    for asset in assets {
+        if has_log(asset.rules.as_slice()) {
+            return true;
+        }
+    }
+    false
 }
 
 fn has_log(rules: &[Rule]) -> bool
     ensures { result ≡ list_any (λ r. r.log) rules.now }
 {
-    rules.iter().any(|rule| rule.log)
+    for rule in rules {
+        if rule.log {
+            return true;
+        }
+    }
+    false
 }
 
 fn version_for(third: bool) -> i64
@@ -181,7 +191,12 @@ fn gets_set(seen: &[Items<Span>], points: &[Span], later: &[Items<Span>]) -> boo
 fn has_list(lists: &[Items<Span>], points: &[Span]) -> bool
     ensures { result ≡ has_list lists.now points.now }
 {
-    lists.iter().any(|list| are_same(list.as_slice(), points))
+    for list in lists {
+        if are_same(list.as_slice(), points) {
+            return true;
+        }
+    }
+    false
 }
 
 fn set_tables(alloc: Global, lists: &[Items<Span>]) -> Result<Array, AllocError>

@@ -79,7 +79,7 @@ impl fmt::Display for Key {
 }
 
 /// Why a policy's text was refused. This project's own numbers.
-#[derive(Clone, Copy, PartialEq, Eq, Debug)]
+#[derive(Clone, Copy, PartialEq, Eq)]
 pub enum Cause {
     /// The text is no TOML document in UTF-8.
     NotToml = 1,

@@ -121,7 +121,12 @@ fn set_name(place: Place, earlier: &[PointSet], table: &Table) -> Result<Name, P
 fn is_set_taken(earlier: &[PointSet], text: &str) -> bool
     ensures { result ≡ is_set_taken earlier.now text.now }
 {
-    earlier.iter().any(|set| set.name.as_str() == text)
+    for set in earlier {
+        if set.name.as_str() == text {
+            return true;
+        }
+    }
+    false
 }
 
 /// The points of a set, which name no sets.

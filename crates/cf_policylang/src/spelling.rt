@@ -2,7 +2,7 @@
 ghost use Rattle.std.specs.Prelude.{◌≡◌, ◌+◌, ◌<◌, ◌^◌, ◌≤◌, ◌++◌, codes, IfOk, OnOk, pos, IfSome, string_bytes, length};
 ghost use Rattle.toml.specs.View.{array_view, table_view, view};
 ghost use Rattle.std.specs.List.{All};
-ghost use Rattle.toml.specs.Data.{string};
+ghost use Rattle.toml.specs.Data.{integer, no_members, string};
 ghost use Rattle.cf_view.specs.Text.{dotted};
 ghost use Rattle.cf_policy.specs.Within.{IsAssetWithin, IsRuleWithin, IsSpanWithin, highest_address};
 ghost use Rattle.cf_policylang.specs.declared.sets.TheConstants.{MOST_SETS};
@@ -29,31 +29,31 @@ pub(crate) fn asset_table(
     ensures { IfOk result (λ t. table_view t ≡ asset_table lists.now asset.now) }
 {
     let mut table = Table::new(alloc);
-    insert_text(alloc, &mut table, Key::Name, asset.name.as_str())?;
-    let address = dotted(alloc, asset.endpoint.address)?;
-    insert(alloc, &mut table, Key::Address, Value::String(address))?;
-    insert(
-        alloc,
-        &mut table,
-        Key::Port,
-        Value::Integer(i64::from(asset.endpoint.port)),
-    )?;
-    insert_text(
-        alloc,
-        &mut table,
-        Key::Protocol,
-        protocol_text(asset.protocol),
-    )?;
-    insert(
-        alloc,
-        &mut table,
-        Key::Station,
-        Value::Integer(i64::from(asset.station)),
-    )?;
-    insert_master(alloc, &mut table, asset.protocol, asset.master)?;
-    let rules = rule_tables(alloc, lists, asset.rules.as_slice())?;
-    insert_list(alloc, &mut table, Key::Rule, rules)?;
+    fill_asset(alloc, &mut table, lists, asset)?;
     Ok(table)
+}
+
+/// Gives an empty table what an asset has.
+fn fill_asset(
+    alloc: Global,
+    table: &mut Table,
+    lists: &[Items<Span>],
+    asset: &Asset,
+) -> Result<(), AllocError>
+    requires empty { table_view table.old ≡ no_members }
+    requires within { IsAssetWithin asset.now }
+    requires few { length lists.now ≤ MOST_SETS }
+    ensures { OnOk result (table_view table.new ≡ asset_table lists.now asset.now) }
+{
+    insert_text(alloc, table, Key::Name, asset.name.as_str())?;
+    let address = dotted(alloc, asset.endpoint.address)?;
+    insert(alloc, table, Key::Address, Value::String(address))?;
+    insert_number(alloc, table, Key::Port, i64::from(asset.endpoint.port))?;
+    insert_text(alloc, table, Key::Protocol, protocol_text(asset.protocol))?;
+    insert_number(alloc, table, Key::Station, i64::from(asset.station))?;
+    insert_master(alloc, table, asset.protocol, asset.master)?;
+    let rules = rule_tables(alloc, lists, asset.rules.as_slice())?;
+    insert_list(alloc, table, Key::Rule, rules)
 }
 
 /// The name of the set of this number, counted from 0, and its points.
@@ -104,6 +104,12 @@ fn insert_text(alloc: Global, table: &mut Table, key: Key, text: &str) -> Result
     insert(alloc, table, key, Value::string(alloc, text)?)
 }
 
+fn insert_number(alloc: Global, table: &mut Table, key: Key, number: i64) -> Result<(), AllocError>
+    ensures { OnOk result (table_view table.new ≡ with_key key (integer number) (table_view table.old)) }
+{
+    insert(alloc, table, key, Value::Integer(number))
+}
+
 fn insert_master(
     alloc: Global,
     table: &mut Table,
@@ -113,7 +119,7 @@ fn insert_master(
     ensures { OnOk result (table_view table.new ≡ with_master protocol master (table_view table.old)) }
 {
     match protocol {
-        Protocol::Dnp3 => insert(alloc, table, Key::Master, Value::Integer(i64::from(master))),
+        Protocol::Dnp3 => insert_number(alloc, table, Key::Master, i64::from(master)),
         Protocol::Modbus | Protocol::Iec104 => Ok(()),
     }
 }
@@ -136,21 +142,36 @@ fn rule_table(alloc: Global, lists: &[Items<Span>], rule: &Rule) -> Result<Table
     ensures { IfOk result (λ t. table_view t ≡ rule_table lists.now rule.now) }
 {
     let mut table = Table::new(alloc);
-    insert_text(alloc, &mut table, Key::Name, rule.name.as_str())?;
-    insert_text(alloc, &mut table, Key::Action, action_text(rule.action))?;
-    let clients = address_texts(alloc, rule.clients.as_slice())?;
-    insert_list(alloc, &mut table, Key::Clients, clients)?;
-    let codes = numbers(alloc, rule.codes.as_slice())?;
-    insert_list(alloc, &mut table, Key::Codes, codes)?;
-    let groups = number_texts(alloc, rule.groups.as_slice())?;
-    insert_list(alloc, &mut table, Key::Groups, groups)?;
-    let points = point_items(alloc, lists, rule.points.as_slice())?;
-    insert_list(alloc, &mut table, Key::Points, points)?;
-    let values = number_texts(alloc, rule.values.as_slice())?;
-    insert_list(alloc, &mut table, Key::Values, values)?;
-    insert_rate(alloc, &mut table, rule.rate)?;
-    insert_log(alloc, &mut table, rule.log)?;
+    fill_rule(alloc, &mut table, lists, rule)?;
     Ok(table)
+}
+
+/// Gives an empty table what a rule has.
+fn fill_rule(
+    alloc: Global,
+    table: &mut Table,
+    lists: &[Items<Span>],
+    rule: &Rule,
+) -> Result<(), AllocError>
+    requires empty { table_view table.old ≡ no_members }
+    requires within { IsRuleWithin rule.now }
+    requires few { length lists.now ≤ MOST_SETS }
+    ensures { OnOk result (table_view table.new ≡ rule_table lists.now rule.now) }
+{
+    insert_text(alloc, table, Key::Name, rule.name.as_str())?;
+    insert_text(alloc, table, Key::Action, action_text(rule.action))?;
+    let clients = address_texts(alloc, rule.clients.as_slice())?;
+    insert_list(alloc, table, Key::Clients, clients)?;
+    let codes = numbers(alloc, rule.codes.as_slice())?;
+    insert_list(alloc, table, Key::Codes, codes)?;
+    let groups = number_texts(alloc, rule.groups.as_slice())?;
+    insert_list(alloc, table, Key::Groups, groups)?;
+    let points = point_items(alloc, lists, rule.points.as_slice())?;
+    insert_list(alloc, table, Key::Points, points)?;
+    let values = number_texts(alloc, rule.values.as_slice())?;
+    insert_list(alloc, table, Key::Values, values)?;
+    insert_rate(alloc, table, rule.rate)?;
+    insert_log(alloc, table, rule.log)
 }
 
 fn insert_log(alloc: Global, table: &mut Table, log: bool) -> Result<(), AllocError>
@@ -169,18 +190,8 @@ fn insert_rate(alloc: Global, table: &mut Table, rate: Option<Rate>) -> Result<(
     let Some(rate) = rate else {
         return Ok(());
     };
-    insert(
-        alloc,
-        table,
-        Key::Most,
-        Value::Integer(i64::from(rate.most)),
-    )?;
-    insert(
-        alloc,
-        table,
-        Key::Seconds,
-        Value::Integer(i64::from(rate.seconds)),
-    )
+    insert_number(alloc, table, Key::Most, i64::from(rate.most))?;
+    insert_number(alloc, table, Key::Seconds, i64::from(rate.seconds))
 }
 
 /// The entries of a rule's points: the name of their set, if one of the lists is the same, and else each span.
@@ -298,9 +309,15 @@ fn numbers(alloc: Global, spans: &[Span]) -> Result<Array, AllocError>
 {
     let mut numbers = Vec::new(alloc);
     for span in spans {
-        numbers.push(Value::Integer(span.low))?;
+        numbers.push(code_value(span))?;
     }
     Ok(numbers)
+}
+
+fn code_value(span: &Span) -> Value
+    ensures { view result ≡ integer span.now.low }
+{
+    Value::Integer(span.low)
 }
 
 fn action_text(action: Action) -> &'static str

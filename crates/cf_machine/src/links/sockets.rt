@@ -176,7 +176,7 @@ impl<'a, R: Net + Clock> Sockets<'a, R> {
         };
         if self.may_drain || is_over {
             self.leaving.retain_mut(|leaving| !leaving.drain(now));
-            self.may_drain = self.leaving.iter().any(|leaving| leaving.may_read);
+            self.may_drain = some_may_read(self.leaving.as_slice());
         }
     }
 
@@ -216,25 +216,15 @@ impl<'a, R: Net + Clock> Sockets<'a, R> {
                 place.note(event);
                 continue;
             }
-            let side = if token % 2 == 0 {
-                Side::Client
-            } else {
-                Side::Controller
-            };
             let number = (token / 2) as u64;
             if let Some(at) = seat_near(&self.sessions, self.asked, number) {
                 let session = &mut self.sessions[at];
-                session.note(side, event);
+                session.note(side_of(token), event);
                 if session.longest_wait(self.now) == 0 {
                     self.turns.wake(number)?;
                 }
-                continue;
-            }
-            for leaving in self.leaving.iter_mut() {
-                if leaving.number == number {
-                    leaving.may_read = true;
-                    self.may_drain = true;
-                }
+            } else if note_left(&mut self.leaving, number) {
+                self.may_drain = true;
             }
         }
         Ok(())
@@ -320,6 +310,36 @@ impl<'a, R: Net + Clock> Sockets<'a, R> {
             }
         }
     }
+}
+
+/// The side of a session whose token this is.
+fn side_of(token: usize) -> Side {
+    if token % 2 == 0 {
+        Side::Client
+    } else {
+        Side::Controller
+    }
+}
+
+/// Notes that something may have come for a session that was left; whether there is one of this number.
+fn note_left(all: &mut [Leaving], number: u64) -> bool {
+    for leaving in all.iter_mut() {
+        if leaving.number == number {
+            leaving.may_read = true;
+            return true;
+        }
+    }
+    false
+}
+
+/// Whether something may have come for one of the connections that were left.
+fn some_may_read(all: &[Leaving]) -> bool {
+    for leaving in all {
+        if leaving.may_read {
+            return true;
+        }
+    }
+    false
 }
 
 /// Where the session of a number stands: in a place or in the next, or where a search finds it.

@@ -8,5 +8,5 @@ pub returns-clause-learned : goal.returns-clause-learned
 returns-clause-learned c =
     let rules = c.in_ok-rules.rules.items in
     subst (IsLearnedAsset c.args.asset.now c.args.place (map flow_value c.args.flows.now)) (sym c.with_rules.ensures)
-    (learned_with c.args.asset.now c.args.place (map flow_value c.args.flows.now) c.in-Ok.seen.items c.in-Ok.ensures rules c.requires.within
+    (learned_with c.args.asset.now c.args.place (map flow_value c.args.flows.now) c.in-Ok.seen.items c.in-Ok.ensures.seen rules c.requires.within
     c.in_ok-rules.ensures.rules c.in_ok-rules.ensures.allows c.in_ok-rules.ensures.grouped c.in_ok-rules.ensures.within)

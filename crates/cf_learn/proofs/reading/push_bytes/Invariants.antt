@@ -1,9 +1,10 @@
-use Rattle.std.proofs.Common.{◌-◌, length}
-use Rattle.cf_learn.proofs.Fronts.{IsToldAt}
+use Rattle.std.proofs.Common.{◌-◌, ◌++◌, length}
+use Rattle.cf_learn.proofs.Fronts.{IsGatheredAt}
 use Rattle.cf_learn.proofs.reading.push_bytes.Given as goal
 
 abbrev pub invariant-loop-front : goal.invariant-loop-front
-invariant-loop-front l = IsToldAt l.asset l.client l.bytes l.at l.assembly l.fn.seen.items l.seen.items l.front
+invariant-loop-front l = IsGatheredAt l.asset l.client l.bytes l.at l.assembly (l.fn.seen.sorted.items ++ l.fn.seen.loose.items)
+    (l.seen.sorted.items ++ l.seen.loose.items) l.front
 
 abbrev pub decreases-loop-front : goal.decreases-loop-front
 decreases-loop-front l = length l.bytes - l.at

@@ -32,7 +32,7 @@ enum Leads {
 }
 
 /// What the work does with the file of a name.
-#[derive(Clone, Copy, PartialEq, Eq)]
+#[derive(Clone, Copy)]
 pub(crate) enum Use {
     Read,
     /// It is to be made anew.
@@ -73,7 +73,12 @@ pub(crate) fn place_of<R: FileSystem>(
 
 /// Whether a file of this name was made anew.
 pub(crate) fn is_begun(places: &[Place], name: &str) -> bool {
-    places.iter().any(|place| place.used == Use::Begun && place.name.as_str() == name)
+    for place in places {
+        if matches!(place.used, Use::Begun) && place.name.as_str() == name {
+            return true;
+        }
+    }
+    false
 }
 
 /// The first two names of one file of which one is an output's.
@@ -83,7 +88,7 @@ pub(crate) fn first_twins<R: FileSystem>(
     places: &[Place],
 ) -> Result<Option<Twins>, AllocError> {
     for place in places.iter() {
-        if place.used == Use::Output {
+        if matches!(place.used, Use::Output) {
             if let Some(twins) = twin_of(rt, alloc, places, place.name.as_str())? {
                 return Ok(Some(twins));
             }

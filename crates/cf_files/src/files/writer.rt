@@ -117,7 +117,12 @@ impl<R: FileSystem> Writers<R> {
 
     /// Whether octets of the file of this name are held.
     pub(crate) fn holds_of(&self, name: &str) -> bool {
-        self.open.iter().any(|writer| writer.name.as_str() == name && !writer.held.is_empty())
+        for writer in self.open.iter() {
+            if writer.name.as_str() == name && !writer.held.is_empty() {
+                return true;
+            }
+        }
+        false
     }
 
     /// Writes what is held of every file. Where an octet cannot be written, what came behind it in other files is not written either, or
@@ -131,13 +136,18 @@ impl<R: FileSystem> Writers<R> {
                 done = Err(fault_of(self.alloc, writer.name.as_str(), error));
             }
         }
+        self.keep_first(first);
+        done
+    }
+
+    /// Takes back what was written beyond the first octets of all files, and holds nothing any more.
+    fn keep_first(&mut self, first: usize) {
         for (place, writer) in self.open.iter_mut().enumerate() {
             // Where it cannot be taken back it stays.
             let _ = writer.keep(self.order.share(place, first));
             writer.clear();
         }
         self.order.clear();
-        done
     }
 
     /// Makes a file empty, or anew where it is not there, and keeps it open as the latest.
@@ -250,10 +260,16 @@ fn write_followed<R: FileSystem>(
 /// Opens a file at its end, made where it is not there, and gives its last line the line feed that it may lack.
 fn opened_at_end<R: FileSystem>(rt: &R, name: &str) -> io::Result<R::File> {
     let mut file = OpenOptions::new().append(true).create(true).open(rt, name)?;
+    end_line(rt, name, &mut file)?;
+    Ok(file)
+}
+
+/// Gives the last line of a file that is open at its end the line feed that it may lack.
+fn end_line<R: FileSystem>(rt: &R, name: &str, file: &mut R::File) -> io::Result<()> {
     if file.metadata()?.is_file() && lacks_feed(rt, name)? {
         file.write_all(b"\n")?;
     }
-    Ok(file)
+    Ok(())
 }
 
 /// Goes on with the file that a name leads to now, where that is not the open one: a log that is renamed away is begun anew. It looks
@@ -288,6 +304,10 @@ fn second() -> i64 {
 /// Whether a file has octets, and the last of them is no line feed.
 fn lacks_feed<R: FileSystem>(rt: &R, name: &str) -> io::Result<bool> {
     let mut file = OpenOptions::new().read(true).open(rt, name)?;
+    ends_amid_line(&mut file)
+}
+
+fn ends_amid_line<F: Read + Seek>(file: &mut F) -> io::Result<bool> {
     if file.seek(SeekFrom::End(0))? == 0 {
         return Ok(false);
     }
@@ -301,9 +321,12 @@ fn lacks_feed<R: FileSystem>(rt: &R, name: &str) -> io::Result<bool> {
 fn find_writer<F: Drop>(writers: &[Writer<F>], name: &str) -> Option<usize>
     ensures { IfSome result (λ place. place < length writers.now) }
 {
-    writers
-        .iter()
-        .position(|writer| writer.name.as_str() == name)
+    for (place, writer) in writers.iter().enumerate() {
+        if writer.name.as_str() == name {
+            return Some(place);
+        }
+    }
+    None
 }
 
 /// An open file, of which nothing is held.

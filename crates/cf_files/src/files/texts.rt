@@ -59,7 +59,16 @@ impl Texts {
 
     /// Whether the text of a file is kept.
     pub(crate) fn has(&self, name: &str) -> bool {
-        self.kept.iter().any(|text| text.name.as_str() == name)
+        self.text_named(name).is_some()
+    }
+
+    fn text_named(&self, name: &str) -> Option<&Text> {
+        for text in self.kept.iter() {
+            if text.name.as_str() == name {
+                return Some(text);
+            }
+        }
+        None
     }
 
     /// Notes what was read of a file at a place.
@@ -73,11 +82,9 @@ impl Texts {
 
     /// What was read of a file; nothing where its text is not kept, or no read of it was answered.
     pub(crate) fn of(&self, name: &str) -> Option<&[u8]> {
-        let text = self.kept.iter().find(|text| text.name.as_str() == name)?;
-        if text.is_read {
-            Some(text.octets.as_slice())
-        } else {
-            None
+        match self.text_named(name) {
+            Some(text) if text.is_read => Some(text.octets.as_slice()),
+            _ => None,
         }
     }
 }
