@@ -6,6 +6,7 @@ use Rattle.std.proofs.lemmas.Option.{slice_get-get_or, slice_get_read}
 use Rattle.std.proofs.lemmas.List.{take_more}
 use Rattle.std.proofs.Math.Seq.{drop-cons}
 use Rattle.cf_lane.specs.Judged.{one_if}
+use Rattle.cf_policy.specs.Site.{SiteValue, site_from}
 use Rattle.cf_policy.specs.declared.Asset.{Asset}
 use Rattle.cf_session.specs.Parts.{SessionValue}
 use Rattle.cf_session.specs.Stands.{IsLife, IsSound, due_of}
@@ -45,14 +46,10 @@ pub sound_pushed : (assets : List Asset) (limit : ℕ) (table : List Entry) (ent
 sound_pushed assets limit [] entry sound one = (one, tt)
 sound_pushed assets limit (e ∷ es) entry sound one = (sound.0, sound_pushed assets limit es entry sound.1 one)
 
--- an asset is that of its place
-pub same_asset : (assets : List Asset) (place : ℕ) (a b : Asset) → slice_get assets place ≡ Some a → slice_get assets place ≡ Some b → a ≡ b
-same_asset assets place a b p q = let e : Some a ≡ Some b = sym p ∙ q in cc
-
--- the state of a session after a call, where its asset and its limit are as they were
-pub sound_after : (assets : List Asset) (limit : ℕ) (entry : Entry) (asset : Asset) (s : SessionValue) → IsSoundEntry assets limit entry → slice_get assets entry.asset ≡ Some asset →
-    IsSound asset s → s.limit ≡ SessionValue.limit entry.session → (due : ℕ) → due ≡ due_of s → IsSoundEntry assets limit (record { session = s; asset = entry.asset; due = due })
-sound_after assets limit entry asset s one at sound same due due_is = record { asset = asset; at = at; sound = sound; limit_is = same ∙ one.limit_is; due_is = due_is }
+-- the state of a session after a call, where its site and its limit are as they were
+pub sound_after : (assets : List Asset) (limit : ℕ) (entry : Entry) (site : SiteValue) (s : SessionValue) → IsSoundEntry assets limit entry → site_from assets entry.asset ≡ Some site →
+    IsSound site s → s.limit ≡ SessionValue.limit entry.session → (due : ℕ) → due ≡ due_of s → IsSoundEntry assets limit (record { session = s; asset = entry.asset; due = due })
+sound_after assets limit entry site s one at sound same due due_is = record { site = site; at = at; sound = sound; limit_is = same ∙ one.limit_is; due_is = due_is }
 
 -- a session that stays is one of those that live on
 pub lives : (l : Life) → stays_by l ≡ true → IsLife l

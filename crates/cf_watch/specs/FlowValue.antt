@@ -6,8 +6,8 @@ use Rattle.cf_watch.specs.declared.flow.Conflict.{Conflict}
 use Rattle.cf_watch.specs.declared.flow.Flow.{Flow}
 use Rattle.cf_watch.specs.declared.flow.Stretch.{Stretch}
 
--- a flow: its client, the place of its asset in the policy, the record with which it begins where that is amid its stream, its bytes,
--- for each of them the number of the record with which they reached it, and its first conflict
+-- a flow: its client, the place in the policy of the first asset at the address and port that it goes to, the record with which it begins
+-- where that is amid its stream, its bytes, for each of them the number of the record with which they reached it, and its first conflict
 pub record FlowValue : Type 0 where
   pub client : Endpoint
   pub asset : ℕ

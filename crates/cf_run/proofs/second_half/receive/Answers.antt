@@ -3,12 +3,17 @@ use Rattle.cf_lane.specs.Judged.{one_if}
 use Rattle.cf_packet.specs.Packet.{packet_value}
 use Rattle.cf_session.specs.Told.{told}
 use Rattle.cf_run.specs.Entries.{entry_match}
-use Rattle.cf_run.proofs.Matched.{begins_means}
+use Rattle.cf_run.proofs.Matched.{begins_means, begins_place}
 use Rattle.cf_run.proofs.Packets.{begins_there, begun, full, outside, went}
 use Rattle.cf_run.proofs.Faults.{same_fault}
 use Rattle.cf_run.proofs.ReceivedAmid.{begun_breaks, went_breaks}
 use Rattle.cf_run.specs.declared.engine.StepFault.TheVariants as stepped
 use Rattle.cf_run.proofs.second_half.receive.Goals as goal
+
+pub begin-requires-clause-place : goal.begin-requires-clause-place
+begin-requires-clause-place g c =
+    begins_place c.args.assets.now c.args.table.now.sessions.items (packet_value c.args.packet.now) c.in-Begins.asset c.in-Begins.closed
+    (ap (λ xs. entry_match c.args.assets.now xs (packet_value c.args.packet.now)) (sym c.deref.ensures.value) ∙ sym c.match_packet.ensures ∙ c.in-Begins.is)
 
 pub returns-in-Full-clause-received : goal.returns-in-Full-clause-received
 returns-in-Full-clause-received g c = λ table ticked all.
