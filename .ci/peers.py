@@ -46,17 +46,17 @@ def adu(number, pdu, unit=STATION):
     return struct.pack('>HHHB', number, 0, len(pdu) + 1, unit) + pdu
 
 
-def registers(point, count):
-    """The registers that a controller has: each its own number."""
-    return b''.join(struct.pack('>H', (point + at) & 0xffff) for at in range(count))
+def registers(point, count, unit):
+    """The registers that a unit has: each its own number, and 1,000 more for each unit behind the first."""
+    return b''.join(struct.pack('>H', (point + at + 1000 * (unit - STATION)) & 0xffff) for at in range(count))
 
 
 def modbus_answer(request):
     """What a server answers to a read of holding registers or a write of one."""
-    number, pdu = struct.unpack('>H', request[:2])[0], request[7:]
+    number, unit, pdu = struct.unpack('>H', request[:2])[0], request[6], request[7:]
     if pdu[0] == 3:
         point, count = struct.unpack('>HH', pdu[1:5])
-        return adu(number, bytes([3, 2 * count]) + registers(point, count))
+        return adu(number, bytes([3, 2 * count]) + registers(point, count, unit), unit)
     return request
 
 
@@ -98,14 +98,17 @@ class Segments:
     def __init__(self, control, to, by):
         self.control, self.to, self.by, self.count = control, to, by, 0
 
-    def frames(self, fragment):
+    def list(self, fragment):
         pieces = [fragment[at:at + 249] for at in range(0, len(fragment), 249)]
-        text = b''
+        frames = []
         for at, piece in enumerate(pieces):
             head = 0x40 * (at == 0) | 0x80 * (at == len(pieces) - 1) | self.count % 64
-            text += link_frame(self.control, self.to, self.by, bytes([head]) + piece)
+            frames.append(link_frame(self.control, self.to, self.by, bytes([head]) + piece))
             self.count += 1
-        return text
+        return frames
+
+    def frames(self, fragment):
+        return b''.join(self.list(fragment))
 
 
 class Fragments:
@@ -223,8 +226,8 @@ class Controller:
     """Answers on each connection by its protocol, in the order of what came, and reads no more until it could write. What is no unit of
     it is kept, and answered by nothing."""
 
-    def __init__(self, port, protocol, is_deaf=False, options=()):
-        self.protocol, self.port, self.taken = protocol, port, []
+    def __init__(self, port, protocol, is_deaf=False, options=(), sides=SIDES):
+        self.protocol, self.port, self.taken, self.sides = protocol, port, [], sides
         self.listener = socket.socket()
         self.listener.setsockopt(socket.SOL_SOCKET, socket.SO_REUSEADDR, 1)
         for option in options:
@@ -246,7 +249,7 @@ class Controller:
             threading.Thread(target=self.serve, args=(taken,), daemon=True).start()
 
     def serve(self, taken):
-        side, rest = SIDES[self.protocol](), b''
+        side, rest = self.sides[self.protocol](), b''
         try:
             while octets := taken.stream.recv(65536):
                 taken.octets += octets
@@ -264,10 +267,11 @@ class Controller:
 # Masters.
 
 class Line:
-    """A line of the log that has to come: its text, and between which moments its own lies."""
+    """A line of the log that has to come: its text, between which moments its own lies, and under which name where that is not the first
+    of the place's assets."""
 
-    def __init__(self, text, earliest):
-        self.text, self.earliest, self.latest = text, earliest, None
+    def __init__(self, text, earliest, name=None):
+        self.text, self.earliest, self.latest, self.name = text, earliest, None, name
 
 
 class Master:
@@ -282,19 +286,19 @@ class Master:
         # What has to come, the earliest first, each with its line: from the box and from the controller. Each keeps its own order.
         self.replies, self.answers = collections.deque(), collections.deque()
 
-    def add_line(self, text):
-        line = Line(text, time.time())
+    def add_line(self, text, name=None):
+        line = Line(text, time.time(), name)
         self.lines.append(line)
         return line
 
-    def refuse(self, text, shown, reply):
+    def refuse(self, text, shown, reply, name=None):
         self.refused += 1
-        self.replies.append((reply, self.add_line(f'refuse {text} replied {shown[:16].hex()}')))
+        self.replies.append((reply, self.add_line(f'refuse {text} replied {shown[:16].hex()}', name)))
 
-    def admit(self, text, shown, answer):
+    def admit(self, text, shown, answer, name=None):
         """An admitted command; one without a text has no line."""
         self.admitted += 1
-        self.answers.append((answer, self.add_line(f'admit {text} {shown[:16].hex()}') if text else None))
+        self.answers.append((answer, self.add_line(f'admit {text} {shown[:16].hex()}', name) if text else None))
 
     def is_settled(self):
         return not self.replies and not self.answers
@@ -433,15 +437,18 @@ class Iec104Master(Master):
             value, act = 0, f'code 45 group 6 point {point} value 0'
         elif is_refused:
             station, act = 9, 'code 45 group 0 point 9 value -'
-        asdu = asdu_of(kind, point, value, station)
-        unit = apdu(len(self.sent), self.received, asdu)
+        return self.spell(asdu_of(kind, point, value, station), why if is_refused else '', act)
+
+    def spell(self, asdu, why, act, name=None):
+        """The next frame, which is refused where it is said why."""
+        is_refused, unit = bool(why), apdu(len(self.sent), self.received, asdu)
         if is_refused:
-            self.refuse(f'{why} {act}', unit, with_cause(asdu, 0x47))
+            self.refuse(f'{why} {act}', unit, with_cause(asdu, 0x47), name)
             self.mirrored.append(len(self.sent))
             if self.confirmed > self.told:
                 self.forwarded += supervisory(self.confirmed)
         else:
-            self.admit(f'switch {act}', unit, with_cause(asdu, 7))
+            self.admit(f'switch {act}', unit, with_cause(asdu, 7), name)
             self.forwarded += apdu(sum(self.sent), self.confirmed, asdu)
         self.told = self.confirmed
         self.sent.append(not is_refused)

@@ -199,6 +199,13 @@ def openings():
     return b"".join(adu(number, 1, pdu) for number, pdu in enumerate(requests, 1))
 
 
+def gateway():
+    """What one client sends to three units of a gateway, each by its unit identifier, and to a fourth that no asset has."""
+    requests = ((1, b"\x03\0\x28\0\x02"), (2, b"\x05\0\x02\xff\0"), (3, b"\x04\0\0\0\x02"), (1, b"\x06\0\x28\0\x64"), (2, b"\x06\0\x28\0\x64"),
+                (3, b"\x05\0\x02\xff\0"), (2, b"\x05\0\x02\0\0"), (2, b"\x05\0\x02\xff\0"), (4, b"\x03\0\x28\0\x01"))
+    return b"".join(adu(number, unit, pdu) for number, (unit, pdu) in enumerate(requests, 1))
+
+
 def waterworks():
     capture = Capture()
     room = (10, 20, 1, 5)
@@ -252,7 +259,7 @@ def waterworks():
 
 def main():
     folder = sys.argv[1]
-    made = {"reservoir.bin": reservoir, "substation.bin": substation, "openings.bin": openings, "waterworks.pcap": waterworks}
+    made = {"reservoir.bin": reservoir, "substation.bin": substation, "openings.bin": openings, "gateway.bin": gateway, "waterworks.pcap": waterworks}
     for name, octets in made.items():
         with open(f"{folder}/{name}", "wb") as file:
             file.write(octets())

@@ -107,10 +107,14 @@ def given(random, client, controller, octets):
 
 
 def local(policy, asset, port):
-    """The policy with an asset on this machine, or None where rules name clients or have a rate, which sockets do not keep."""
+    """The policy with an asset, and those behind its address and port, on this machine; or None where rules name clients or have a rate,
+    which sockets do not keep."""
     if re.search(r"clients|most", policy):
         return None
     front, name, part = policy.partition(f'name = "{asset}"')
+    own = re.search(r'address = "[^"]*"\nport = \d+\n', part)
+    if own:
+        return policy.replace(own[0], f'address = "127.0.0.1"\nport = {port}\n')
     return front + name + re.sub(r"port = \d+", f"port = {port}", re.sub(r'address = "[^"]*"', 'address = "127.0.0.1"', part, 1), 1)
 
 

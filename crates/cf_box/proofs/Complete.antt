@@ -24,7 +24,7 @@ use Rattle.cf_box.specs.Compare.{ExceedsAt, IsNotIncluded}
 use Rattle.cf_box.specs.Ends.{CutsCapture, CutsRun, CutsStream, Denies, EndsIdle, ExceedsCells, ExceedsRules, LacksAsset, LinkFails, Meets, RefusesCapture, RefusesMadePolicy, RefusesPolicy}
 use Rattle.cf_ending.specs.Outside.{Outside, ReadFailed, WriteFailed}
 use Rattle.cf_box.specs.Packets.{HasListedRecords}
-use Rattle.cf_box.specs.PolicyFile.{HasPolicy, IsRefusedBy, TellsAsset}
+use Rattle.cf_box.specs.PolicyFile.{HasPolicy, IsRefusedBy, asset_named}
 use Rattle.cf_box.specs.Run.{RunCuts, RunRefuses}
 use Rattle.cf_watch.specs.declared.fault.TheConstants.{CAPTURE_LIMIT}
 use Rattle.cf_box.specs.InForm.{HasRecordsIn, HasRecordsToItsEnd, HasTimedRecords, TellsAll}
@@ -59,17 +59,16 @@ same_policy file bytes p q told means has =
     cc
 
 -- an asset that a told policy has is not lacking
-pub not_lacking : (c : Command) (before : Outside) (file name : List ℕ) (t : TellsAsset (before.files.content file) name) → policy_file c ≡ Some file → asset_name c ≡ Some name →
-    LacksAsset c before → ⊥
-not_lacking c before file name t of_policy of_asset cause =
+pub not_lacking : (c : Command) (before : Outside) (file name bytes : List ℕ) (p : Policy) (asset : Asset) → before.files.content file ≡ holds bytes → policy_meaning bytes ≡ Ok p →
+    asset_named name p ≡ Some asset → policy_file c ≡ Some file → asset_name c ≡ Some name → LacksAsset c before → ⊥
+not_lacking c before file name bytes p asset told means named of_policy of_asset cause =
     let e = cause.2 in
     let f = cause.3 in
     let here : cause.0 ≡ file = cc in
     let called : cause.1 ≡ name = cc in
     let has : HasPolicy (before.files.content file) cause.4.0 = subst (λ x. HasPolicy (before.files.content x) cause.4.0) here cause.4.1 in
-    let same : cause.4.0 ≡ t.policy = same_policy (before.files.content file) t.bytes t.policy cause.4.0 t.told t.means has in
+    let same : cause.4.0 ≡ p = same_policy (before.files.content file) bytes p cause.4.0 told means has in
     let none = cause.4.2 in
-    let named = t.named in
     cc
 
 -- a policy that is told and has a meaning is not refused, where it is the command's one policy
@@ -278,7 +277,7 @@ module _ (c : Command) (before middle : Outside) (failed : Type 0) (status : ℕ
       let cause : LacksAsset c before = meets.0 in
       let here = input.policy cause.0 cause.2 in
       let found = here.2.2 cause.1 cause.3 in
-      absurd (not_lacking c before cause.0 cause.1 (record { bytes = here.0; policy = here.2.0; asset = found.0; told = here.1; means = here.2.1; named = found.1 }) cause.2 cause.3 cause)
+      absurd (not_lacking c before cause.0 cause.1 here.0 here.2.0 found.0 here.1 here.2.1 found.1 cause.2 cause.3 cause)
   is_complete (Err (stop.CaptureRefused r)) meets h = absurd (in_form.refused r meets.0.0)
   is_complete (Err (stop.CaptureCut place)) meets h = absurd (in_form.cut place meets.0.0)
   is_complete (Err (stop.RunCut place summary)) meets h = absurd (in_form.run_cut place meets.0.0)

@@ -12,17 +12,17 @@ use Rattle.cf_relay.specs.Turn.{AreItemsOf, cut_at}
 use Rattle.cf_relay.specs.declared.done.RelayDone.{RelayDone}
 use Rattle.cf_relay.specs.declared.done.RelayFault.{RelayFault}
 use Rattle.cf_compare.specs.Outcome.{HasNothing}
-use Rattle.cf_policy.specs.declared.Asset.{Asset}
+use Rattle.cf_policy.specs.Site.{SiteValue}
 use Rattle.cf_policy.specs.declared.Policy.{Policy}
 use Rattle.cf_policylang.specs.Documents.{policy_meaning}
 use Rattle.cf_policylang.specs.declared.PolicyRefusal.{PolicyRefusal}
-use Rattle.cf_words.specs.Command.{Command, Check, Compare, Draft, Judge, Migrate, Packets, Review, Run, Relay, World, Sift, policy_file, Learn}
+use Rattle.cf_words.specs.Command.{Command, Check, Compare, Draft, Judge, Migrate, Packets, Review, Run, Relay, World, Sift, asset_name, policy_file, Learn}
 use Rattle.cf_box.specs.Compare.{IsIncluded, OfPolicies, TellsNotIncluded}
 use Rattle.cf_box.specs.Ends.{Does, LacksAsset, Meets, PassesPolicy, RefusesPolicy}
 use Rattle.cf_box.specs.Draft.{Drafts}
 use Rattle.cf_box.specs.Learn.{Learns}
 use Rattle.cf_ending.specs.Outside.{Outside, ReadFailed, WriteFailed}
-use Rattle.cf_box.specs.PolicyFile.{FindsAsset, HasPolicy, IsRefusedBy, StopsPolicy, TellsAsset}
+use Rattle.cf_box.specs.PolicyFile.{FindsSite, HasPolicy, IsRefusedBy, StopsPolicy, TellsSite, site_named}
 use Rattle.cf_sift.specs.Laws.{HasOneCut}
 use Rattle.cf_sift.specs.Names.{SiftNamesValue}
 use Rattle.cf_sift.specs.Stored.{GoesUpTo, stored_history}
@@ -42,6 +42,7 @@ use Rattle.cf_box.proofs.Complete.{known_unrefused, not_cut_all, not_cut_watch, 
 use Rattle.cf_box.proofs.OneJudgement.{judgement_told}
 use Rattle.cf_box.proofs.Passing.{found_passes, one_policy, policy_passes}
 use Rattle.cf_box.proofs.Relaying.{GoesOn, IsUncutEnd, few_by, idle_is_late, link_is_late, uncut_by}
+use Rattle.cf_box.proofs.Sites.{asset_of_named, one_site}
 use Rattle.cf_box.proofs.Statuses.{Explains, IsOf, Unprinted, explained, read_failed, stop_is, write_failed}
 
 -- work that was done has passed the policy: a line a command
@@ -67,17 +68,22 @@ does_pass before after (Review policy captures log) d m = absurd m
 does_pass before after (Packets capture) d m = record { policy = λ file e. cc e; other = λ file e. cc e; asset = λ file name e f. cc e }
 does_pass before after (Run policy names) d m = policy_passes (Run policy names) before policy m.1.policy refl refl refl m.1.has
 does_pass before after (Relay policy asset port idles log) d m =
-    found_passes (Relay policy asset port idles log) before policy asset m.1.asset refl refl m.1.finds
+    found_passes (Relay policy asset port idles log) before policy asset m.1.site refl refl m.1.finds
 does_pass before after (World seed sessions policy names) d m = record { policy = λ file e. cc e; other = λ file e. cc e; asset = λ file name e f. cc e }
-does_pass before after (Sift policy name client names) d m = found_passes (Sift policy name client names) before policy name m.takes.asset refl refl m.takes.finds
+does_pass before after (Sift policy name client names) d m = found_passes (Sift policy name client names) before policy name m.takes.site refl refl m.takes.finds
 
--- the asset that is found is that of the policy that is told
-found_asset : (file : Content) (name : List ℕ) (t : TellsAsset file name) (a : Asset) → FindsAsset file name a → a ≡ t.asset
-found_asset file name t a finds =
+-- the site that is found is that of the policy that is told
+found_site : (file : Content) (name : List ℕ) (t : TellsSite file name) (site : SiteValue) → FindsSite file name site → site ≡ t.site
+found_site file name t site finds =
     let same : finds.policy ≡ t.policy = same_policy file t.bytes t.policy finds.policy t.told t.means finds.has in
-    let found = finds.named in
-    let named = t.named in
-    cc
+    one_site name t.policy site t.site (subst (λ p. site_named name p ≡ Some site) same finds.named) t.named
+
+-- no asset is lacking of which the site is told
+not_lacking_told : (c : Command) (before : Outside) (file name : List ℕ) (t : TellsSite (before.files.content file) name) → policy_file c ≡ Some file → asset_name c ≡ Some name →
+    LacksAsset c before → ⊥
+not_lacking_told c before file name t of_policy of_asset cause =
+    let found = asset_of_named name t.policy t.site t.named in
+    not_lacking c before file name t.bytes t.policy found.0 t.told t.means found.1 of_policy of_asset cause
 
 module _ (failed : Type 0) (status : ℕ) (before after : Outside) where
   -- the status that is due, or one of those to which it yields
@@ -135,11 +141,11 @@ module _ (failed : Type 0) (status : ℕ) (before after : Outside) where
     not_uncut : TakesStream file name client names before after None → ⊥
     not_uncut taken =
         let s = taken.sifted in
-        let asset = found_asset (before.files.content file) name t.known taken.asset taken.finds in
+        let site = found_site (before.files.content file) name t.known taken.site taken.finds in
         let stream = same_bytes (before.files.content names.stream) t.stream s.bytes t.stream_told s.whole in
-        let goes = subst (λ a. GoesUpTo a client (stored_history t.stream) taken.taken.cut s.history s.judged) asset
-        (subst (λ b. GoesUpTo taken.asset client (stored_history b) taken.taken.cut s.history s.judged) stream s.goes) in
-        let cut = (one t.known.asset client (stored_history t.stream) s.history t.history taken.taken.cut (Some t.reason) s.judged t.judged goes t.goes).2 in
+        let goes = subst (λ a. GoesUpTo a client (stored_history t.stream) taken.taken.cut s.history s.judged) site
+        (subst (λ b. GoesUpTo taken.site client (stored_history b) taken.taken.cut s.history s.judged) stream s.goes) in
+        let cut = (one t.known.site client (stored_history t.stream) s.history t.history taken.taken.cut (Some t.reason) s.judged t.judged goes t.goes).2 in
         let none = taken.is_cut in
         cc
 
@@ -150,7 +156,7 @@ module _ (failed : Type 0) (status : ℕ) (before after : Outside) where
     cut_from (Err (stop.PolicyRefused r)) meets h =
         absurd (known_unrefused (Sift file name client names) before file t.known.bytes t.known.policy r refl t.known.told t.known.means (λ second e. cc e) meets.0)
     cut_from (Err stop.UnknownAsset) meets h =
-        absurd (not_lacking (Sift file name client names) before file name t.known refl refl meets.0)
+        absurd (not_lacking_told (Sift file name client names) before file name t.known refl refl meets.0)
     cut_from (Err stop.WriteFault) meets h = inr (inl (stop_is failed status stop.WriteFault h, inl meets.0.0))
     cut_from (Err (stop.Cut reason)) meets h = inl (stop_is failed status (stop.Cut reason) h)
     cut_from (Err _) meets h = absurd meets.0.0
@@ -160,7 +166,7 @@ module _ (failed : Type 0) (status : ℕ) (before after : Outside) where
     known_means r cause = known_unrefused (Relay file name port idles log) before file t.known.bytes t.known.policy r refl t.known.told t.known.means (λ second e. cc e) cause
 
     known_asset : LacksAsset (Relay file name port idles log) before → ⊥
-    known_asset cause = not_lacking (Relay file name port idles log) before file name t.known refl refl cause
+    known_asset cause = not_lacking_told (Relay file name port idles log) before file name t.known refl refl cause
 
     -- the answers that are told are the relay's, and so are their items
     relayed_answers : (es : List Entry) → after.pair.told ≡ with_answers before.pair.told es → es ≡ t.answers
@@ -170,30 +176,30 @@ module _ (failed : Type 0) (status : ℕ) (before after : Outside) where
         let same : t.earlier ++ es ≡ t.earlier ++ t.answers = cc in
         append_cancel_left t.earlier es t.answers same
 
-    relayed_cut : (a : Asset) (es : List Entry) (js : List Judged) → FindsAsset (before.files.content file) name a → after.pair.told ≡ with_answers before.pair.told es →
-        AreItemsOf a none_before es js → cut_at a es js ≡ cut_at t.known.asset t.answers t.judged
-    relayed_cut a es js finds told are =
-        let asset : a ≡ t.known.asset = found_asset (before.files.content file) name t.known a finds in
+    relayed_cut : (s : SiteValue) (es : List Entry) (js : List Judged) → FindsSite (before.files.content file) name s → after.pair.told ≡ with_answers before.pair.told es →
+        AreItemsOf s none_before es js → cut_at s es js ≡ cut_at t.known.site t.answers t.judged
+    relayed_cut s es js finds told are =
+        let site : s ≡ t.known.site = found_site (before.files.content file) name t.known s finds in
         let answers : es ≡ t.answers = relayed_answers es told in
-        let here : AreItemsOf t.known.asset none_before t.answers js = subst (λ x. AreItemsOf x none_before t.answers js) asset (subst (λ l. AreItemsOf a none_before l js) answers are) in
-        let judged : js ≡ t.judged = law t.known.asset (newcomer (client_of t.answers).address) (history_of t.answers) js t.judged here t.are_items in
+        let here : AreItemsOf t.known.site none_before t.answers js = subst (λ x. AreItemsOf x none_before t.answers js) site (subst (λ l. AreItemsOf s none_before l js) answers are) in
+        let judged : js ≡ t.judged = law t.known.site (newcomer (client_of t.answers).address) (history_of t.answers) js t.judged here t.are_items in
         cc
 
     -- a relay that answered so was not cut
-    not_cut : (reason : CutReason) → cut_at t.known.asset t.answers t.judged ≡ Some reason → (r : Result Done Stop) → IsUncutEnd r → (answer : Result RelayDone RelayFault) →
+    not_cut : (reason : CutReason) → cut_at t.known.site t.answers t.judged ≡ Some reason → (r : Result Done Stop) → IsUncutEnd r → (answer : Result RelayDone RelayFault) →
         HasRelayed file name port idles log before after answer → relay_answer answer ≡ r → ⊥
     not_cut reason cut r kind answer h is =
         let uncut = uncut_by _ _ _ _ _ h.answers r kind answer is h.relayed in
-        let same = relayed_cut h.asset h.answers uncut.judged h.finds h.told uncut.are_items in
+        let same = relayed_cut h.site h.answers uncut.judged h.finds h.told uncut.are_items in
         let none = uncut.uncut in
         cc
 
-    not_cut_stop : (reason : CutReason) → cut_at t.known.asset t.answers t.judged ≡ Some reason → (s : Stop) → IsUncutEnd (Err s) →
+    not_cut_stop : (reason : CutReason) → cut_at t.known.site t.answers t.judged ≡ Some reason → (s : Stop) → IsUncutEnd (Err s) →
         (StopsPolicy s ⊎ (s ≡ stop.UnknownAsset) → ⊥) → RelayLeaves file name port idles log before after s → ⊥
     not_cut_stop reason cut s kind late (inl l) = late l.0
     not_cut_stop reason cut s kind late (inr l) = not_cut reason cut (Err s) kind l.0 l.1 l.2
 
-    relay_cut_from : (reason : CutReason) → cut_at t.known.asset t.answers t.judged ≡ Some reason → (r : Result Done Stop) →
+    relay_cut_from : (reason : CutReason) → cut_at t.known.site t.answers t.judged ≡ Some reason → (r : Result Done Stop) →
         Meets (Relay file name port idles log) before after r → IsOf r failed status → DueBehind failed status before after (Relay file name port idles log) 12
     relay_cut_from reason cut (Ok d) meets h = absurd (not_cut reason cut (Ok d) tt meets.0 meets.1 meets.2)
     relay_cut_from reason cut (Err stop.ReadFault) meets h = inr (inr (inl (stop_is failed status stop.ReadFault h, meets.0)))
@@ -214,7 +220,7 @@ module _ (failed : Type 0) (status : ℕ) (before after : Outside) where
         let same : h.answers ≡ t.answers = relayed_answers h.answers h.told in
         omega (arith, few, idle, ap idle_run same)
 
-    relay_idle_from : cut_at t.known.asset t.answers t.judged ≡ None → idle_run t.answers ≡ 2 * idles → (r : Result Done Stop) →
+    relay_idle_from : cut_at t.known.site t.answers t.judged ≡ None → idle_run t.answers ≡ 2 * idles → (r : Result Done Stop) →
         Meets (Relay file name port idles log) before after r → IsOf r failed status → DueBehind failed status before after (Relay file name port idles log) 9
     relay_idle_from uncut idle (Ok d) meets h = absurd (not_idle idle (Ok d) tt meets.0 meets.1 meets.2)
     relay_idle_from uncut idle (Err stop.ReadFault) meets h = inr (inr (inl (stop_is failed status stop.ReadFault h, meets.0)))
@@ -227,7 +233,7 @@ module _ (failed : Type 0) (status : ℕ) (before after : Outside) where
     relay_idle_from uncut idle (Err stop.IdleEnd) meets h = inl (stop_is failed status stop.IdleEnd h)
     relay_idle_from uncut idle (Err (stop.Cut reason)) meets h =
         let c = meets.0.0 in
-        let same = relayed_cut c.asset c.answers c.judged c.finds c.told c.are_items in
+        let same = relayed_cut c.site c.answers c.judged c.finds c.told c.are_items in
         let cuts = c.cuts in
         absurd (cc)
     relay_idle_from uncut idle (Err _) meets h = absurd meets.0.0

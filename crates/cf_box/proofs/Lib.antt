@@ -1,3 +1,4 @@
+mod Back
 mod CaptureExact
 mod CaptureStops
 mod Comparing
@@ -20,6 +21,7 @@ mod Runs
 mod ServicePlaces
 mod Serving
 mod Sifting
+mod Sites
 mod Statuses
 mod WorldHolds
 mod Worlds

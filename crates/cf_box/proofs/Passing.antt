@@ -1,15 +1,16 @@
--- A policy that was read, with the asset that was found in it.
+-- A policy that was read, with the site that was found in it.
 use Rattle.std.proofs.Common.{◌≡◌, List, None, Some, ℕ, subst}
-use Rattle.cf_policy.specs.declared.Asset.{Asset}
+use Rattle.cf_policy.specs.Site.{SiteValue}
 use Rattle.cf_policy.specs.declared.Policy.{Policy}
 use Rattle.cf_policylang.specs.declared.PolicyRefusal.{PolicyRefusal}
 use Rattle.cf_box.specs.Check.{ChangesNothing}
 use Rattle.cf_words.specs.Command.{Command, Compare, asset_name, other_file, policy_file}
 use Rattle.cf_box.specs.Ends.{PassesPolicy}
 use Rattle.cf_ending.specs.Outside.{Outside}
-use Rattle.cf_box.specs.PolicyFile.{FindsAsset, HasPolicy, StopsPolicy, asset_named}
+use Rattle.cf_box.specs.PolicyFile.{FindsSite, HasPolicy, StopsPolicy, asset_named}
 use Rattle.cf_ending.specs.declared.Stop.{Stop}
 use Rattle.cf_ending.specs.declared.Stop.TheVariants as stop
+use Rattle.cf_box.proofs.Sites.{asset_of_named}
 
 -- a command that needs an asset reads one policy: the one that compares two needs none
 pub one_policy : (c : Command) (file name : List ℕ) → other_file c ≡ Some file → asset_name c ≡ Some name → ⊥
@@ -17,19 +18,20 @@ one_policy (Compare policy second) file name e f = cc f
 one_policy c file name e f = cc e
 
 -- the command passes its policy
-pub found_passes : (c : Command) (before : Outside) (policy name : List ℕ) (asset : Asset) → policy_file c ≡ Some policy → asset_name c ≡ Some name →
-    FindsAsset (before.files.content policy) name asset → PassesPolicy c before
-found_passes c before policy name asset of_policy of_asset finds = record {
+pub found_passes : (c : Command) (before : Outside) (policy name : List ℕ) (site : SiteValue) → policy_file c ≡ Some policy → asset_name c ≡ Some name →
+    FindsSite (before.files.content policy) name site → PassesPolicy c before
+found_passes c before policy name site of_policy of_asset finds = record {
   policy = λ file e.
       let same : policy ≡ file = cc in
       (finds.policy, subst (λ f. HasPolicy (before.files.content f) finds.policy) same finds.has);
   other = λ file e. absurd (one_policy c file name e of_asset);
   asset = λ file other e f.
       let same : policy ≡ file = cc in
-      let named : name ≡ other = cc in (
+      let named : name ≡ other = cc in
+      let found = asset_of_named name finds.policy site finds.named in (
         finds.policy,
         subst (λ f. HasPolicy (before.files.content f) finds.policy) same finds.has,
-        (asset, subst (λ n. asset_named n finds.policy ≡ Some asset) named finds.named),
+        (found.0, subst (λ n. asset_named n finds.policy ≡ Some found.0) named found.1),
       );
 }
 

@@ -6,6 +6,7 @@ use Rattle.cf_outside.specs.Faults.{Rose}
 use Rattle.cf_outside.specs.Files.{Content}
 use Rattle.cf_outside.specs.Frames.{KeepsOtherFiles}
 use Rattle.cf_records.specs.Capture.{AtPlace}
+use Rattle.cf_policy.specs.Within.{IsWithin}
 use Rattle.cf_policy.specs.declared.Policy.{Policy}
 use Rattle.cf_run.specs.RunCapture.{HasRunRecords, RunNamesValue, RunsAs, RunsTo}
 use Rattle.cf_run.specs.declared.run.RunFault.{RunFault}
@@ -63,14 +64,14 @@ module _ (policy_name : List ℕ) (names : RunNamesValue) (before after : Outsid
   run_meets (Err f) run h read write = (stops f h (λ e. read (ap Err e)) (λ e. write (ap Err e)), inr (f, run, refl))
 
 -- the same after files were read, none of which changed
-pub run_after : (policy_name : List ℕ) (names : RunNamesValue) (before middle after : Outside) (policy : Policy) → HasPolicy (before.files.content policy_name) policy →
+pub run_after : (policy_name : List ℕ) (names : RunNamesValue) (before middle after : Outside) (policy : Policy) → HasPolicy (before.files.content policy_name) policy → IsWithin policy →
     ReadsOnly (policy_name ∷ []) before.files middle.files → (r : Result Summary RunFault) → RunsAs policy.assets LETTER_LIMIT names middle.files.content after.files.content r →
     KeepsOtherFiles (names.out ∷ names.log ∷ []) middle.files.content after.files.content →
     (IsErrOf r fault.Read → Rose (middle.files.read_faults names.capture) (after.files.read_faults names.capture)) → (IsErrOf r fault.Write → Rose middle.files.write_faults after.files.write_faults) →
     after.sink ≡ before.sink → after.pair ≡ before.pair → Meets (Run policy_name names) before after (run_answer r)
-run_after policy_name names before middle after policy has only r runs others read write sink pair =
+run_after policy_name names before middle after policy has within only r runs others read write sink pair =
     let here : RunsAs policy.assets LETTER_LIMIT names before.files.content after.files.content r =
     subst (λ c. RunsAs policy.assets LETTER_LIMIT names c after.files.content r) only.content runs in
     run_meets policy_name names before after policy has r
-    (record { policy = policy; has = has; runs = here; others = kept_but names before.files.content middle.files.content after.files.content only.content others; sink = sink; pair = pair }) here
+    (record { policy = policy; has = has; within = within; runs = here; others = kept_but names before.files.content middle.files.content after.files.content only.content others; sink = sink; pair = pair }) here
     (λ e. since_read before.files middle.files after.files only names.capture (read e)) (λ e. let rose = write e in omega (arith, rose, only.writes))

@@ -204,17 +204,17 @@ module _ (failed : Type 0) (status : ℕ) where
       let t = m.takes in
       let s = t.sifted in
       let whole : stored_history s.bytes ≡ s.history = s.goes.begins ∙ ap (λ l. s.history ++ l) (s.goes.all t.is_cut) ∙ append-nil s.history in
-      let are = subst (λ l. AreJudged t.asset (newcomer client) l s.judged) (sym whole) s.goes.are_judged in
+      let are = subst (λ l. AreJudged t.site (newcomer client) l s.judged) (sym whole) s.goes.are_judged in
       record {
-        asset = t.asset;
+        site = t.site;
         finds = t.finds;
         bytes = s.bytes;
         whole = s.whole;
         judged = s.judged;
         are_judged = are;
-        passed = outputs t.asset side.Controller [] s.judged;
-        passes = law t.asset (newcomer client) (stored_history s.bytes) s.judged are;
-        rates = keep t.asset (newcomer client) (stored_history s.bytes) s.judged are;
+        passed = outputs t.site side.Controller [] s.judged;
+        passes = law t.site (newcomer client) (stored_history s.bytes) s.judged are;
+        rates = keep t.site (newcomer client) (stored_history s.bytes) s.judged are;
         output = ap (λ f. f.content names.out) same ∙ s.have.of_out;
       }
   passes_from law keep before middle after policy name client names same (Err s) m h is = absurd (not_done s h is)

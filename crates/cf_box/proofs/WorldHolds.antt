@@ -5,6 +5,7 @@ use Rattle.cf_policylang.specs.declared.PolicyRefusal.{PolicyRefusal}
 use Rattle.cf_run.specs.Headline.{RunsHaveHeadline}
 use Rattle.cf_run.specs.Logged.{RunsAreLogged}
 use Rattle.cf_run.specs.RunCapture.{RunNamesValue}
+use Rattle.cf_run.specs.SiteOf.{SessionsHaveSites}
 use Rattle.cf_words.specs.Command.{Command, World}
 use Rattle.cf_ending.specs.Ending.{Reports}
 use Rattle.cf_box.specs.Ends.{Meets, RefusesPolicy}
@@ -16,7 +17,7 @@ use Rattle.cf_ending.specs.declared.Stop.{Stop}
 use Rattle.cf_box.proofs.RunHolds.{holds_from}
 use Rattle.cf_box.proofs.Statuses.{Explains, IsOf, Unprinted, capture_told, cut_told, explained, not_done, refusal_told}
 
-module _ (law : RunsHaveHeadline) (logs : RunsAreLogged) (failed : Type 0) (status : ℕ) (sessions : ℕ) (policy : List ℕ) (names : RunNamesValue) (before middle after : Outside) where
+module _ (law : RunsHaveHeadline) (own : SessionsHaveSites) (logs : RunsAreLogged) (failed : Type 0) (status : ℕ) (sessions : ℕ) (policy : List ℕ) (names : RunNamesValue) (before middle after : Outside) where
   -- after the last printed text the files are the same
   still_made : (between : Outside) → after.files ≡ middle.files → HasMade sessions policy names before middle between → HasMade sessions policy names before after between
   still_made between same made = record {
@@ -33,15 +34,15 @@ module _ (law : RunsHaveHeadline) (logs : RunsAreLogged) (failed : Type 0) (stat
   world_from seed (Ok d) m reports h is = record {
     between = m.0;
     made = still_made m.0 reports.files m.1;
-    holds = holds_from law logs failed status policy names m.0 middle after (Ok d) m.2 reports h is;
+    holds = holds_from law own logs failed status policy names m.0 middle after (Ok d) m.2 reports h is;
   }
   world_from seed (Err s) m reports h is = absurd (not_done failed status s h is)
 
 module _ {c : Command} {before after : Outside} {status : ℕ} (e : Explains c before after status) where
-  pub world_told : RunsHaveHeadline → RunsAreLogged → (seed sessions : ℕ) (policy : List ℕ) (names : RunNamesValue) → c ≡ World seed sessions policy names → status ≡ 0 →
+  pub world_told : RunsHaveHeadline → SessionsHaveSites → RunsAreLogged → (seed sessions : ℕ) (policy : List ℕ) (names : RunNamesValue) → c ≡ World seed sessions policy names → status ≡ 0 →
       WorldHolds sessions policy names before after
-  world_told law logs seed sessions policy names is =
-      world_from law logs (Unprinted e) status sessions policy names before e.middle after seed e.r (subst (λ k. Meets k before e.middle e.r) is e.meets) e.reports (explained e)
+  world_told law own logs seed sessions policy names is =
+      world_from law own logs (Unprinted e) status sessions policy names before e.middle after seed e.r (subst (λ k. Meets k before e.middle e.r) is e.meets) e.reports (explained e)
 
 own_not_refused : (seed sessions : ℕ) (policy : List ℕ) (names : RunNamesValue) (before : Outside) (r : PolicyRefusal) → TellsMade (World seed sessions policy names) before →
     RefusesPolicy (World seed sessions policy names) before r → ⊥

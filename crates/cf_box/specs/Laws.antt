@@ -1,11 +1,17 @@
 -- Laws over every run and every capture: HasLaws.
 use Rattle.cf_decode.specs.Commands.{AdmitsWhatIsAllowed}
+use Rattle.cf_decode.specs.Stations.{StationsDecode}
 use Rattle.cf_decode.specs.Told.{RefusedAreTold, ShownAreTold}
 use Rattle.cf_isolation.specs.Isolated.{CapturesAreIsolated, CapturesHoldSessions, CapturesHoldToTheNext}
 use Rattle.cf_isolation.specs.Lives.{AlikeInLines, AlikeInRecords, EachHasALife, EachHasRecords, EachLogged}
 use Rattle.cf_isolation.specs.Logged.{LogsAreIsolated, LogsHoldSessions, LogsHoldToTheNext}
 use Rattle.cf_isolation.specs.ReadBack.{RunsAreReadBack}
+use Rattle.cf_judge.specs.SiteLaws.{OneAssetFates as OneAssetJudged, PartsFates as PartsJudged}
+use Rattle.cf_lane.specs.SiteLaws.{NobodysAduIsRefused, NobodysAsduIsRefused, NobodysFrameIsStray, OneAssetEnds, OneAssetFates}
+use Rattle.cf_lane.specs.SiteLaws.{OneAssetLines, OneAssetOutputs, PartsAsdus, PartsFates, PartsOutputs}
+use Rattle.cf_learn.specs.OwnUnits.{ShowsOwnUnits}
 use Rattle.cf_pcapng.specs.Calls.{GiveBlocks, HaveOneListOfBlocks}
+use Rattle.cf_policy.specs.SiteLaws.{AssetsStandAlone, SitesAreWhole, SitesAreWithin}
 use Rattle.cf_review.specs.First.{BytesComeInOrder, JudgeTellsTheFirst}
 use Rattle.cf_review.specs.Fronts.{RecordsComeFirst}
 use Rattle.cf_review.specs.SynFlows.{SynFlowsAreWatched}
@@ -70,6 +76,34 @@ pub record HasLaws : Type 0 where
   pub syn_flows : SynFlowsAreWatched
   -- the record of each unit of a flow is the first with which the bytes of the flow reached its end
   pub fronts : RecordsComeFirst
+  -- the site at an endpoint of a policy has each asset of the endpoint, and no two of them have one station; where no two assets have one
+  -- endpoint, as in versions 1 and 2, each is alone
+  pub sites_whole : SitesAreWhole
+  pub sites_within : SitesAreWithin
+  pub sites_alone : AssetsStandAlone
+  -- the units of a session that are for one asset of its site, by their station, have the fates, and put out the octets, that they have in a
+  -- session of that asset alone, for Modbus and DNP3: so what holds of a session of one asset holds of each asset of a site. Of
+  -- IEC 60870-5-104 an ASDU has the fate that its asset gives it, where the numbers of the session do not cut
+  pub parts_fates : PartsFates
+  pub parts_outputs : PartsOutputs
+  pub parts_asdus : PartsAsdus
+  -- a command for no asset is refused by its station, and a frame for none is stray
+  pub nobodys_adu : NobodysAduIsRefused
+  pub nobodys_asdu : NobodysAsduIsRefused
+  pub nobodys_frame : NobodysFrameIsStray
+  -- a session of an asset that is alone gives its units the fates, the streams and the lines that this asset gives them
+  pub one_asset_fates : OneAssetFates
+  pub one_asset_outputs : OneAssetOutputs
+  pub one_asset_lines : OneAssetLines
+  pub one_asset_ends : OneAssetEnds
+  -- of any beginning of what goes to the controller the units with the station of an asset make the first of the commands that the rules of
+  -- this asset admit, of those that the client sent for it
+  pub stations : StationsDecode
+  -- a judge finds of the units that are for one asset of a site what it finds of them in a stream of these alone to that asset alone; and what
+  -- is learned of an asset was shown by units for it
+  pub judged_parts : PartsJudged
+  pub judged_alone : OneAssetJudged
+  pub own_units : ShowsOwnUnits
   -- a command is admitted exactly where its station is the asset's, its form is read, and each of its acts is allowed by a rule that is not
   -- spent; else it is refused
   pub admits : AdmitsWhatIsAllowed

@@ -1,4 +1,4 @@
--- `learn POLICY CAPTURE OUT`: rules that allow exactly what a capture shows are written as a document of version 2: `HoldsLearned`.
+-- `learn POLICY CAPTURE OUT`: rules that allow exactly what a capture shows are written as a document: `HoldsLearned`.
 -- What is watched is said in `cf_watch`, and what is learned in `cf_learn`.
 use Rattle.std.specs.Prelude.{◌≡◌, ℕ, List, [], ◌∷◌, Result, Ok, Err}
 use Rattle.cf_learn.specs.Assets.{AreLearned, IsFirstTooMany}
@@ -16,9 +16,9 @@ use Rattle.cf_ending.specs.declared.Stop.TheVariants as stop
 
 -- ---- what flows make of a policy
 
--- each asset has rules that allow exactly what the flows show of it, and is else as it was
+-- each asset has rules that allow exactly what the flows to its site show of it, and is else as it was
 abbrev pub IsLearned : Policy → List FlowValue → Policy → Type 0
-IsLearned p flows learned = AreLearned flows 0 p.assets learned.assets
+IsLearned p flows learned = AreLearned flows p.assets p.assets learned.assets
 
 -- the asset of this name is the first of which the flows show so much that it would have more rules than a policy may have
 pub record ShowTooMuch (p : Policy) (flows : List FlowValue) (name : List ℕ) : Type 0 where

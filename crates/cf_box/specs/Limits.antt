@@ -6,8 +6,8 @@ use Rattle.cf_pcap.specs.declared.record.TheConstants.{CAPTURED_LIMIT}
 use Rattle.cf_pcapng.specs.declared.block.TheConstants.{BLOCK_LIMIT, INTERFACE_LIMIT}
 use Rattle.cf_policy.specs.declared.limits.TheConstants.{HIGHEST_ADDRESS, HIGHEST_CODE, HIGHEST_COMMON_ADDRESS, HIGHEST_GROUP}
 use Rattle.cf_policy.specs.declared.limits.TheConstants.{HIGHEST_LINK_ADDRESS, HIGHEST_MOST, HIGHEST_POINT, HIGHEST_UNIT, HIGHEST_VALUE}
-use Rattle.cf_policy.specs.declared.limits.TheConstants.{LONGEST_NAME, LONGEST_RATE, LOWEST_VALUE, MOST_ASSETS, MOST_RATED, MOST_RULES}
-use Rattle.cf_policy.specs.declared.limits.TheConstants.{MOST_SPANS}
+use Rattle.cf_policy.specs.declared.limits.TheConstants.{LONGEST_NAME, LONGEST_RATE, LOWEST_VALUE, MOST_ASSETS, MOST_AT_SITE}
+use Rattle.cf_policy.specs.declared.limits.TheConstants.{MOST_DNP3_AT_SITE, MOST_RATED, MOST_RULES, MOST_SPANS}
 use Rattle.cf_policylang.specs.declared.documents.TheConstants.{LONGEST_TEXT}
 use Rattle.cf_policylang.specs.declared.sets.TheConstants.{MOST_SETS}
 use Rattle.cf_watch.specs.declared.fault.TheConstants.{CAPTURE_LIMIT}
@@ -18,6 +18,9 @@ pub record HasPolicyLimits : Type 0 where
   pub text : LONGEST_TEXT ≡ 4194304
   pub sets : MOST_SETS ≡ 64
   pub assets : MOST_ASSETS ≡ 256
+  -- assets of one address and port, and those of DNP3
+  pub at_site : MOST_AT_SITE ≡ 32
+  pub dnp3_at_site : MOST_DNP3_AT_SITE ≡ 8
   -- rules of an asset, and those of them that have a rate
   pub rules : MOST_RULES ≡ 1024
   pub rated : MOST_RATED ≡ 16

@@ -1,7 +1,7 @@
 -- The numbers that a format, a document or this project fixes and that definitions cite by the names of the code's constants: HasNumbers,
 -- read from the end. A constant that only its own crate can name is fixed by what its definition then says. What is read and kept at most
 -- stands in `Limits`.
-use Rattle.std.specs.Prelude.{◌≡◌, ◌≢◌, ◌<◌, ◌⊎◌, min, List, length, IsPermutation, IsSorted}
+use Rattle.std.specs.Prelude.{◌≡◌, ◌≢◌, ◌<◌, ◌≤◌, ◌⊎◌, ◌*◌, ◌+◌, min, List, length, IsPermutation, IsSorted}
 use Rattle.cf_audit.specs.declared.line.TheConstants.{NAME_LIMIT}
 use Rattle.cf_compare.specs.Cells.{cells_of, code_cells, sum_below}
 use Rattle.cf_compare.specs.declared.count.TheConstants.{MOST_CELLS}
@@ -12,7 +12,9 @@ use Rattle.cf_pcap.specs.declared.header.TheConstants.{MICROSECONDS, NANOSECONDS
 use Rattle.cf_pcapng.specs.declared.block.TheConstants.{BYTE_ORDER, ENHANCED_PACKET, INTERFACE_DESCRIPTION, SECTION_HEADER}
 use Rattle.cf_pcapng.specs.declared.block.TheConstants.{REFUSED_BLOCK, REFUSED_INTERFACE, REFUSED_LENGTH, REFUSED_RESOLUTION}
 use Rattle.cf_pcapng.specs.declared.block.TheConstants.{REFUSED_SECTION}
+use Rattle.cf_policy.specs.Site.{SiteValue, assets_of}
 use Rattle.cf_policy.specs.declared.Asset.{Asset}
+use Rattle.cf_policy.specs.declared.Protocol.TheVariants as protocol
 use Rattle.cf_relay.specs.Reading.{most_back}
 use Rattle.cf_relay.specs.declared.directions.Directions.TheVariants as both
 use Rattle.cf_relay.specs.declared.limit.TheConstants.{MOST_BYTES}
@@ -53,6 +55,18 @@ pub record HasLearnedNumbers : Type 0 where
       (seen sorted : List Seen) → IsPermutation seen sorted → IsSorted seen_cmp sorted → 1024 < length (learned_rules sorted)
       → MakesTooMany seen
 
+-- letters that may wait for a side of a service as it is read, of the 131,072 for which a queue has room. Beside those that one turn can
+-- add to it there is room for what unfinished fragments of DNP3 may still put out, 5,300 for each asset of the site: so from the third
+-- asset on fewer may wait, with eight of them 71,088
+pub record HasBack : Type 0 where
+  pub modbus : (site : SiteValue) → site.first.protocol ≡ protocol.Modbus → most_back both.Separate site ≡ 98304
+  pub iec104 : (site : SiteValue) → site.first.protocol ≡ protocol.Iec104 → most_back both.Separate site ≡ 98304
+  pub few : (site : SiteValue) → site.first.protocol ≡ protocol.Dnp3 → length (assets_of site) ≤ 2 → most_back both.Separate site ≡ 98304
+  pub more :
+      (site : SiteValue) → site.first.protocol ≡ protocol.Dnp3 → 3 ≤ length (assets_of site) → length (assets_of site) ≤ 8
+      → most_back both.Separate site + 5300 * length (assets_of site) ≡ 113488
+  pub eight : (site : SiteValue) → site.first.protocol ≡ protocol.Dnp3 → length (assets_of site) ≡ 8 → most_back both.Separate site ≡ 71088
+
 -- all numbers that are constants of the code, but for the limits
 pub record HasNumbers : Type 0 where
   pub magics : HasMagics
@@ -62,8 +76,8 @@ pub record HasNumbers : Type 0 where
   pub learned : HasLearnedNumbers
   -- octets that one call of a relay gives or takes at most
   pub bytes : MOST_BYTES ≡ 4096
-  -- letters that may wait for a side of a service as it is read, of the 131,072 bytes for which a queue has room
-  pub back : most_back both.Separate ≡ 98304
+  -- letters that may wait for a side of a service as it is read
+  pub back : HasBack
   -- octets of a refused command that its line of a review shows at most, and those of a name in a line of the log
   pub shown : SHOWN ≡ 16
   pub name : NAME_LIMIT ≡ 32

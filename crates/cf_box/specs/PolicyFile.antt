@@ -1,8 +1,9 @@
--- The policy that a file holds, `HasPolicy`, and the asset of a name, `FindsAsset`.
-use Rattle.std.specs.Prelude.{◌≡◌, ℕ, false, List, Option, Some, Result, Ok, Err, length, bytes_eq, find}
+-- The policy that a file holds, `HasPolicy`, and the site of a name, `FindsSite`.
+use Rattle.std.specs.Prelude.{◌≡◌, ℕ, false, List, Option, Some, Result, Ok, Err, length, bytes_eq, find, option_and_then}
 use Rattle.std.specs.List.{sum_by}
 use Rattle.toml.specs.Text.{IsDocumentText}
 use Rattle.cf_outside.specs.Files.{Content, untold, absent, holds, IsPartly, IsWhole, content_after_write}
+use Rattle.cf_policy.specs.Site.{SiteValue, site_at}
 use Rattle.cf_policy.specs.declared.Asset.{Asset}
 use Rattle.cf_policy.specs.declared.Policy.{Policy}
 use Rattle.cf_policylang.specs.Documents.{policy_meaning, text_meaning}
@@ -36,11 +37,15 @@ StopsPolicy _ = ⊥
 abbrev pub asset_named : List ℕ → Policy → Option Asset
 asset_named name p = find (λ a. bytes_eq a.name name) p.assets
 
--- the policy that the file holds has an asset of the name
-pub record FindsAsset (file : Content) (name : List ℕ) (asset : Asset) : Type 0 where
+-- the site that has an asset of the name: all assets behind the address and port of that one
+abbrev pub site_named : List ℕ → Policy → Option SiteValue
+site_named name p = option_and_then (λ a. site_at p.assets a.endpoint) (asset_named name p)
+
+-- the policy that the file holds has an asset of the name, and this is its site
+pub record FindsSite (file : Content) (name : List ℕ) (site : SiteValue) : Type 0 where
   pub policy : Policy
   pub has : HasPolicy file policy
-  pub named : asset_named name policy ≡ Some asset
+  pub named : site_named name policy ≡ Some site
 
 -- the file is told, and its bytes mean a policy
 pub record TellsPolicy (file : Content) : Type 0 where
@@ -49,14 +54,14 @@ pub record TellsPolicy (file : Content) : Type 0 where
   pub told : file ≡ holds bytes
   pub means : policy_meaning bytes ≡ Ok policy
 
--- the file is told, and its bytes mean a policy that has an asset of the name
-pub record TellsAsset (file : Content) (name : List ℕ) : Type 0 where
+-- the file is told, and its bytes mean a policy that has an asset of the name, of this site
+pub record TellsSite (file : Content) (name : List ℕ) : Type 0 where
   pub bytes : List ℕ
   pub policy : Policy
-  pub asset : Asset
+  pub site : SiteValue
   pub told : file ≡ holds bytes
   pub means : policy_meaning bytes ≡ Ok policy
-  pub named : asset_named name policy ≡ Some asset
+  pub named : site_named name policy ≡ Some site
 
 -- the number of rules that all assets have
 abbrev pub rule_count : List Asset → ℕ

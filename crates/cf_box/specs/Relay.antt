@@ -7,7 +7,7 @@ use Rattle.cf_lane.specs.Judged.{Judged}
 use Rattle.cf_outside.specs.Files.{KeepsOthers}
 use Rattle.cf_outside.specs.Pair.{Entry, FaultsBy}
 use Rattle.cf_outside.specs.PairValue.{PairValue}
-use Rattle.cf_policy.specs.declared.Asset.{Asset}
+use Rattle.cf_policy.specs.Site.{SiteValue}
 use Rattle.cf_relay.specs.Answers.{idle_run, with_answers}
 use Rattle.cf_relay.specs.Ends.{IdlesRose, RelayEnds, file_log}
 use Rattle.cf_relay.specs.Scene.{RoseBy}
@@ -19,7 +19,7 @@ use Rattle.cf_relay.specs.declared.done.RelayFault.{RelayFault}
 use Rattle.cf_relay.specs.declared.done.RelayFault.TheVariants as fault
 use Rattle.cf_box.specs.Check.{ChangesNothing}
 use Rattle.cf_ending.specs.Outside.{Outside}
-use Rattle.cf_box.specs.PolicyFile.{FindsAsset, StopsPolicy, TellsAsset}
+use Rattle.cf_box.specs.PolicyFile.{FindsSite, StopsPolicy, TellsSite}
 use Rattle.cf_ending.specs.declared.Done.{Done}
 use Rattle.cf_ending.specs.declared.Done.TheVariants as done
 use Rattle.cf_ending.specs.declared.Stop.{Stop}
@@ -41,15 +41,15 @@ relay_answer (Err fault.Link) = Err stop.LinkFault
 relay_answer (Err fault.Write) = Err stop.WriteFault
 
 module _ (policy_file asset_name : List ℕ) (port idles : ℕ) (log : List ℕ) (before after : Outside) where
-  -- the asset of the name was found, and the pair's answers were relayed for it and the port up to this answer; a call on the pair
+  -- the site of the name was found, and the pair's answers were relayed for it and the port up to this answer; a call on the pair
   -- failed exactly where the answer says so; every file but the log is as it was
   pub record HasRelayed (answer : Result RelayDone RelayFault) : Type 0 where
-    pub asset : Asset
-    pub finds : FindsAsset (before.files.content policy_file) asset_name asset
+    pub site : SiteValue
+    pub finds : FindsSite (before.files.content policy_file) asset_name site
     pub answers : List Entry
     pub told : after.pair.told ≡ with_answers before.pair.told answers
     pub relayed :
-        RelayEnds asset port (2 * idles) (file_log (before.files.content log) (after.files.content log))
+        RelayEnds site port (2 * idles) (file_log (before.files.content log) (after.files.content log))
         (after.files.content log ≡ before.files.content log) answers answer
     pub idles_rose : IdlesRose (2 * idles) before.pair.idles after.pair.idles answer
     pub faults : FaultsBy before.pair.faults after.pair.faults (answer ≡ Err fault.Link)
@@ -77,31 +77,31 @@ pub record EndsRelayIdle (before after : PairValue) (idles : ℕ) : Type 0 where
   pub counted : RoseBy (2 * idles) before.idles after.idles
 
 module _ (policy_file asset_name : List ℕ) (before : Outside) (pair : PairValue) where
-  -- the asset was found, and its rules cut the streams that these answers make
+  -- the site was found, and its assets' rules cut the streams that these answers make
   pub record CutsRelay (reason : CutReason) : Type 0 where
-    pub asset : Asset
-    pub finds : FindsAsset (before.files.content policy_file) asset_name asset
+    pub site : SiteValue
+    pub finds : FindsSite (before.files.content policy_file) asset_name site
     pub answers : List Entry
     pub told : pair.told ≡ with_answers before.pair.told answers
     pub judged : List Judged
-    pub are_items : AreItemsOf asset none_before answers judged
-    pub cuts : cut_at asset answers judged ≡ Some reason
+    pub are_items : AreItemsOf site none_before answers judged
+    pub cuts : cut_at site answers judged ≡ Some reason
 
-  -- the policy's bytes and the pair's answers are told: the asset, the answers of this relay, and their items
+  -- the policy's bytes and the pair's answers are told: the site, the answers of this relay, and their items
   pub record TellsRelay : Type 0 where
-    pub known : TellsAsset (before.files.content policy_file) asset_name
+    pub known : TellsSite (before.files.content policy_file) asset_name
     pub earlier : List Entry
     pub earlier_told : before.pair.told ≡ Some earlier
     pub answers : List Entry
     pub answers_told : pair.told ≡ Some (earlier ++ answers)
     pub judged : List Judged
-    pub are_items : AreItemsOf known.asset none_before answers judged
+    pub are_items : AreItemsOf known.site none_before answers judged
 
   -- and they are cut
   abbrev pub TellsCutRelay : Type 0
-  TellsCutRelay = (tells : TellsRelay) × ((reason : CutReason) × (cut_at tells.known.asset tells.answers tells.judged ≡ Some reason))
+  TellsCutRelay = (tells : TellsRelay) × ((reason : CutReason) × (cut_at tells.known.site tells.answers tells.judged ≡ Some reason))
 
   -- and they are not, but end in so many answers Idle
   abbrev pub TellsIdleRelay : (idles : ℕ) → Type 0
   TellsIdleRelay idles =
-      (tells : TellsRelay) × (cut_at tells.known.asset tells.answers tells.judged ≡ None) × (idle_run tells.answers ≡ 2 * idles)
+      (tells : TellsRelay) × (cut_at tells.known.site tells.answers tells.judged ≡ None) × (idle_run tells.answers ≡ 2 * idles)

@@ -4,6 +4,7 @@ use Rattle.cf_lane.specs.declared.limit.TheConstants.{LETTER_LIMIT}
 use Rattle.cf_outside.specs.Files.{Content}
 use Rattle.cf_outside.specs.Frames.{KeepsOtherFiles}
 use Rattle.cf_records.specs.Capture.{Cut}
+use Rattle.cf_policy.specs.Within.{IsWithin}
 use Rattle.cf_policy.specs.declared.Policy.{Policy}
 use Rattle.cf_run.specs.RunCapture.{HasRunRecords, RunNamesValue, RunsAs}
 use Rattle.cf_run.specs.declared.run.RunFault.{RunFault}
@@ -46,10 +47,11 @@ run_stop (fault.Cut at summary) = stop.RunCut at summary
 -- ---- what a run did
 
 module _ (policy_file : List ℕ) (names : RunNamesValue) (before after : Outside) where
-  -- the policy was run over the capture, and this was the answer; every other file is as it was
+  -- the policy, which is in form, was run over the capture, and this was the answer; every other file is as it was
   pub record HasRun (answer : Result Summary RunFault) : Type 0 where
     pub policy : Policy
     pub has : HasPolicy (before.files.content policy_file) policy
+    pub within : IsWithin policy
     pub runs : RunsAs policy.assets LETTER_LIMIT names before.files.content after.files.content answer
     pub others : KeepsOtherFiles (names.out ∷ names.log ∷ []) before.files.content after.files.content
     pub sink : after.sink ≡ before.sink

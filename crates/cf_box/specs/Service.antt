@@ -1,7 +1,7 @@
 -- `serve POLICY SECONDS LOG NAME=A.B.C.D:PORT..`: what a service leaves, and how it ends. The main definition is `ServiceEnds`. This
 -- project's own.
 use Rattle.std.specs.List.{list_any}
-use Rattle.std.specs.Prelude.{◌≡◌, ◌⊎◌, ◌*◌, ◌-◌, ◌<◌, ◌^◌, ℕ, Bool, false, true, List, [], ◌∷◌, Option, None, Some, codes}
+use Rattle.std.specs.Prelude.{◌≡◌, ◌⊎◌, ◌*◌, ◌-◌, ◌<◌, ◌^◌, ◌||◌, ℕ, Bool, false, true, List, [], ◌∷◌, Option, None, Some, codes}
 use Rattle.cf_links.specs.Links.{LinksEntry, LinksPlace}
 use Rattle.cf_links.specs.declared.Links.{Ghosts as LinksOf}
 use Rattle.cf_outside.specs.declared.Files.{Ghosts as FilesOf}
@@ -10,28 +10,29 @@ use Rattle.cf_outside.specs.Faults.{Rose}
 use Rattle.cf_outside.specs.Files.{KeepsOthers, content_gone_on}
 use Rattle.cf_outside.specs.Lines.{file_lines}
 use Rattle.cf_policy.specs.AtEndpoint.{has_asset_at}
-use Rattle.cf_policy.specs.Within.{IsAssetWithin}
+use Rattle.cf_policy.specs.Site.{IsSiteWithin}
 use Rattle.cf_policy.specs.declared.Policy.{Policy}
 use Rattle.cf_serve.specs.Broken.{BreaksLog}
 use Rattle.cf_serve.specs.Served.{Serves}
 use Rattle.cf_serve.specs.declared.ServeFault.{ServeFault}
 use Rattle.cf_serve.specs.declared.ServeFault.TheVariants as fault
 use Rattle.cf_serve.specs.declared.table.Place.{Place}
+use Rattle.cf_view.specs.Endpoints.{same_endpoint}
 use Rattle.cf_ending.specs.Ending.{Prints, Puts, stop_status, stop_text}
 use Rattle.cf_ending.specs.Outside.{FilesValue, RisesIn, SinkValue, files_value, sink_value}
-use Rattle.cf_box.specs.PolicyFile.{HasPolicy, IsRefusedBy, asset_named}
+use Rattle.cf_box.specs.PolicyFile.{HasPolicy, IsRefusedBy, asset_named, site_named}
 use Rattle.cf_box.specs.ServiceWords.{PlaceWord, ServiceWords}
 use Rattle.cf_ending.specs.declared.Stop.{Stop}
 use Rattle.cf_ending.specs.declared.Stop.TheVariants as stop
 use Rattle.cf_box.specs.declared.serve.Unserved.{Unserved}
 use Rattle.cf_box.specs.declared.serve.Unserved.TheVariants as unserved
 
--- each place has the policy's asset of its name, at its endpoint
+-- each place has the policy's site of its name, at its endpoint
 abbrev pub ArePlaces : Policy → List PlaceWord → List Place → Type 0
 ArePlaces policy [] [] = Unit {0}
 ArePlaces policy (word ∷ words) (place ∷ places) =
-    (asset_named word.asset policy ≡ Some place.asset.now) × ((place.at ≡ word.at)
-    × (IsAssetWithin place.asset.now × ArePlaces policy words places))
+    (site_named word.asset policy ≡ Some place.site) × ((place.at ≡ word.at)
+    × (IsSiteWithin place.site × ArePlaces policy words places))
 ArePlaces policy _ _ = ⊥
 
 -- the policy has no asset of the name of one of the places
@@ -43,15 +44,33 @@ LacksPlace policy (word ∷ words) = (asset_named word.asset policy ≡ None) �
 abbrev pub takes_endpoint : Policy → List PlaceWord → Bool
 takes_endpoint policy words = list_any (λ word. has_asset_at policy.assets word.at) words
 
+-- places of one site: their controllers have one address and port
+abbrev pub is_same_site : Place → Place → Bool
+is_same_site p q = same_endpoint q.site.first.endpoint p.site.first.endpoint
+
+-- one of the sites has two places, so that a client would have two sessions with it and two counts of its rates
+abbrev pub shares_site : List Place → Bool
+shares_site [] = false
+shares_site (p ∷ ps) = list_any (λ q. is_same_site p q) ps || shares_site ps
+
+-- why the sites of places are not served: an asset is lacking, or memory, or two places are of one
+abbrev pub MissesSites : Policy → List PlaceWord → Unserved → Type 0
+MissesSites policy words unserved.OwnEndpoint = ⊥
+MissesSites policy words unserved.SharedSite = (places : List Place) × ArePlaces policy words places × (shares_site places ≡ true)
+MissesSites policy words (unserved.Stopped stop.UnknownAsset) = LacksPlace policy words
+MissesSites policy words (unserved.Stopped stop.NoMemory) = Unit {0}
+MissesSites policy words (unserved.Stopped _) = ⊥
+
 module _ (w : ServiceWords) (before after : FilesValue) (told told' : Option (List LinksEntry)) (waits waits' : ℕ) where
-  -- the policy was read, no place is one of its endpoints, the asset of each place was found, and what the links told and the log got are
-  -- the rounds of a service of these places, so many of them, each session by itself; the log was gone on with
+  -- the policy was read, no place is one of its endpoints, the site of each place was found, and no two are one; what the links told and
+  -- the log got are the rounds of a service of these places, so many of them, each session by itself; the log was gone on with
   pub record HasServed (Made : ℕ → Type 0) : Type 0 where
     pub policy : Policy
     pub has : HasPolicy (before.content w.policy) policy
     pub apart : takes_endpoint policy w.places ≡ false
     pub places : List Place
     pub found : ArePlaces policy w.places places
+    pub sites : shares_site places ≡ false
     pub serves : Serves places (2 * w.seconds) Made told told' (file_lines (content_gone_on (before.content w.log)))
         (file_lines (after.content w.log))
 
@@ -62,6 +81,7 @@ module _ (w : ServiceWords) (before after : FilesValue) (told told' : Option (Li
     pub apart : takes_endpoint policy w.places ≡ false
     pub places : List Place
     pub found : ArePlaces policy w.places places
+    pub sites : shares_site places ≡ false
     pub breaks : BreaksLog places (2 * w.seconds) told told' (before.content w.log) (after.content w.log)
 
   -- the policy was read, no place is one of its endpoints, and it has no asset of the name of one of the places
@@ -76,6 +96,15 @@ module _ (w : ServiceWords) (before after : FilesValue) (told told' : Option (Li
     pub policy : Policy
     pub has : HasPolicy (before.content w.policy) policy
     pub takes : takes_endpoint policy w.places ≡ true
+
+  -- the policy was read, no place is one of its endpoints, the site of each place was found, and two are one
+  pub record SharesASite : Type 0 where
+    pub policy : Policy
+    pub has : HasPolicy (before.content w.policy) policy
+    pub apart : takes_endpoint policy w.places ≡ false
+    pub places : List Place
+    pub found : ArePlaces policy w.places places
+    pub shares : shares_site places ≡ true
 
   -- no file changed, and nothing was asked of the links
   pub record NothingServed : Type 0 where
@@ -100,6 +129,7 @@ module _ (w : ServiceWords) (before after : FilesValue) (told told' : Option (Li
   -- why a service is not begun, or stops
   abbrev pub EndsService : Unserved → Type 0
   EndsService unserved.OwnEndpoint = TakesAnEndpoint × NothingServed
+  EndsService unserved.SharedSite = SharesASite × NothingServed
   EndsService (unserved.Stopped s) = StopsService s
 
 -- what the objects outside tell of a service
@@ -138,10 +168,12 @@ module _ (before after : ServiceOutside) (status : ℕ) where
     pub is_status : status ≡ stop_status s
     pub prints : Prints (stop_text s) (stop_status s) (stop_status s) before.sink after.sink status
 
-  -- a place is an endpoint of the policy: `usage` is printed, and nothing else happened
-  pub record OwnEndpoint (w : ServiceWords) : Type 0 where
+  -- a place is an endpoint of the policy, or two are of one site: `usage` is printed, and nothing else happened
+  pub record UnfitPlaces (w : ServiceWords) : Type 0 where
     pub two : status ≡ 2
-    pub cause : TakesAnEndpoint w before.files after.files before.told after.told before.waits after.waits
+    pub cause :
+        TakesAnEndpoint w before.files after.files before.told after.told before.waits after.waits
+        ⊎ SharesASite w before.files after.files before.told after.told before.waits after.waits
     pub usage : Puts (codes "usage\n") 2 2 before.sink after.sink status
     pub same : NothingServed w before.files after.files before.told after.told before.waits after.waits
 
@@ -163,4 +195,4 @@ module _ (before after : ServiceOutside) (status : ℕ) where
   ServiceEnds None = NoWords ⊎ NoService
   ServiceEnds (Some w) =
       NoWords ⊎ (KeepsOthers w.log before.files.content after.files.content
-      × RisesIn (w.policy ∷ []) before.files.read_faults after.files.read_faults × (ServesOn w ⊎ (OwnEndpoint w ⊎ ((s : Stop) × Stopped w s))))
+      × RisesIn (w.policy ∷ []) before.files.read_faults after.files.read_faults × (ServesOn w ⊎ (UnfitPlaces w ⊎ ((s : Stop) × Stopped w s))))

@@ -7,9 +7,10 @@ use Rattle.cf_judge.specs.declared.Objection.{Objection}
 use Rattle.cf_lane.specs.Follows.{AreJudged}
 use Rattle.cf_lane.specs.Judged.{Judged}
 use Rattle.cf_lane.specs.Passes.{Passes}
-use Rattle.cf_lane.specs.Rates.{KeepsRates}
+use Rattle.cf_lane.specs.SiteRates.{KeepsRates}
 use Rattle.cf_outside.specs.Files.{Content, holds, untold, IsWhole, content_after_write}
 use Rattle.cf_outside.specs.PairValue.{PairValue}
+use Rattle.cf_policy.specs.Site.{SiteValue}
 use Rattle.cf_policy.specs.declared.Asset.{Asset}
 use Rattle.cf_policy.specs.declared.Policy.{Policy}
 use Rattle.cf_policylang.specs.Documents.{policy_meaning}
@@ -29,7 +30,7 @@ use Rattle.cf_box.specs.Watching.{ReviewCuts, ReviewRefuses, WatchCuts, WatchRef
 use Rattle.cf_box.specs.Learn.{Learns, NeverTooMuch}
 use Rattle.cf_ending.specs.Outside.{Outside, ReadFailed, WriteFailed}
 use Rattle.cf_box.specs.Packets.{ListingCuts, ListingRefuses}
-use Rattle.cf_box.specs.PolicyFile.{FindsAsset, TellsPolicy, asset_named}
+use Rattle.cf_box.specs.PolicyFile.{FindsSite, TellsPolicy, asset_named}
 use Rattle.cf_box.specs.Relay.{TellsCutRelay, TellsIdleRelay}
 use Rattle.cf_box.specs.Review.{NeverRemarks, NothingRemarked}
 use Rattle.cf_box.specs.Run.{RunCuts, RunRefuses}
@@ -97,18 +98,18 @@ abbrev pub JudgedClean : (policy capture : List ℕ) → Outside → Type 0
 JudgedClean policy capture before =
     (d : Done) × (keeps : KeepsPolicy policy capture before d) × AreAllowedFlows keeps.0.assets keeps.2.has_flows.newest
 
--- what a sift passes: of the commands in the stream exactly those went to the output that the bytes of the policy allow, in their spelling
--- and at their place; and no rule let more of them through than its rate
+-- what a sift passes: of the commands in the stream exactly those went to the output that the bytes of the policy allow, each by the rules
+-- of the asset that it is for, in their spelling and at their place; and no rule of an asset let more of them through than its rate
 pub record SiftPassesAllowed (policy name : List ℕ) (client : ℕ) (names : SiftNamesValue) (before after : Outside) : Type 0 where
-  pub asset : Asset
-  pub finds : FindsAsset (before.files.content policy) name asset
+  pub site : SiteValue
+  pub finds : FindsSite (before.files.content policy) name site
   pub bytes : List ℕ
   pub whole : IsWhole (before.files.content names.stream) bytes
   pub judged : List Judged
-  pub are_judged : AreJudged asset (newcomer client) (stored_history bytes) judged
+  pub are_judged : AreJudged site (newcomer client) (stored_history bytes) judged
   pub passed : List ℕ
-  pub passes : Passes asset (newcomer client) [] judged passed
-  pub rates : KeepsRates asset none_before judged
+  pub passes : Passes site (newcomer client) [] judged passed
+  pub rates : KeepsRates site none_before judged
   pub output : after.files.content names.out ≡ content_after_write (before.files.content names.out) passed
 
 -- the capture of a command that reads one ends so

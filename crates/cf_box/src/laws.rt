@@ -1,9 +1,15 @@
 //! Laws over every run and every capture.
 ghost use Rattle.cf_box.specs.Laws.{HasLaws};
 
-use cf_decode::{admits_what_is_allowed, refused_commands_are_told, shown_commands_are_told};
+use cf_decode::{
+    admits_what_is_allowed, refused_commands_are_told, shown_commands_are_told, stations_decode,
+};
 use cf_isolation::{captures_hold_sessions, logs_hold_sessions, runs_are_read_back};
+use cf_judge::each_asset_is_judged_alone;
+use cf_lane::{nobodys_is_refused, one_asset_is_as_before, parts_are_sessions};
+use cf_learn::shows_own_units;
 use cf_pcapng::{calls_give_blocks, files_have_one_list_of_blocks};
+use cf_policy::sites_are_whole;
 use cf_records::octets_have_one_list_of_records;
 use cf_review::{
     bytes_come_in_order, judge_tells_the_first, records_come_first, syn_flows_are_watched,
@@ -15,7 +21,7 @@ use cf_unobjected::{
     readings_are_one, runs_are_unobjected, unobjected_are_allowed,
 };
 
-/// The laws of the layers below that speak of whole runs and whole captures.
+/// The laws of the layers below that speak of whole runs and whole captures, and of the assets of a session.
 pub(crate) fn laws_hold()
     ensures { HasLaws }
 {
@@ -35,6 +41,13 @@ pub(crate) fn laws_hold()
     judge_tells_the_first();
     syn_flows_are_watched();
     records_come_first();
+    sites_are_whole();
+    parts_are_sessions();
+    nobodys_is_refused();
+    one_asset_is_as_before();
+    stations_decode();
+    each_asset_is_judged_alone();
+    shows_own_units();
     admits_what_is_allowed();
     refused_commands_are_told();
     shown_commands_are_told();

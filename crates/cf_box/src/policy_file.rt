@@ -1,17 +1,18 @@
 //! The policy that a file holds.
-ghost use Rattle.std.specs.Prelude.{◌≡◌, ◌≢◌, ◌∷◌, [], Err, IfErr, IfOk, IfSome, Some, bytes_eq, find, option_map, slice_get};
+ghost use Rattle.std.specs.Prelude.{◌≡◌, ◌≢◌, ◌∷◌, [], Err, IfErr, IfNone, IfOk, IfSome, None, Some, bytes_eq, find, option_and_then, option_map, slice_get};
 ghost use Rattle.cf_words.specs.Command.{Command, policy_file};
 ghost use Rattle.cf_box.specs.Ends.{StopsFor};
 ghost use Rattle.cf_ending.specs.Outside.{ReadsOnly, SinkValue, files_value, outside};
-ghost use Rattle.cf_box.specs.PolicyFile.{HasPolicy, StopsPolicy, WritesPolicy, asset_named, counted, rule_count};
+ghost use Rattle.cf_box.specs.PolicyFile.{HasPolicy, StopsPolicy, WritesPolicy, asset_named, counted, rule_count, site_named};
 ghost use Rattle.cf_outside.specs.Frames.{OnlyWrites};
 ghost use Rattle.cf_outside.specs.PairValue.{PairValue};
-ghost use Rattle.cf_policy.specs.Within.{AreAssetsWithin, IsAssetWithin, IsWithin};
+ghost use Rattle.cf_policy.specs.Site.{IsSiteWithin, site_at};
+ghost use Rattle.cf_policy.specs.Within.{AreAssetsWithin, IsWithin};
 ghost use Rattle.cf_policy.specs.declared.Asset.{Asset};
 
 use cf_ending::{AssetName, Done, Stop};
 use cf_outside::{Files, WholeFault, read_whole, write_whole};
-use cf_policy::{Asset, Policy};
+use cf_policy::{Asset, Policy, Site, site_at};
 use cf_policylang::{Cause, Key, PolicyFault, PolicyRefusal, migrated_text, read_policy};
 use cf_view::WriteFault;
 use std::alloc::Global;
@@ -55,19 +56,31 @@ pub(crate) fn load_policy<F: Files>(
     }
 }
 
-/// The asset of a name.
-pub(crate) fn find_asset<'a>(policy: &'a Policy, name: &str) -> Option<&'a Asset>
+/// The site that has an asset of the name: all assets behind the address and port of that one.
+pub(crate) fn find_site<'a>(policy: &'a Policy, name: &str) -> Option<Site<'a>>
     requires { IsWithin policy.now }
-    ensures named { option_map (λ a. a.now) result ≡ asset_named name.now policy.now }
-    ensures within { IfSome result (λ a. IsAssetWithin a.now) }
+    ensures named { result ≡ site_named name.now policy.now }
+    ensures none { IfNone result (asset_named name.now policy.now ≡ None) }
+    ensures within { IfSome result IsSiteWithin }
 {
-    find_in(policy.assets.as_slice(), name)
+    site_in(policy.assets.as_slice(), name)
+}
+
+/// The site, among these assets, that has one of the name.
+fn site_in<'a>(assets: &'a [Asset], name: &str) -> Option<Site<'a>>
+    requires { AreAssetsWithin assets.now }
+    ensures named { result ≡ option_and_then (λ a. site_at assets.now a.endpoint) (find (λ a. bytes_eq a.name name.now) assets.now) }
+    ensures none { IfNone result (find (λ a. bytes_eq a.name name.now) assets.now ≡ None) }
+    ensures within { IfSome result IsSiteWithin }
+{
+    match find_in(assets, name) {
+        Some(asset) => site_at(assets, &asset.endpoint),
+        None => None,
+    }
 }
 
 fn find_in<'a>(assets: &'a [Asset], name: &str) -> Option<&'a Asset>
-    requires { AreAssetsWithin assets.now }
-    ensures named { option_map (λ a. a.now) result ≡ find (λ a. bytes_eq a.name name.now) assets.now }
-    ensures within { IfSome result (λ a. IsAssetWithin a.now) }
+    ensures { option_map (λ a. a.now) result ≡ find (λ a. bytes_eq a.name name.now) assets.now }
 {
     assets.iter().find(|asset| asset.name.as_str() == name)
 }

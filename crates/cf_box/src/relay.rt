@@ -6,7 +6,7 @@ ghost use Rattle.cf_ending.specs.Outside.{FilesNeverFall, SinkValue, files_value
 ghost use Rattle.cf_box.specs.Relay.{relay_answer};
 ghost use Rattle.cf_outside.specs.PairValue.{pair_value};
 
-use crate::policy_file::{find_asset, load_policy};
+use crate::policy_file::{find_site, load_policy};
 use cf_ending::{Done, Stop};
 use cf_outside::{Files, Pair};
 use cf_relay::{RelayDone, RelayEnd, RelayFault};
@@ -33,7 +33,7 @@ fn answer_of(ended: Result<RelayDone, RelayFault>) -> Result<Done, Stop>
     }
 }
 
-/// Reads the policy, and relays between the client that comes to the port and the asset of a name. The port is at most 65,535;
+/// Reads the policy, and relays between the client that comes to the port and the site of a name. The port is at most 65,535;
 /// twice `idles` answers `Idle` with no byte or end between them end it.
 pub(crate) fn relay<F: Files, P: Pair>(
     alloc: Global,
@@ -57,9 +57,9 @@ pub(crate) fn relay<F: Files, P: Pair>(
         Ok(policy) => policy,
         Err(stop) => return Err(stop),
     };
-    let Some(asset) = find_asset(&policy, asset_name) else {
+    let Some(site) = find_site(&policy, asset_name) else {
         return Err(Stop::UnknownAsset);
     };
     let (port, idles) = (port as u16, idles as u32);
-    answer_of(cf_relay::relay(alloc, asset, port, idles, log, pair, files))
+    answer_of(cf_relay::relay(alloc, &site, port, idles, log, pair, files))
 }

@@ -3,8 +3,8 @@ ghost use Rattle.std.specs.List.{list_any};
 ghost use Rattle.std.specs.Prelude.{◌≡◌, ◌⊎◌, ◌++◌, ◌-◌, ◌^◌, Err, IfErr, List, OnOk, Some, false, map, string_bytes, ℕ, ◌∷◌, []};
 ghost use Rattle.cf_ending.specs.Outside.{RisesIn, files_value};
 ghost use Rattle.cf_box.specs.PolicyFile.{HasPolicy};
-ghost use Rattle.cf_box.specs.Service.{ArePlaces, EndsService, HasServed, LacksPlace, ServiceEnds, StopsService, service_outside, service_stop};
-ghost use Rattle.cf_box.specs.Service.{takes_endpoint};
+ghost use Rattle.cf_box.specs.Service.{ArePlaces, EndsService, HasServed, LacksPlace, MissesSites, ServiceEnds, service_outside};
+ghost use Rattle.cf_box.specs.Service.{is_same_site, service_stop, shares_site, takes_endpoint};
 ghost use Rattle.cf_box.specs.ServiceWords.{IsFitService, place_word_value, service_of, service_value};
 ghost use Rattle.cf_links.specs.Links.{LinksPlace};
 ghost use Rattle.cf_outside.specs.Files.{KeepsOthers};
@@ -13,7 +13,7 @@ ghost use Rattle.cf_policy.specs.Within.{IsWithin};
 ghost use Rattle.cf_serve.specs.Laws.{EachIsAlone, FloodsAreBounded, IsolatesSessions, RatesLastOverSessions, StrangersAreRefused};
 ghost use Rattle.cf_serve.specs.declared.table.Place.{Place as PlaceOf};
 
-use crate::policy_file::{find_asset, load_policy};
+use crate::policy_file::{find_site, load_policy};
 use crate::service::{PlaceWord, Service, read_service};
 use cf_ending::{Stop, put_text, report};
 use cf_links::Service as Links;
@@ -32,6 +32,8 @@ use std::alloc::Global;
 pub(crate) enum Unserved {
     /// A place is an endpoint of the policy: the service would be a client of itself.
     OwnEndpoint,
+    /// Two places are of one site: its rates would be counted twice.
+    SharedSite,
     Stopped(Stop),
 }
 
@@ -53,7 +55,7 @@ fn takes_endpoint(policy: &Policy, words: &[PlaceWord<'_>]) -> bool
         .any(|word| has_asset_at(policy.assets.as_slice(), word.at))
 }
 
-/// Adds the asset of each place, and where its clients come.
+/// Adds the site of each place, and where its clients come.
 fn find_places<'a>(
     policy: &'a Policy,
     words: &[PlaceWord<'_>],
@@ -68,13 +70,62 @@ fn find_places<'a>(
     let Some((word, rest)) = words.split_first() else {
         return Ok(());
     };
-    let Some(asset) = find_asset(policy, word.asset) else {
+    let Some(site) = find_site(policy, word.asset) else {
         return Err(Stop::UnknownAsset);
     };
-    match places.push(Place { asset, at: word.at }) {
+    match places.push(Place { site, at: word.at }) {
         Ok(()) => find_places(policy, rest, places),
         Err(_) => Err(Stop::NoMemory),
     }
+}
+
+/// Whether two places are of one site.
+fn is_same_site(place: &Place<'_>, other: &Place<'_>) -> bool
+    ensures { result ≡ is_same_site place.now other.now }
+{
+    same_endpoint(&other.site.first().endpoint, &place.site.first().endpoint)
+}
+
+/// Whether one of the others is of a place's site.
+fn has_same_site(place: &Place<'_>, others: &[Place<'_>]) -> bool
+    ensures { result ≡ list_any (λ other. is_same_site place.now other) others.now }
+{
+    others.iter().any(|other| is_same_site(place, other))
+}
+
+/// Whether one of the sites has two places.
+fn shares_site(places: &[Place<'_>]) -> bool
+    ensures { result ≡ shares_site places.now }
+{
+    let Some((place, rest)) = places.split_first() else {
+        return false;
+    };
+    if has_same_site(place, rest) {
+        return true;
+    }
+    shares_site(rest)
+}
+
+/// Finds the site of each place, no two of which are one.
+fn find_sites<'a>(
+    policy: &'a Policy,
+    words: &[PlaceWord<'_>],
+    places: &mut Vec<Place<'a>>,
+) -> Result<(), Unserved>
+    requires within { IsWithin policy.now }
+    requires empty { places.old.items ≡ [] }
+    ensures found { OnOk result (ArePlaces policy.now (map place_word_value words.now) places.new.items) }
+    ensures sites { OnOk result (shares_site places.new.items ≡ false) }
+    ensures misses { IfErr result (MissesSites policy.now (map place_word_value words.now)) }
+{
+    match find_places(policy, words, places) {
+        Ok(()) => {}
+        Err(stop) => return Err(Unserved::Stopped(stop)),
+    }
+    if shares_site(places.as_slice()) {
+        return Err(Unserved::SharedSite);
+    }
+    Ok(())
 }
 
 /// Why the work stops at a fault of the service.
@@ -95,7 +146,7 @@ fn serve_places<F: Files, L: Links>(
     service: &Service<'_>,
     files: &mut F,
     links: &mut L,
-) -> Result<(), Stop>
+) -> Result<(), Unserved>
     requires within { IsWithin policy.now }
     requires has { HasPolicy (F.content files.old (service.now.policy).now) policy.now }
     requires apart { takes_endpoint policy.now (map place_word_value service.now.places.items) ≡ false }
@@ -104,7 +155,7 @@ fn serve_places<F: Files, L: Links>(
     ensures serves { OnOk result (HasServed (service_value service.now) (files_value F.Files files.old) (files_value F.Files files.new)
         (L.told links.old) (L.told links.new) (LinksPlace.round_faults (L.place links.old)) (LinksPlace.round_faults (L.place links.new))
         (λ made. made ≡ 2 ^ 64 - 1)) }
-    ensures stops { IfErr result (λ s. StopsService (service_value service.now) (files_value F.Files files.old)
+    ensures stops { IfErr result (λ s. EndsService (service_value service.now) (files_value F.Files files.old)
         (files_value F.Files files.new)
         (L.told links.old) (L.told links.new) (LinksPlace.round_faults (L.place links.old)) (LinksPlace.round_faults (L.place links.new))
         s) }
@@ -112,7 +163,7 @@ fn serve_places<F: Files, L: Links>(
     ensures reads { F.read_faults files.new ≡ F.read_faults files.old }
 {
     let mut places = Vec::new(alloc);
-    find_places(policy, service.places.as_slice(), &mut places)?;
+    find_sites(policy, service.places.as_slice(), &mut places)?;
     match cf_serve::serve(
         alloc,
         places.as_slice(),
@@ -122,7 +173,7 @@ fn serve_places<F: Files, L: Links>(
         files,
     ) {
         Ok(()) => Ok(()),
-        Err(fault) => Err(stop_of(fault)),
+        Err(fault) => Err(Unserved::Stopped(stop_of(fault))),
     }
 }
 
@@ -151,10 +202,7 @@ fn serve_read<F: Files, L: Links>(
     if takes_endpoint(policy, service.places.as_slice()) {
         return Err(Unserved::OwnEndpoint);
     }
-    match serve_places(alloc, policy, service, files, links) {
-        Ok(()) => Ok(()),
-        Err(stop) => Err(Unserved::Stopped(stop)),
-    }
+    serve_places(alloc, policy, service, files, links)
 }
 
 /// Reads the policy, and serves the clients of its places.
@@ -198,6 +246,7 @@ fn serve_words<F: Files, O: Sink, L: Links>(
     match serve_policy(alloc, service, files, links) {
         Ok(()) => DONE,
         Err(Unserved::OwnEndpoint) => put_text("usage\n", USAGE, USAGE, out),
+        Err(Unserved::SharedSite) => put_text("usage\n", USAGE, USAGE, out),
         Err(Unserved::Stopped(stop)) => report(&Err(stop), out),
     }
 }
@@ -206,7 +255,7 @@ fn serve_words<F: Files, O: Sink, L: Links>(
 /// place cannot be listened at, or the wait fails; after every line of the log that could be appended. The links have no session
 /// before. This project's own.
 ///
-/// Statuses: 0 after 2^64 - 1 rounds; 2 the words have no form, or a place is an endpoint of the policy; 3 a read failed; 4 a write failed; 5 the policy's text means none; 8 a
+/// Statuses: 0 after 2^64 - 1 rounds; 2 the words have no form, a place is an endpoint of the policy, or two places are of one site; 3 a read failed; 4 a write failed; 5 the policy's text means none; 8 a
 /// place cannot be listened at, or the wait failed; 10 the policy has no asset of a name; 13 memory ran out.
 pub fn serve_main<F: Files, O: Sink, L: Links>(
     alloc: Global,

@@ -7,7 +7,7 @@ ghost use Rattle.cf_outside.specs.PairValue.{PairValue};
 ghost use Rattle.cf_sift.specs.Names.{AreApart, sift_names_value};
 ghost use Rattle.cf_box.specs.Sift.{sift_stop};
 
-use crate::policy_file::{find_asset, load_policy};
+use crate::policy_file::{find_site, load_policy};
 use cf_ending::{Done, Stop};
 use cf_outside::Files;
 use cf_policylang::address;
@@ -25,7 +25,7 @@ fn sift_stop(fault: SiftFault) -> Stop
     }
 }
 
-/// Reads the policy, and filters the stream for its asset of a name.
+/// Reads the policy, and filters the stream for its site of a name.
 #[tactic(auto, using(crate::proofs::Reading::rises_one))]
 pub(crate) fn sift<F: Files>(
     alloc: Global,
@@ -45,10 +45,10 @@ pub(crate) fn sift<F: Files>(
         Ok(policy) => policy,
         Err(stop) => return Err(stop),
     };
-    let Some(asset) = find_asset(&policy, asset_name) else {
+    let Some(site) = find_site(&policy, asset_name) else {
         return Err(Stop::UnknownAsset);
     };
-    let done = match sift_stream(alloc, asset, client, names, files) {
+    let done = match sift_stream(alloc, &site, client, names, files) {
         Ok(done) => done,
         Err(fault) => return Err(sift_stop(fault)),
     };

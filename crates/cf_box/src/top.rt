@@ -41,7 +41,7 @@ use crate::world::world;
 use cf_ending::{Done, Stop, put_text, report};
 use cf_lane::{has_one_judgement, lane_passes_allowed, rates_hold};
 use cf_outside::{Files, Pair, Sink};
-use cf_run::{runs_are_logged, runs_have_headline};
+use cf_run::{runs_are_logged, runs_have_headline, sessions_have_sites};
 use cf_sift::has_one_cut;
 use cf_words::status::USAGE;
 use cf_words::{Command, read_words};
@@ -206,14 +206,16 @@ pub fn box_main<F: Files, O: Sink, P: Pair>(
         (dropped : ℕ) × Lists capture (outside_value F.Files O.Sink P.Pair files.old out.old pair.old)
         (outside_value F.Files O.Sink P.Pair files.new out.new pair.new) (Done.Listed dropped) }
 
-    // Of the commands of a stream exactly those went on that the policy's bytes allow, and no rule let more through than its rate.
+    // Of the commands of a stream exactly those went on that the policy's bytes allow, each by the rules of the asset of its station,
+    // and no rule let more through than its rate.
     ensures passes { (policy asset : List ℕ) (client : ℕ) (names : SiftNamesValue) → command_of (map string_bytes words.now) ≡ Some
         (Sift policy asset client names) → result ≡ 0 →
         SiftPassesAllowed policy asset client names (outside_value F.Files O.Sink P.Pair files.old out.old pair.old)
         (outside_value F.Files O.Sink P.Pair files.new out.new pair.new) }
 
     // The headline: the outputs of a run are what the policy and the capture's records make of them, and whatever copies of
-    // segments a controller takes decode to the first of what the policy lets through.
+    // segments a controller takes decode to the first of what the policy lets through, and for each station behind its address and
+    // port to the first of what the rules of that asset admit.
     ensures headline { (policy : List ℕ) (names : RunNamesValue) → command_of (map string_bytes words.now) ≡ Some (Run policy names)
         → result ≡ 0 →
         RunHolds policy names (outside_value F.Files O.Sink P.Pair files.old out.old pair.old)
@@ -251,6 +253,7 @@ pub fn box_main<F: Files, O: Sink, P: Pair>(
     has_one_cut();
     has_one_judgement();
     runs_have_headline();
+    sessions_have_sites();
     runs_are_logged();
     match read_words(words) {
         None => {

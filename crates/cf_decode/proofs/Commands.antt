@@ -1,10 +1,10 @@
 -- Exactly the allowed commands are admitted.
 use Rattle.std.proofs.Common.{Bool, Err, List, None, Ok, Option, Some, [], ap, append_assoc, arith, false, inl, inr, length, refl, subst, sym, true, ℕ, ◌++◌, ◌∙◌, ◌∷◌, ◌≡◌, ◌≤◌, if◌then◌else◌, nat_eq, nat_lt, slice_index}
-use Rattle.cf_decode.proofs.Common.{Ack, Admission, Adu, Apdu, ApduValue, Asset, Caller, Control, Fate, Frame, FrameValue, HasItemFate, Info, Item, Judged, Refusal, Says, SegmentAnswer, Side, Took, Why, answer_now, append-nil, completed, cond_both, fate_of_acts, fate_of_fragment, fate_of_frame, fate_of_segment, is_data, last_fragment, says_at, stray_of, user_of}
+use Rattle.cf_decode.proofs.Common.{Ack, Admission, Adu, Apdu, ApduValue, Asset, Caller, SiteValue, asset_of, bears, item_place, own, part, Control, Fate, Frame, FrameValue, HasItemFate, Info, Item, Judged, Refusal, Says, SegmentAnswer, Side, Took, Why, answer_now, append-nil, completed, cond_both, fate_of_acts, fate_of_fragment, fate_of_frame, fate_of_segment, is_data, last_fragment, says_at, stray_of, user_of}
 use Rattle.cf_asdu.specs.Asdu.{first_refusal, refusal_reason, station_of}
 use Rattle.cf_asdu.specs.declared.asdu.AsduRefusal.{AsduRefusal}
 use Rattle.cf_audit.specs.declared.line.CutReason.{CutReason}
-use Rattle.cf_decode.specs.Commands.{AdmitsWhatIsAllowed, Command, Allows, IsDecided, OfDnp3, OfIec104, OfModbus, commands_by, fragment_commands, frame_commands, info_commands, whole_commands}
+use Rattle.cf_decode.specs.Commands.{AdmitsWhatIsAllowed, Command, Allows, IsDecided, IsDecidedBy, OfDnp3, OfIec104, OfModbus, commands_by, fragment_commands, frame_commands, info_commands, whole_commands}
 use Rattle.cf_dnpobj.specs.Fragment.{FragmentValue, read_octets}
 use Rattle.cf_dnpobj.specs.declared.fragment.FragmentRefusal.{FragmentRefusal}
 use Rattle.cf_lane.proofs.Commands.{admits_what_is_allowed, from_allowed, to_allowed}
@@ -153,12 +153,17 @@ module _ (asset : Asset) (says : Says) where
   by_item earlier (Took side.Controller (Apdu a)) f has = subst (Decides []) (sym has) (by_controllers_apdu earlier a)
   by_item earlier _ f has = subst (Decides []) (sym has) (refl, refl)
 
-module _ (asset : Asset) (client : Caller) where
+module _ (site : SiteValue) (client : Caller) where
   -- the fate of the item after earlier ones
-  pub fate_behind : (before earlier later : List Judged) (j : Judged) → HaveFates asset client before (earlier ++ j ∷ later) → HasFate asset client (before ++ earlier) (place_of j) j.fate
-  fate_behind before [] later j fates = subst (λ b. HasFate asset client b (place_of j) j.fate) (sym (append-nil before)) fates.0
+  pub fate_behind : (before earlier later : List Judged) (j : Judged) → HaveFates site client before (earlier ++ j ∷ later) → HasFate site client (before ++ earlier) (place_of j) j.fate
+  fate_behind before [] later j fates = subst (λ b. HasFate site client b (place_of j) j.fate) (sym (append-nil before)) fates.0
   fate_behind before (k ∷ earlier) later j fates =
-      subst (λ b. HasFate asset client b (place_of j) j.fate) (append_assoc before (k ∷ []) earlier) (fate_behind (before ++ k ∷ []) earlier later j fates.1)
+      subst (λ b. HasFate site client b (place_of j) j.fate) (append_assoc before (k ∷ []) earlier) (fate_behind (before ++ k ∷ []) earlier later j fates.1)
+
+  pub decided : (earlier : List Judged) (j : Judged) → HasFate site client earlier (place_of j) j.fate → IsDecidedBy site (item_place site j.item) client earlier j
+  decided earlier j has =
+      let k = item_place site j.item in
+      by_item (asset_of site k) (says_at (asset_of site k) (own k client) (part site k earlier) j.moment) (bears j.item earlier (part site k earlier)) j.item j.fate has
 
 pub admits_allowed : AdmitsWhatIsAllowed
-admits_allowed asset client h earlier later j a = by_item asset (says_at asset client earlier j.moment) earlier j.item j.fate (fate_behind asset client [] earlier later j a.fates)
+admits_allowed site client h earlier later j a = decided site client earlier j (fate_behind site client [] earlier later j a.fates)

@@ -1,9 +1,10 @@
 -- What decides of a refused command is a rule of the asset, or none.
 use Rattle.std.proofs.Common.{◌≡◌, ℕ, ◌<◌, Bool, true, false, List, [], ◌∷◌, length, Option, Some, None, refl, subst, option_and_then, slice_get}
-use Rattle.cf_decode.proofs.Common.{Admission, Asset, Caller, HasOwnDecider, Judged, Refusal, Says, fate_of_acts, says_at}
+use Rattle.cf_decode.proofs.Common.{Admission, Asset, HasOwnDecider, Judged, Refusal, Says, fate_of_acts, says_at}
 use Rattle.std.proofs.lemmas.Option.{slice_get_within}
+use Rattle.cf_lane.specs.Caller.{OwnCaller}
 use Rattle.cf_lane.specs.Acts.{admission, by_refusal, first_refusal, refusal_or}
-use Rattle.cf_lane.specs.Rates.{is_spent, said, unless_spent, used_at}
+use Rattle.cf_lane.specs.Rates.{is_spent, own_used_at, said, unless_spent}
 use Rattle.cf_policy.specs.Verdict.{IsInside, IsOneOf, by_rule, decided, default_reason, first_number, numbered, verdict_of}
 use Rattle.cf_policy.specs.declared.Action.{Action}
 use Rattle.cf_policy.specs.declared.Action.TheVariants.{Allow, Refuse}
@@ -29,9 +30,9 @@ said_inside : (rules : List Rule) (spent : ℕ → Bool) (v : Verdict) → IsIns
 said_inside rules spent (verdict.Allow n) h = elim (spent n) as (λ b. IsInside rules (unless_spent b n)) [ true ↦ h | false ↦ h ]
 said_inside rules spent (verdict.Refuse d why) h = h
 
-pub says_inside : (asset : Asset) (client : Caller) (earlier : List Judged) (moment : ℕ) (act : Act) → IsInside asset.rules (says_at asset client earlier moment act)
+pub says_inside : (asset : Asset) (client : OwnCaller) (earlier : List Judged) (moment : ℕ) (act : Act) → IsInside asset.rules (says_at asset client earlier moment act)
 says_inside asset client earlier moment act =
-    said_inside asset.rules (is_spent asset (used_at client.before earlier) moment) (verdict_of asset client.address act)
+    said_inside asset.rules (is_spent asset (own_used_at client.before earlier) moment) (verdict_of asset client.address act)
     (inside_by asset.rules (first_number asset.rules client.address act) (default_reason asset.rules client.address act))
 
 module _ (rules : List Rule) (says : Says) (inside : (act : Act) → IsInside rules (says act)) where

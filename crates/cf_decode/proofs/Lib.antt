@@ -5,6 +5,8 @@ mod Decoding
 mod Making
 mod Replies
 mod Right
+mod Serving
 mod Spelled
+mod Stations
 mod Telling
 mod Worked

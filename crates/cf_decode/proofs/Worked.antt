@@ -9,6 +9,7 @@ use Rattle.cf_dnpobj.specs.Fragment.{wants_reply}
 use Rattle.cf_dnpobj.specs.Reply.{reply}
 use Rattle.cf_lane.specs.Log.{lines}
 use Rattle.cf_lane.specs.Rows.{direct_operate, dnp3_asset}
+use Rattle.cf_policy.specs.Site.{alone}
 use Rattle.cf_decode.specs.Rows.{RowsHold}
 use Rattle.cf_decode.specs.ToldRows.{ToldRowsHold, admitted, by_none, exception, one_client, operated, pump, refused}
 use Rattle.cf_decode.specs.Told.{IsReply, unless}
@@ -25,7 +26,7 @@ are expected found = bytes_eq found expected
 
 -- whether lines are those of the one session
 abbrev are_its_lines : List (List ℕ) → Bool
-are_its_lines found = bytes_eq (concat found) (concat (lines pump one_client [] (refused 1000000 ∷ admitted ∷ [])))
+are_its_lines found = bytes_eq (concat found) (concat (lines (alone pump) one_client [] (refused 1000000 ∷ admitted ∷ [])))
 
 abbrev first_of : List (List ℕ) → List ℕ
 first_of [] = []
@@ -52,6 +53,10 @@ told_rows_hold = record {
   other_log = refl;
   no_reply = refl;
   other_told = record { decider = tt; replied = []; is_reply = refl; in_stream = refl; in_log = refl };
+  both_log = refl;
+  both_stream = refl;
+  both_told = record { decider = tt; replied = 0 ∷ 1 ∷ 0 ∷ 0 ∷ 0 ∷ 3 ∷ 2 ∷ 0x86 ∷ 1 ∷ []; is_reply = refl; in_stream = refl; in_log = refl };
+  both_shown = record { in_log = refl };
   frame_reply = record { fragment = direct_operate; is_whole = refl; is_reply = refl };
   mirror_reply = refl;
   short_reply = refl;
@@ -72,6 +77,11 @@ rows_hold = record {
   of_all = refl;
   of_two = refl;
   unfinished_of_two = refl;
+  of_both = refl;
+  own_sequences = refl;
+  other_sequences = refl;
+  own_frames = refl;
+  own_writes = refl;
   a_confirmation = refl;
   a_write = refl;
   an_admitted_command = refl;

@@ -1,5 +1,5 @@
 -- Beside the proof: that exactly those commands of a client are admitted which the policy allows: `AdmitsWhatIsAllowed`, which stands last.
-use Rattle.cf_lane.specs.Caller.{Caller}
+use Rattle.cf_lane.specs.Caller.{Caller, own}
 use Rattle.cf_lane.specs.Rates.{Says, says_at}
 use Rattle.cf_apci.specs.Apdu.{Ack, ApduValue, Control, Info}
 use Rattle.cf_audit.specs.declared.line.CutReason.{CutReason}
@@ -10,10 +10,13 @@ use Rattle.cf_lane.specs.History.{Element}
 use Rattle.cf_lane.specs.Item.{Broke, Ended, Item, Took}
 use Rattle.cf_lane.specs.Judged.{Judged, is_admitted, is_refused}
 use Rattle.cf_lane.specs.Numbers.{info_cut}
+use Rattle.cf_lane.specs.Parts.{bears, part}
 use Rattle.cf_lane.specs.Passes.{IsAllowedAsdu, IsAllowedCommand, IsAllowedFragment, confirms}
+use Rattle.cf_lane.specs.Site.{item_place}
 use Rattle.cf_lane.specs.Unit.{Adu, Apdu, Frame}
 use Rattle.cf_lane.specs.declared.fate.Fate.{Fate}
 use Rattle.cf_modbus.specs.Adu.{AduValue}
+use Rattle.cf_policy.specs.Site.{SiteValue, asset_of}
 use Rattle.cf_policy.specs.declared.Asset.{Asset}
 use Rattle.std.specs.Prelude.{Bool, List, None, Option, Some, [], false, if◌then◌else◌, length, nat_lt, true, ℕ, ◌++◌, ◌∷◌, ◌≡◌, ◌⊎◌}
 use Rattle.cf_view.specs.declared.Side.TheVariants as side
@@ -55,7 +58,7 @@ apdu_commands earlier (Info send receive asdu) = info_commands (info_cut side.Cl
 apdu_commands earlier (Ack receive) = []
 apdu_commands earlier (Control octet) = []
 
--- the command that an item brings, after the earlier ones, if one
+-- the command that an item brings an asset, after the earlier ones, if one
 abbrev pub commands_by : Asset → List Judged → Item → List Command
 commands_by asset earlier (Took side.Client (Adu a)) = OfModbus a ∷ []
 commands_by asset earlier (Took side.Client (Frame x)) =
@@ -71,9 +74,14 @@ IsDecided asset says [] f = (is_admitted f ≡ false) × (is_refused f ≡ false
 IsDecided asset says (c ∷ none) f =
     ((is_admitted f ≡ true) × Allows asset says c) ⊎ ((is_refused f ≡ true) × (Allows asset says c → ⊥))
 
--- each item of a history is decided so, by what the policy says at its moment
+-- an item is decided so by the rules of the asset of a place, at its moment, after the earlier items that bear on it
+abbrev pub IsDecidedBy : SiteValue → (k : ℕ) → Caller → List Judged → Judged → Type 0
+IsDecidedBy site k client earlier j =
+    IsDecided (asset_of site k) (says_at (asset_of site k) (own k client) (part site k earlier) j.moment)
+    (commands_by (asset_of site k) (bears j.item earlier (part site k earlier)) j.item) j.fate
+
+-- each item of a history is decided so by the asset that it is for
 abbrev pub AdmitsWhatIsAllowed : Type 0
 AdmitsWhatIsAllowed =
-    (asset : Asset) (client : Caller) (h : List Element) (earlier later : List Judged) (j : Judged) →
-    AreJudged asset client h (earlier ++ j ∷ later) →
-    IsDecided asset (says_at asset client earlier j.moment) (commands_by asset earlier j.item) j.fate
+    (site : SiteValue) (client : Caller) (h : List Element) (earlier later : List Judged) (j : Judged) →
+    AreJudged site client h (earlier ++ j ∷ later) → IsDecidedBy site (item_place site j.item) client earlier j

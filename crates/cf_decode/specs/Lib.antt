@@ -5,6 +5,7 @@ pub mod Laws
 pub mod Passed
 pub mod Received
 pub mod Rows
+pub mod Stations
 pub mod Told
 pub mod ToldRows
 pub mod Units

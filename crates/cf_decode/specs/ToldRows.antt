@@ -10,6 +10,7 @@ use Rattle.cf_lane.specs.Rows.{asked, data_frame, direct_operate, dnp3_asset, ie
 use Rattle.cf_lane.specs.Unit.{Adu, Apdu, Frame}
 use Rattle.cf_lane.specs.declared.fate.Admission.{Admission}
 use Rattle.cf_lane.specs.declared.fate.Refusal.{Refusal}
+use Rattle.cf_policy.specs.Site.{SiteValue, alone}
 use Rattle.cf_policy.specs.declared.Asset.{Asset}
 use Rattle.cf_policy.specs.declared.Rule.{Rule}
 use Rattle.cf_decode.specs.Told.{IsReply, IsShown, IsTold}
@@ -73,6 +74,25 @@ refused moment = record { moment = moment; item = written 50; fate = fate.Refuse
 abbrev pub admitted : Judged
 admitted = record { moment = 2000000; item = written 40; fate = fate.Admitted (by_levels 40) }
 
+-- a valve behind the same address and port, at station 2, without rules
+abbrev pub valve : Asset
+valve = record pump { name = codes "valve"; station = 2; rules = [] }
+
+-- both
+abbrev pub both : SiteValue
+both = record { first = pump; others = valve ∷ [] }
+
+-- a refused write to register 40 of the valve
+abbrev pub for_valve : Refusal
+for_valve = record { decider = decider.Default; reason = reason.Function; act = write_to 40 }
+
+abbrev pub refused_for_valve : Judged
+refused_for_valve = record {
+  moment = 1000000;
+  item = Took side.Client (Adu (record (write_of 40 100) { unit = 2 }));
+  fate = fate.Refused for_valve;
+}
+
 -- the end of what the controller sends
 abbrev pub ended : Judged
 ended = record { moment = 2500000; item = Ended side.Controller 0; fate = fate.Carried }
@@ -102,20 +122,29 @@ mirror = 0x68 ∷ 0x0e ∷ 0 ∷ 0 ∷ 2 ∷ 0 ∷ 0x2d ∷ 1 ∷ 0x47 ∷ 0 ∷
 pub record ToldRowsHold : Type 0 where
   -- the one session: a refused write has its line and exception 2, an admitted one its line and nothing of the box
   pub one_log :
-      lines pump one_client [] (refused 1000000 ∷ admitted ∷ [])
+      lines (alone pump) one_client [] (refused 1000000 ∷ admitted ∷ [])
       ≡ codes "1.000000 10.0.0.5:49152 pump refuse default point code 6 group 0 point 50 value 100 replied 000100000006010600320064\n"
       ∷ codes "2.000000 10.0.0.5:49152 pump admit levels code 6 group 0 point 40 value 100 000100000006010600280064\n" ∷ []
-  pub one_stream : outputs pump side.Client [] (refused 1000000 ∷ admitted ∷ []) ≡ exception 2
+  pub one_stream : outputs (alone pump) side.Client [] (refused 1000000 ∷ admitted ∷ []) ≡ exception 2
   pub reply : IsReply pump false [] (written 50) (by_none reason.Point) (exception 2)
-  pub told : IsTold pump one_client [] (refused 1000000) (admitted ∷ []) (by_none reason.Point)
-  pub shown : IsShown pump one_client (refused 1000000 ∷ []) admitted [] (by_levels 40)
+  pub told : IsTold (alone pump) one_client [] (refused 1000000) (admitted ∷ []) (by_none reason.Point)
+  pub shown : IsShown (alone pump) one_client (refused 1000000 ∷ []) admitted [] (by_levels 40)
   -- the other session, whose controller has ended: its line says so, and no reply follows
   pub other_log :
-      lines pump other_client [] (ended ∷ refused 3000000 ∷ [])
+      lines (alone pump) other_client [] (ended ∷ refused 3000000 ∷ [])
       ≡ codes "3.000000 10.0.0.6:49153 pump refuse default point code 6 group 0 point 50 value 100 unanswered 000100000006010600320064\n"
       ∷ []
   pub no_reply : IsReply pump true (ended ∷ []) (written 50) (by_none reason.Point) []
-  pub other_told : IsTold pump other_client (ended ∷ []) (refused 3000000) [] (by_none reason.Point)
+  pub other_told : IsTold (alone pump) other_client (ended ∷ []) (refused 3000000) [] (by_none reason.Point)
+  -- two assets behind one address and port: a refused write to the valve has its line under the valve's name, and exception 1 of its
+  -- unit; an admitted one to the pump its line under the pump's
+  pub both_log :
+      lines both one_client [] (refused_for_valve ∷ admitted ∷ [])
+      ≡ codes "1.000000 10.0.0.5:49152 valve refuse default function code 6 group 0 point 40 value 100 replied 000100000006020600280064\n"
+      ∷ codes "2.000000 10.0.0.5:49152 pump admit levels code 6 group 0 point 40 value 100 000100000006010600280064\n" ∷ []
+  pub both_stream : outputs both side.Client [] (refused_for_valve ∷ admitted ∷ []) ≡ 0 ∷ 1 ∷ 0 ∷ 0 ∷ 0 ∷ 3 ∷ 2 ∷ 0x86 ∷ 1 ∷ []
+  pub both_told : IsTold both one_client [] refused_for_valve (admitted ∷ []) for_valve
+  pub both_shown : IsShown both one_client (refused_for_valve ∷ []) admitted [] (by_levels 40)
   -- the replies of the other protocols; an ASDU of eight octets has none
   pub frame_reply : IsReply dnp3_asset false [] operated (by_none reason.Function) response
   pub mirror_reply : IsReply iec104_asset false (started ∷ []) (Took side.Client (Apdu (Info 0 0 (asked 0xe9 0x81)))) (by_none reason.Point) mirror
@@ -130,5 +159,5 @@ pub record ToldRowsHold : Type 0 where
   pub no_frame : IsReply dnp3_asset false [] operated (by_none reason.Function) [] → ⊥
   pub no_mirror : IsReply iec104_asset false (started ∷ []) (Took side.Client (Apdu (Info 0 0 (asked 0xe9 0x81)))) (by_none reason.Point) [] → ⊥
   pub of_a_controller : IsReply pump false [] (Took side.Controller (Adu (write_of 50 100))) (by_none reason.Point) [] → ⊥
-  pub other_reason : IsTold pump one_client [] (refused 1000000) (admitted ∷ []) (by_none reason.Value) → ⊥
-  pub other_act : IsShown pump one_client (refused 1000000 ∷ []) admitted [] (by_levels 41) → ⊥
+  pub other_reason : IsTold (alone pump) one_client [] (refused 1000000) (admitted ∷ []) (by_none reason.Value) → ⊥
+  pub other_act : IsShown (alone pump) one_client (refused 1000000 ∷ []) admitted [] (by_levels 41) → ⊥

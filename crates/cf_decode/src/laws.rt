@@ -2,6 +2,7 @@
 ghost use Rattle.cf_decode.specs.Commands.{AdmitsWhatIsAllowed};
 ghost use Rattle.cf_decode.specs.Laws.{FragmentsDecode, StreamDecodes, StreamIsSpelled};
 ghost use Rattle.cf_decode.specs.Rows.{RowsHold};
+ghost use Rattle.cf_decode.specs.Stations.{StationsDecode};
 ghost use Rattle.cf_decode.specs.Told.{RefusedAreTold, ShownAreTold};
 ghost use Rattle.cf_decode.specs.ToldRows.{ToldRowsHold};
 
@@ -21,6 +22,15 @@ pub fn stream_decodes()
 /// in order, and then has a proper prefix of the next.
 pub fn fragments_decode()
     ensures { FragmentsDecode }
+{
+    pieces_join();
+    first_segments_make_the_first_fragments();
+}
+
+/// Of the units of any beginning of it those with the station of an asset, for DNP3 with its station and its master, make the first of
+/// the commands that this asset's rules admit, of those that the client sent for it, in order.
+pub fn stations_decode()
+    ensures { StationsDecode }
 {
     pieces_join();
     first_segments_make_the_first_fragments();

@@ -6,5 +6,5 @@ mod laws;
 
 pub use laws::{
     admits_what_is_allowed, fragments_decode, refused_commands_are_told, rows_hold,
-    shown_commands_are_told, stream_decodes,
+    shown_commands_are_told, stations_decode, stream_decodes,
 };

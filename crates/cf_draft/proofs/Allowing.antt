@@ -1,11 +1,12 @@
 -- What rules allow that were held against what was shown, and what a learned asset allows.
-use Rattle.std.proofs.Common.{◌≡◌, ◌+◌, ◌<◌, ℕ, zero, suc, List, [], ◌∷◌, length, slice_get, get_or, Some, refl, sym, ap, subst, ◌∙◌, arith, below_more}
+use Rattle.std.proofs.Common.{◌≡◌, ◌+◌, ◌<◌, ℕ, zero, suc, List, [], ◌∷◌, length, slice_get, get_or, Some, refl, ap, subst, ◌∙◌, below_more}
 use Rattle.std.specs.Prelude.{Contains}
 use Rattle.std.proofs.lemmas.Option.{get_or_from_slice_get, none-some, same_Some, slice_get-get_or}
 use Rattle.cf_acts.specs.Commands.{IsOfCommand}
 use Rattle.cf_compare.specs.Inclusion.{AllowsAllOf, IsSameController}
 use Rattle.cf_learn.specs.Assets.{AreLearned, AreSeen, IsLearnedAsset, with_rules}
 use Rattle.cf_learn.specs.Seen.{act_of, seen_of}
+use Rattle.cf_learn.specs.Shown.{site_place}
 use Rattle.cf_learn.specs.declared.Seen.{Seen}
 use Rattle.cf_policy.specs.declared.Asset.{Asset}
 use Rattle.cf_policy.specs.Laws.{IsAllowed}
@@ -35,35 +36,26 @@ module _ (asset : Asset) (place : ℕ) (flows : List FlowValue) where
     only = λ none client act in_range of allowed. (learned.exact client act of).0 allowed;
   }
 
-and_none : (n : ℕ) → n ≡ n + 0
-and_none n = omega arith
+each_learned : (flows : List FlowValue) (all assets learned : List Asset) → AreLearned flows all assets learned → (place : ℕ) (asset own : Asset) → slice_get assets place ≡ Some asset →
+    slice_get learned place ≡ Some own → IsLearnedAsset asset (site_place all asset) flows own
+each_learned flows all [] learned are place asset own a l = absurd (none-some asset a)
+each_learned flows all (x ∷ assets) [] are place asset own a l = absurd are
+each_learned flows all (x ∷ assets) (y ∷ learned) are zero asset own a l =
+    subst (λ z. IsLearnedAsset z (site_place all z) flows own) (same_Some x asset a)
+    (subst (λ z. IsLearnedAsset x (site_place all x) flows z) (same_Some y own l) are.0)
+each_learned flows all (x ∷ assets) (y ∷ learned) are (suc place) asset own a l = each_learned flows all assets learned are.1 place asset own a l
 
-none_and : (n : ℕ) → 0 + n ≡ n
-none_and n = omega arith
-
-one_later : (n place : ℕ) → (n + 1) + place ≡ n + suc place
-one_later n place = omega arith
-
-each_learned : (flows : List FlowValue) (n : ℕ) (assets learned : List Asset) → AreLearned flows n assets learned → (place : ℕ) (asset own : Asset) → slice_get assets place ≡ Some asset →
-    slice_get learned place ≡ Some own → IsLearnedAsset asset (n + place) flows own
-each_learned flows n [] learned are place asset own a l = absurd (none-some asset a)
-each_learned flows n (x ∷ assets) [] are place asset own a l = absurd are
-each_learned flows n (x ∷ assets) (y ∷ learned) are zero asset own a l =
-    subst (λ k. IsLearnedAsset asset k flows own) (and_none n) (subst (λ z. IsLearnedAsset z n flows own) (same_Some x asset a) (subst (λ z. IsLearnedAsset x n flows z) (same_Some y own l) are.0))
-each_learned flows n (x ∷ assets) (y ∷ learned) are (suc place) asset own a l =
-    subst (λ k. IsLearnedAsset asset k flows own) (one_later n place) (each_learned flows (n + 1) assets learned are.1 place asset own a l)
-
-as_many : (flows : List FlowValue) (n : ℕ) (assets learned : List Asset) → AreLearned flows n assets learned → length learned ≡ length assets
-as_many flows n [] [] are = refl
-as_many flows n [] (y ∷ learned) are = absurd are
-as_many flows n (x ∷ assets) [] are = absurd are
-as_many flows n (x ∷ assets) (y ∷ learned) are = ap suc (as_many flows (n + 1) assets learned are.1)
+as_many : (flows : List FlowValue) (all assets learned : List Asset) → AreLearned flows all assets learned → length learned ≡ length assets
+as_many flows all [] [] are = refl
+as_many flows all [] (y ∷ learned) are = absurd are
+as_many flows all (x ∷ assets) [] are = absurd are
+as_many flows all (x ∷ assets) (y ∷ learned) are = ap suc (as_many flows all assets learned are.1)
 
 -- so are learned assets
-pub learned_drafts : (flows : List FlowValue) (widened : ℕ) (assets learned : List Asset) → AreLearned flows 0 assets learned → AreDrafted flows widened assets learned
+pub learned_drafts : (flows : List FlowValue) (widened : ℕ) (assets learned : List Asset) → AreLearned flows assets assets learned → AreDrafted flows widened assets learned
 learned_drafts flows widened assets learned are = record {
-  count = as_many flows 0 assets learned are;
-  each = λ place asset own a l. learned_is asset place flows widened own (subst (λ k. IsLearnedAsset asset k flows own) (none_and place) (each_learned flows 0 assets learned are place asset own a l));
+  count = as_many flows assets assets learned are;
+  each = λ place asset own a l. learned_is asset (site_place assets asset) flows widened own (each_learned flows assets assets learned are place asset own a l);
 }
 
 -- what was seen up to a place is allowed, and what stands there too
@@ -83,7 +75,8 @@ all_allowed seen drafted each s here =
 
 -- what was tested of the assets at a place is so of those that stand there
 pub drafted_here : (flows : List FlowValue) (widened : ℕ) (assets drafted : List Asset) (place : ℕ) (d e : Asset) → d ≡ get_or assets place d → e ≡ get_or drafted place e →
-    IsDraftedAsset d place flows widened e → (asset own : Asset) → slice_get assets place ≡ Some asset → slice_get drafted place ≡ Some own → IsDraftedAsset asset place flows widened own
+    IsDraftedAsset d (site_place assets d) flows widened e → (asset own : Asset) → slice_get assets place ≡ Some asset → slice_get drafted place ≡ Some own →
+    IsDraftedAsset asset (site_place assets asset) flows widened own
 drafted_here flows widened assets drafted place d e here there is asset own a o =
-    subst (λ x. IsDraftedAsset x place flows widened own) (here ∙ get_or_from_slice_get assets place asset d a)
-    (subst (λ y. IsDraftedAsset d place flows widened y) (there ∙ get_or_from_slice_get drafted place own e o) is)
+    subst (λ x. IsDraftedAsset x (site_place assets x) flows widened own) (here ∙ get_or_from_slice_get assets place asset d a)
+    (subst (λ y. IsDraftedAsset d (site_place assets d) flows widened y) (there ∙ get_or_from_slice_get drafted place own e o) is)

@@ -5,7 +5,7 @@ use Rattle.cf_policy.specs.declared.Protocol.{Protocol}
 use Rattle.cf_review.specs.FirstUnit.{IsReadPart}
 use Rattle.cf_watch.specs.FlowValue.{FlowValue, StretchValue}
 
--- the second is a flow of the client to the asset of the first, with the bytes of the part of the first that is read
+-- the second is a flow of the client to the site of the first, with the bytes of the part of the first that is read
 pub record IsReadAs (protocol : Protocol) (flow read : FlowValue) : Type 0 where
   pub part : FlowValue
   pub is_part : IsReadPart protocol flow part
@@ -13,7 +13,7 @@ pub record IsReadAs (protocol : Protocol) (flow read : FlowValue) : Type 0 where
   pub client : read.client ≡ flow.client
   pub bytes : read.bytes ≡ part.bytes
 
--- the same of a flow to the asset at its place
+-- the same of a flow to the site whose first asset stands at its place: the others have its protocol
 abbrev pub IsReadAsAt : Option Asset → (flow read : FlowValue) → Type 0
 IsReadAsAt None flow read = ⊥
 IsReadAsAt (Some asset) flow read = IsReadAs asset.protocol flow read

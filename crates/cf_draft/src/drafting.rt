@@ -9,7 +9,7 @@ ghost use Rattle.cf_draft.specs.Draft.{AreDrafted, IsDraftedAsset};
 use crate::parts::Parts;
 use crate::proposal::{Proposal, propose};
 use crate::shown::is_drafted;
-use cf_learn::{LearnFault, learn};
+use cf_learn::{LearnFault, learn, site_place};
 use cf_policy::{Asset, Policy};
 use cf_policylang::{PolicyFault, migrated_text, read_policy};
 use cf_view::NoMemory;
@@ -133,7 +133,8 @@ fn are_drafted(
     for place in 0..assets.len() {
         let asset = &assets[place];
         let own = &drafted[place];
-        let is_so = is_drafted(alloc, asset, place as u32, flows, widened, own)?;
+        let site = site_place(assets, asset);
+        let is_so = is_drafted(alloc, asset, site, flows, widened, own)?;
         if !is_so {
             return Ok(false);
         }

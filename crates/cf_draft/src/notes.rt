@@ -38,7 +38,7 @@ struct Command<'a> {
     octets: View<'a>,
 }
 
-/// The notes of the rules of the asset at a place.
+/// The notes of the rules of an asset of the site at a place.
 pub(crate) fn notes_of(
     alloc: Global,
     asset: &Asset,

@@ -1,11 +1,12 @@
 //! A draft that is proposed.
+ghost use Rattle.std.specs.Prelude.{◌<◌, ◌^◌, length};
 
 use crate::merging::{Width, plan_rules, writes};
 use crate::notes::notes_of;
 use crate::parts::Parts;
 use crate::spelling::{put_asset, put_head, put_rule};
 use crate::writer::Writer;
-use cf_learn::seen_in;
+use cf_learn::{seen_in, site_place};
 use cf_policy::{Asset, Policy};
 use std::alloc::{AllocError, Global};
 
@@ -22,13 +23,16 @@ pub(crate) fn propose(
     policy: &Policy,
     parts: &Parts,
     is_wide: bool,
-) -> Result<Proposal, AllocError> {
+) -> Result<Proposal, AllocError>
+    requires few { length policy.now.assets < 2 ^ 32 }
+{
     let assets = policy.assets.as_slice();
     let mut text = Writer::new(alloc);
     let mut widened: u64 = u64::from(is_wide);
     put_head(&mut text, !assets.is_empty(), is_wide);
-    for (place, asset) in assets.iter().enumerate() {
-        let width = propose_asset(alloc, asset, (place % 65_536) as u32, parts, &mut text)?;
+    for asset in assets {
+        let site = site_place(assets, asset);
+        let width = propose_asset(alloc, asset, site, parts, &mut text)?;
         if width != Width::Nothing {
             widened = widened.saturating_add(1);
         }
@@ -39,7 +43,7 @@ pub(crate) fn propose(
     })
 }
 
-/// Puts an asset with the rules that are proposed, those that write first, and of these the rare ones.
+/// Puts an asset of the site at a place with the rules that are proposed, those that write first, and of these the rare ones.
 fn propose_asset(
     alloc: Global,
     asset: &Asset,

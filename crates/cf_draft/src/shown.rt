@@ -16,7 +16,8 @@ use cf_view::{Act, NoMemory};
 use cf_watch::Flow;
 use std::alloc::Global;
 
-/// Whether an asset is that at a place with other rules, which allow each act that flows show of it, and no other if none was widened.
+/// Whether an asset is another with other rules, which allow each act that flows to the site at this place show of it, and no other if
+/// none was widened.
 /// Where rules that allow exactly these acts are too many, or too many to be compared with, the answer is no.
 pub(crate) fn is_drafted(
     alloc: Global,

@@ -6,10 +6,10 @@ use Rattle.std.proofs.Math.Bool.{or-false, or-true}
 use Rattle.std.proofs.lemmas.List.{append-nil, length-append, length-drop}
 use Rattle.cf_audit.specs.declared.line.CutReason.{CutReason}
 use Rattle.cf_lane.specs.Follows.{AddsTo, BeganApart, Follows, IsEndBehindCut, Rests, rest_of, with_rest}
-use Rattle.cf_lane.specs.Handled.{CountsBy, EndsOther, Grows, IsLaneOf, LaneValue, State, debt, state}
+use Rattle.cf_lane.specs.Handled.{CountsBy, EndsOther, Grows, IsLaneOf, LaneValue, State, debt, debt_limit, state}
 use Rattle.cf_lane.specs.History.{Element, bytes_at, bytes_of, end_at, ended_of, letters_at}
 use Rattle.cf_outq.specs.SendQueue.{Queue, after_end}
-use Rattle.cf_policy.specs.declared.Asset.{Asset}
+use Rattle.cf_policy.specs.Site.{SiteValue}
 use Rattle.cf_view.specs.declared.Side.{Side}
 use Rattle.cf_view.specs.declared.Side.TheVariants as side
 use Rattle.cf_driver.specs.Takes.{OnlyPushed, Takes}
@@ -52,9 +52,9 @@ goes_on : (m : ℕ) (t s : Side) (piece : List ℕ) (most before now : ℕ) (old
 goes_on m t s piece most before now old new g = ap (λ (q : Queue). q.ended) g.rest ∙ sym (ap (λ b. old.ended || b) (no_end m t s piece) ∙ or-false old.ended)
 
 -- after a cut no rest is of account
-any_rests : (asset : Asset) (past : RateMoments) (h : List Element) (r r' : Rests) (reason : CutReason) (first own old : Option (List (List ℕ))) (now : State) →
-    AddsTo asset past h r (Some reason) first own old now → AddsTo asset past h r' (Some reason) first own old now
-any_rests asset past h r r' reason first own old now a =
+any_rests : (site : SiteValue) (past : RateMoments) (h : List Element) (r r' : Rests) (reason : CutReason) (first own old : Option (List (List ℕ))) (now : State) →
+    AddsTo site past h r (Some reason) first own old now → AddsTo site past h r' (Some reason) first own old now
+any_rests site past h r r' reason first own old now a =
     let f = a.follows in
     record {
       more = a.more;
@@ -71,21 +71,21 @@ any_rests asset past h r r' reason first own old now a =
       };
     }
 
-module _ (asset : Asset) (moment : ℕ) (s : Side) (lane lane' : LaneValue) (c k c' k' : Queue) (log log' : Option (List (List ℕ))) where
+module _ (site : SiteValue) (moment : ℕ) (s : Side) (lane lane' : LaneValue) (c k c' k' : Queue) (log log' : Option (List (List ℕ))) where
   -- a piece was fed behind the rest
   module _ (piece rest view : List ℕ) (used : ℕ) (cut : Option CutReason) (is : view ≡ rest ++ piece) (inside : used ≤ length view)
       (fed : (past : RateMoments) (h : List Element) (rests : Rests) (first own : Option (List (List ℕ))) (more : List ℕ) (ended : Bool) → IsEndBehindCut ended cut → view ≡ rest_of s rests ++ more →
-      Follows asset past h rests None first (state lane c k own) → AddsTo asset past (h ++ letters_at moment s more ended ∷ []) (with_rest s rests (drop used view)) cut first own log (state lane' c' k' log'))
-      (of_asset : IsLaneOf asset lane') (owed : debt lane' ≤ 5300) (client : lane'.client ≡ lane.client)
+      Follows site past h rests None first (state lane c k own) → AddsTo site past (h ++ letters_at moment s more ended ∷ []) (with_rest s rests (drop used view)) cut first own log (state lane' c' k' log'))
+      (of_site : IsLaneOf site lane') (owed : debt lane' ≤ debt_limit site) (client : lane'.client ≡ lane.client)
       (cs : Grows (2 * used) (debt lane) (debt lane') c c') (ks : Grows (2 * used) (debt lane) (debt lane') k k') (counts : CountsBy used lane lane') where
     fed_with : (rest' : List ℕ) (why : Option CutReason) →
-        ((past : RateMoments) (h : List Element) (rests : Rests) (first own : Option (List (List ℕ))) → rest ≡ rest_of s rests → Follows asset past h rests None first (state lane c k own) →
-        AddsTo asset past (h ++ bytes_at moment s piece ∷ []) (with_rest s rests rest') why first own log (state lane' c' k' log')) →
-        length rest' < 300 → length rest' + used ≤ length view → Takes asset s (bytes_at moment s piece ∷ []) why rest rest' (state lane c k log) (state lane' c' k' log')
+        ((past : RateMoments) (h : List Element) (rests : Rests) (first own : Option (List (List ℕ))) → rest ≡ rest_of s rests → Follows site past h rests None first (state lane c k own) →
+        AddsTo site past (h ++ bytes_at moment s piece ∷ []) (with_rest s rests rest') why first own log (state lane' c' k' log')) →
+        length rest' < 300 → length rest' + used ≤ length view → Takes site s (bytes_at moment s piece ∷ []) why rest rest' (state lane c k log) (state lane' c' k' log')
     fed_with rest' why follows short left = record {
       follows = follows;
       short = short;
-      of_asset = of_asset;
+      of_site = of_site;
       debt = owed;
       client = client;
       to_client = only_pushed _ _ _ c c' cs;
@@ -96,20 +96,20 @@ module _ (asset : Asset) (moment : ℕ) (s : Side) (lane lane' : LaneValue) (c k
     }
 
     pub takes_piece : (rest' : List ℕ) → cut ≡ None → length rest' < 300 → rest' ≡ drop used view →
-        Takes asset s (bytes_at moment s piece ∷ []) None rest rest' (state lane c k log) (state lane' c' k' log')
+        Takes site s (bytes_at moment s piece ∷ []) None rest rest' (state lane c k log) (state lane' c' k' log')
     takes_piece rest' none short left =
         fed_with rest' None
-        (λ past h rests first own same f. subst (λ r. AddsTo asset past (h ++ bytes_at moment s piece ∷ []) (with_rest s rests r) None first own log (state lane' c' k' log')) (sym left)
-        (subst (λ w. AddsTo asset past (h ++ bytes_at moment s piece ∷ []) (with_rest s rests (drop used view)) w first own log (state lane' c' k' log')) none
+        (λ past h rests first own same f. subst (λ r. AddsTo site past (h ++ bytes_at moment s piece ∷ []) (with_rest s rests r) None first own log (state lane' c' k' log')) (sym left)
+        (subst (λ w. AddsTo site past (h ++ bytes_at moment s piece ∷ []) (with_rest s rests (drop used view)) w first own log (state lane' c' k' log')) none
         (fed past h rests first own piece false tt (is ∙ ap (λ xs. xs ++ piece) same) f)))
         short (omega (arith, inside, ap length left, length-drop used view))
 
     pub takes_cut : (rest' : List ℕ) (reason : CutReason) → cut ≡ Some reason → rest' ≡ [] →
-        Takes asset s (bytes_at moment s piece ∷ []) (Some reason) rest rest' (state lane c k log) (state lane' c' k' log')
+        Takes site s (bytes_at moment s piece ∷ []) (Some reason) rest rest' (state lane c k log) (state lane' c' k' log')
     takes_cut rest' reason why none =
         fed_with rest' (Some reason)
-        (λ past h rests first own same f. any_rests asset past _ (with_rest s rests (drop used view)) (with_rest s rests rest') reason first own log _
-        (subst (λ w. AddsTo asset past (h ++ bytes_at moment s piece ∷ []) (with_rest s rests (drop used view)) w first own log (state lane' c' k' log')) why
+        (λ past h rests first own same f. any_rests site past _ (with_rest s rests (drop used view)) (with_rest s rests rest') reason first own log _
+        (subst (λ w. AddsTo site past (h ++ bytes_at moment s piece ∷ []) (with_rest s rests (drop used view)) w first own log (state lane' c' k' log')) why
         (fed past h rests first own piece false tt (is ∙ ap (λ xs. xs ++ piece) same) f)))
         (omega (arith, ap length none)) (omega (arith, inside, ap length none))
 
@@ -129,17 +129,17 @@ module _ (asset : Asset) (moment : ℕ) (s : Side) (lane lane' : LaneValue) (c k
 
   pub takes_end : (rest : List ℕ) (size : ℕ) → size ≡ length rest →
       ((past : RateMoments) (h : List Element) (rests : Rests) (first own : Option (List (List ℕ))) → size ≡ length (rest_of s rests) →
-      Follows asset past h rests None first (state lane c k own) → AddsTo asset past (h ++ end_at moment s ∷ []) rests None first own log (state lane' c' k' log')) →
-      length rest < 300 → IsLaneOf asset lane → debt lane ≤ 5300 → lane' ≡ lane → EndsOther s c k c' k' →
-      Takes asset s (end_at moment s ∷ []) None rest rest (state lane c k log) (state lane' c' k' log')
-  takes_end rest size e ends short of_asset owed same queues =
+      Follows site past h rests None first (state lane c k own) → AddsTo site past (h ++ end_at moment s ∷ []) rests None first own log (state lane' c' k' log')) →
+      length rest < 300 → IsLaneOf site lane → debt lane ≤ debt_limit site → lane' ≡ lane → EndsOther s c k c' k' →
+      Takes site s (end_at moment s ∷ []) None rest rest (state lane c k log) (state lane' c' k' log')
+  takes_end rest size e ends short of_site owed same queues =
       let pushed = ends_pushed s queues in
       record {
-        follows = λ past h rests first own is f. subst (λ r. AddsTo asset past (h ++ end_at moment s ∷ []) r None first own log (state lane' c' k' log')) (sym (ap (with_rest s rests) is ∙ same_rest s rests))
+        follows = λ past h rests first own is f. subst (λ r. AddsTo site past (h ++ end_at moment s ∷ []) r None first own log (state lane' c' k' log')) (sym (ap (with_rest s rests) is ∙ same_rest s rests))
             (ends past h rests first own (e ∙ ap length is) f);
         short = short;
-        of_asset = subst (IsLaneOf asset) (sym same) of_asset;
-        debt = subst (λ (l : LaneValue). debt l ≤ 5300) (sym same) owed;
+        of_site = subst (IsLaneOf site) (sym same) of_site;
+        debt = subst (λ (l : LaneValue). debt l ≤ debt_limit site) (sym same) owed;
         client = ap (λ (l : LaneValue). l.client) same;
         to_client = pushed.0;
         to_controller = pushed.1;
@@ -150,7 +150,7 @@ module _ (asset : Asset) (moment : ℕ) (s : Side) (lane lane' : LaneValue) (c k
 
   pub misses_end : (rest : List ℕ) (size : ℕ) (lines : Option (List (List ℕ))) (part : List ℕ) → size ≡ length rest →
       ((past : RateMoments) (h : List Element) (rests : Rests) (first own : Option (List (List ℕ))) → size ≡ length (rest_of s rests) →
-      Follows asset past h rests None first (state lane c k own) → BeganApart asset past lane.client (h ++ end_at moment s ∷ []) first own log lines part) →
-      (past : RateMoments) (h : List Element) (rests : Rests) (first own : Option (List (List ℕ))) → rest ≡ rest_of s rests → Follows asset past h rests None first (state lane c k own) →
-      BeganApart asset past lane.client (h ++ end_at moment s ∷ []) first own log lines part
+      Follows site past h rests None first (state lane c k own) → BeganApart site past lane.client (h ++ end_at moment s ∷ []) first own log lines part) →
+      (past : RateMoments) (h : List Element) (rests : Rests) (first own : Option (List (List ℕ))) → rest ≡ rest_of s rests → Follows site past h rests None first (state lane c k own) →
+      BeganApart site past lane.client (h ++ end_at moment s ∷ []) first own log lines part
   misses_end rest size lines part e fails past h rests first own is f = fails past h rests first own (e ∙ ap length is) f

@@ -6,14 +6,14 @@ ghost use Rattle.cf_lane.specs.Handled.{EndsOther, HasRoom, IsLaneOf, IsOpen, Ma
 ghost use Rattle.cf_lane.specs.History.{bytes_at, end_at};
 ghost use Rattle.cf_outside.specs.Desk.{DeskValue};
 ghost use Rattle.cf_outside.specs.Faults.{HasCause};
-ghost use Rattle.cf_policy.specs.Within.{IsAssetWithin};
+ghost use Rattle.cf_policy.specs.Site.{IsSiteWithin};
 
 use arrayvec::ArrayVec;
 use cf_audit::CutReason;
 use cf_lane::Lane;
 use cf_outq::Outq;
 use cf_outside::Desk;
-use cf_policy::Asset;
+use cf_policy::Site;
 use cf_view::{Side, View, WriteFault};
 
 /// The most bytes of a side that are kept because they are no whole unit yet. A lane leaves fewer.
@@ -46,7 +46,7 @@ impl Heard {
     /// cut is the caller's to write.
     pub fn feed<D: Desk>(
         &mut self,
-        asset: &Asset,
+        site: &Site<'_>,
         moment: u64,
         side: Side,
         piece: &[u8],
@@ -55,19 +55,19 @@ impl Heard {
         to_controller: &mut Outq,
         desk: &mut D,
     ) -> Result<Option<CutReason>, WriteFault>
-        requires of_asset { IsLaneOf asset.now lane.old }
-        requires within { IsAssetWithin asset.now }
+        requires of_site { IsLaneOf site.now lane.old }
+        requires within { IsSiteWithin site.now }
         requires whole { DeskValue.whole (D.value desk.old) ≡ true }
         requires open { IsOpen side to_client.old to_controller.old }
         requires client_room { HasRoom (debt lane.old + 2 * length (self.old.rest.items ++ piece.now)) to_client.old }
         requires controller_room { HasRoom (debt lane.old + 2 * length (self.old.rest.items ++ piece.now)) to_controller.old }
         requires counts { lane.old.admitted + lane.old.refused + length (self.old.rest.items ++ piece.now) < 2 ^ 64 }
         requires letters { self.old.letters + length piece.now < 2 ^ 64 }
-        ensures takes { IfOk result (λ cut. Takes asset.now side (bytes_at moment side piece.now ∷ []) cut
+        ensures takes { IfOk result (λ cut. Takes site.now side (bytes_at moment side piece.now ∷ []) cut
             self.old.rest.items self.new.rest.items
             (state lane.old to_client.old to_controller.old (DeskValue.lines (D.value desk.old)))
             (state lane.new to_client.new to_controller.new (DeskValue.lines (D.value desk.new)))) }
-        ensures misses { OnErr result (MissesPiece asset.now moment side piece.now self.old.rest.items
+        ensures misses { OnErr result (MissesPiece site.now moment side piece.now self.old.rest.items
             (state lane.old to_client.old to_controller.old (DeskValue.lines (D.value desk.old)))
             (DeskValue.lines (D.value desk.new)) (DeskValue.line_part (D.value desk.new))) }
         ensures cut { IfOk result (λ cut. IfSome cut (λ _. self.new.rest.items ≡ [])) }
@@ -79,7 +79,7 @@ impl Heard {
     {
         self.letters += piece.len() as u64;
         let bytes = View::two(self.rest.as_slice(), piece);
-        let fed = lane.feed(asset, moment, side, bytes, to_client, to_controller, desk)?;
+        let fed = lane.feed(site, moment, side, bytes, to_client, to_controller, desk)?;
         match fed.cut {
             None => {
                 keep_rest(&mut self.rest, piece, fed.used);
@@ -95,7 +95,7 @@ impl Heard {
     /// Ends the side at the lane, at a moment in microseconds. What is left of it gets its line, and stays.
     pub fn end<D: Desk>(
         &mut self,
-        asset: &Asset,
+        site: &Site<'_>,
         moment: u64,
         side: Side,
         lane: &mut Lane,
@@ -103,18 +103,18 @@ impl Heard {
         to_controller: &mut Outq,
         desk: &mut D,
     ) -> Result<(), WriteFault>
-        requires of_asset { IsLaneOf asset.now lane.old }
-        requires within { IsAssetWithin asset.now }
+        requires of_site { IsLaneOf site.now lane.old }
+        requires within { IsSiteWithin site.now }
         requires whole { DeskValue.whole (D.value desk.old) ≡ true }
         requires open { IsOpen side to_client.old to_controller.old }
         requires limit { MayEnd side to_client.old to_controller.old }
-        requires debt { debt lane.old ≤ debt_limit }
+        requires debt { debt lane.old ≤ debt_limit site.now }
         requires little { length self.old.rest.items < rest_limit }
         requires letters { self.old.letters + 1 < 2 ^ 64 }
-        ensures takes { OnOk result (Takes asset.now side (end_at moment side ∷ []) None self.old.rest.items self.new.rest.items
+        ensures takes { OnOk result (Takes site.now side (end_at moment side ∷ []) None self.old.rest.items self.new.rest.items
             (state lane.old to_client.old to_controller.old (DeskValue.lines (D.value desk.old)))
             (state lane.new to_client.new to_controller.new (DeskValue.lines (D.value desk.new)))) }
-        ensures misses { OnErr result (MissesEnd asset.now moment side self.old.rest.items
+        ensures misses { OnErr result (MissesEnd site.now moment side self.old.rest.items
             (state lane.old to_client.old to_controller.old (DeskValue.lines (D.value desk.old)))
             (DeskValue.lines (D.value desk.new)) (DeskValue.line_part (D.value desk.new))) }
         ensures letters { self.new.letters ≡ self.old.letters + 1 }
@@ -127,7 +127,7 @@ impl Heard {
     {
         self.letters += 1;
         let rest = self.rest.len() as u64;
-        lane.ended(asset, moment, side, rest, to_client, to_controller, desk)?;
+        lane.ended(site, moment, side, rest, to_client, to_controller, desk)?;
         Ok(())
     }
 }

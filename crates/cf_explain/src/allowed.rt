@@ -10,7 +10,7 @@ pub(crate) fn allowed(key: Key, scope: &Scope, table: &Table) -> &'static str {
     match key {
         Key::Nothing => "keys are in docs/POLICY.md",
         Key::Version =>
-            "write version = 1 above the first table, version = 2 where rules name sets of points, or version = 3 where rules have a log or names of codes and groups",
+            "write version = 1 above the first table, version = 2 where rules name sets of points, or version = 3 where rules have a log or names of codes and groups, or assets one address and port",
         Key::Set => "each set of points is a table [[set]] with a name and points, at most 64",
         Key::Asset =>
             "each controller is a table [[asset]], at most 256; a policy of none has asset = []",
@@ -47,14 +47,23 @@ pub(crate) fn allowed(key: Key, scope: &Scope, table: &Table) -> &'static str {
     }
 }
 
-/// What has to differ at a key.
-pub(crate) fn apart(key: Key, level: Level) -> &'static str {
+/// What has to differ at a key, or to be the same.
+pub(crate) fn apart(key: Key, level: Level, scope: &Scope) -> &'static str {
     match (key, level) {
-        (Key::Port, _) => "no two assets have the same address and port",
+        (Key::Port | Key::Protocol | Key::Station, _) => at_endpoint(scope),
         (_, Level::Set) => "no two sets have the same name",
         (_, Level::Rule) =>
             "no two rules of an asset have the same name, and none has the name default, station or form",
         _ => "no two assets have the same name",
+    }
+}
+
+/// What assets with one address and port have to keep.
+fn at_endpoint(scope: &Scope) -> &'static str {
+    if scope.shares_endpoints {
+        "assets with the same address and port stand one behind the other, with one protocol and stations that differ"
+    } else {
+        "no two assets have the same address and port; in version 3 those of a gateway may, each with a station of its own"
     }
 }
 

@@ -37,7 +37,7 @@ pub use difference::{PolicyFile, asset_named, inclusion_message};
 pub use differences::differences_text;
 pub use found::{What, findings, sound_rules_have_reads};
 pub use kept::kept_text;
-pub use outputs::{asset_message, outputs_message, own_endpoint_message};
+pub use outputs::{asset_message, outputs_message, own_endpoint_message, same_site_message};
 pub use policy::policy_message;
 pub use unmet::{Unmet, why_unmet};
 pub use warnings::policy_warnings;

@@ -16,6 +16,8 @@ pub(crate) struct Scope {
     pub(crate) names_sets: bool,
     /// Whether codes and groups may be names: in version 3.
     pub(crate) names_codes: bool,
+    /// Whether assets may have one address and port: in version 3.
+    pub(crate) shares_endpoints: bool,
     /// The protocol of the asset, where there is one.
     pub(crate) protocol: Option<Protocol>,
 }
@@ -30,6 +32,7 @@ impl Scope {
         Scope {
             names_sets: asset != 0 && (version == 2 || version == 3),
             names_codes: version == 3,
+            shares_endpoints: version == 3,
             protocol: protocol_at(document, asset),
         }
     }

@@ -60,6 +60,22 @@ pub fn own_endpoint_message(
     out.finish()
 }
 
+/// That the places of these words are for one controller, which has one place for all its assets.
+pub fn same_site_message(
+    alloc: Global,
+    file: &str,
+    place: &str,
+    other: &str,
+) -> Result<String, AllocError> {
+    let mut out = Page::new(alloc);
+    out.push_all(&[file, ": the places "]);
+    push_quoted(&mut out, place);
+    out.push(" and ");
+    push_quoted(&mut out, other);
+    out.push(" are for assets of one address and port: one place serves all of them");
+    out.finish()
+}
+
 /// Asks whether the first asset of a name near to this one was meant, if there is one.
 fn push_meant_asset(out: &mut Page, assets: &[Asset], name: &str) {
     for asset in assets {

@@ -161,7 +161,10 @@ fn push_case(out: &mut Page, text: &[u8], refusal: &PolicyRefusal, case: &Case<'
 fn allowed_at(case: &Case<'_>) -> &'static str {
     match case.cause {
         Cause::UnknownKey => Level::of(case.asset, case.rule).allowed(),
-        Cause::Duplicate => apart(case.key, Level::of(case.asset, case.rule)),
+        Cause::Duplicate => { apart(case.key, Level::of(case.asset, case.rule), &scope_of(case)) }
+        Cause::TooMany if case.key == Key::Protocol => {
+            "at most 32 assets have the same address and port, and of DNP3 at most 8"
+        }
         Cause::UnknownSet =>
             "a set of points is a table [[set]] with a name and points, and a rule names it as points = [\"@low\"]",
         _ => allowed(case.key, &scope_of(case), case.table),

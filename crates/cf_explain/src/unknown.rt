@@ -117,7 +117,9 @@ pub(crate) fn push_unknown(out: &mut Page, level: Level, key: &str) {
 /// Where a key belongs that another level has.
 fn other_level(level: Level, key: &str) -> Option<&'static str> {
     if matches!(level, Level::Asset) && key == "stations" {
-        return Some(": it has one, as station = 1");
+        return Some(
+            ": it has one, as station = 1; in version 3 several assets may have one address and port",
+        );
     }
     if !matches!(level, Level::Rule) && key != "name" && has_word(RULE_KEYS, key) {
         return Some(": it stands in a rule, below [[asset.rule]]");

@@ -12,6 +12,7 @@ use crate::unmet::{Unmet, reaches_place};
 use cf_acts::{Groups, Kind, kinds};
 use cf_covered::{Cover, Slip};
 use cf_policy::{Action, Asset, Policy, Protocol, Rule, Span};
+use cf_view::same_endpoint;
 use std::alloc::{AllocError, Global};
 use toml::{Table, Value};
 
@@ -99,26 +100,46 @@ fn push_stated(report: &mut Report, source: &Source<'_>) -> bool {
 /// The warnings about assets without a rule that allows.
 fn push_strict(report: &mut Report, source: &Source<'_>, policy: &Policy) {
     for (index, asset) in policy.assets.as_slice().iter().enumerate() {
-        if !asset.rules.as_slice().iter().any(is_allowing) {
-            push_strict_asset(report, source, (index as u64).saturating_add(1), asset);
+        if !allows_something(asset) {
+            let so = what_follows(policy, asset);
+            push_strict_asset(report, source, (index as u64).saturating_add(1), asset, so);
         }
     }
+}
+
+fn allows_something(asset: &Asset) -> bool {
+    asset.rules.as_slice().iter().any(is_allowing)
+}
+
+/// What follows where no rule of an asset allows anything: a client that a rule of another asset of its address and port names is taken.
+fn what_follows(policy: &Policy, asset: &Asset) -> &'static str {
+    for other in policy.assets.as_slice() {
+        if same_endpoint(&other.endpoint, &asset.endpoint) && allows_something(other) {
+            return "\n";
+        }
+    }
+    ", and serve closes each client as it comes\n"
 }
 
 fn is_allowing(rule: &Rule) -> bool {
     rule.action == Action::Allow
 }
 
-/// The warning about an asset, by its number from 1, that no rule allows anything.
-fn push_strict_asset(report: &mut Report, source: &Source<'_>, number: u64, asset: &Asset) {
+/// The warning about an asset, by its number from 1, that no rule allows anything, and what follows.
+fn push_strict_asset(
+    report: &mut Report,
+    source: &Source<'_>,
+    number: u64,
+    asset: &Asset,
+    so: &str,
+) {
     if report.count < MOST {
         let out = &mut report.lines;
         out.push(source.file);
         push_rule_place(out, source.text, number, 0);
         push_titled(out, ": warning: asset ", number, asset.name.as_str());
-        out.push(
-            " has no rule that allows: each command is refused, and serve closes each client as it comes\n",
-        );
+        out.push(" has no rule that allows: each command is refused");
+        out.push(so);
     }
     report.count = report.count.saturating_add(1);
 }

@@ -8,7 +8,7 @@ use crate::place::table_at;
 use crate::quote::{push_quoted, push_value};
 use crate::sets::{name_of, sets_of};
 use crate::unknown::{Level, push_unknown};
-use cf_policy::MOST_SPANS;
+use cf_policy::{MOST_SPANS, Protocol};
 use cf_policylang::{Cause, Key, PolicyRefusal};
 use toml::{Table, Value};
 
@@ -65,7 +65,7 @@ fn push_wrong_value(out: &mut Page, case: &Case<'_>, value: &Value) {
         Cause::WrongKind => push_wrong_kind(out, case.key, &scope_of(case), value),
         Cause::BadAddress | Cause::BadRange => push_bad(out, case, value),
         Cause::Duplicate => push_duplicate(out, case, value),
-        Cause::TooMany => push_too_many(out, case.name, value),
+        Cause::TooMany => push_too_many(out, case, value),
         Cause::UnknownSet => push_unknown_set(out, case, value),
         _ => push_keyed(out, case.name, value),
     }
@@ -208,12 +208,17 @@ fn known_texts(key: Key) -> &'static str {
     }
 }
 
-/// A name or an address with its port that an earlier set, asset or rule has, or a name that no rule may have.
+/// What an earlier set, asset or rule has and this one may not have, or a name that no rule may have.
 fn push_duplicate(out: &mut Page, case: &Case<'_>, value: &Value) {
-    if case.key == Key::Port {
-        push_same_endpoint(out, case);
-        return;
+    match case.key {
+        Key::Port | Key::Protocol => push_same_endpoint(out, case, &["address", "port"]),
+        Key::Station => push_same_endpoint(out, case, &["address", "port", "station"]),
+        _ => push_same_name(out, case, value),
     }
+}
+
+/// A name that an earlier set, asset or rule has, or that no rule may have.
+fn push_same_name(out: &mut Page, case: &Case<'_>, value: &Value) {
     push_keyed(out, "name", value);
     match earlier_same(case, &["name"]) {
         Some(number) => push_holder(out, Level::of(case.asset, case.rule), number),
@@ -272,20 +277,42 @@ fn are_same(table: &Table, other: Option<&Table>, keys: &[&str]) -> bool {
     true
 }
 
-fn push_same_endpoint(out: &mut Page, case: &Case<'_>) {
-    match earlier_same(case, &["address", "port"]) {
+/// The first asset that has the same values at these keys, and why this one may not have them too.
+fn push_same_endpoint(out: &mut Page, case: &Case<'_>, keys: &[&str]) {
+    match earlier_same(case, keys) {
         Some(number) => out.push_number_after("asset ", u64::from(number)),
         None => out.push("an earlier asset"),
     }
-    out.push(" has the same address and port");
+    out.push(match case.key {
+        Key::Protocol => " has the same address and port, and another protocol",
+        Key::Station => " has the same address, port and station",
+        _ => " has the same address and port",
+    });
+    if case.key == Key::Port && scope_of(case).shares_endpoints {
+        out.push(", and another one stands between");
+    }
 }
 
-/// A list of more entries than it may have.
-fn push_too_many(out: &mut Page, name: &str, value: &Value) {
-    if name == "most" {
-        out.push("16 rules of this asset before it have a rate");
-        return;
+/// A list of more entries than it may have, or more rules or assets of a kind.
+fn push_too_many(out: &mut Page, case: &Case<'_>, value: &Value) {
+    let name = case.name;
+    match name {
+        "most" => out.push("16 rules of this asset before it have a rate"),
+        "protocol" => push_full_site(out, case),
+        _ => push_long_list(out, name, value),
     }
+}
+
+/// As many assets of one address and port as may be.
+fn push_full_site(out: &mut Page, case: &Case<'_>) {
+    out.push(match scope_of(case).protocol {
+        Some(Protocol::Dnp3) => "8 assets of DNP3",
+        _ => "32 assets",
+    });
+    out.push(" before it have the same address and port");
+}
+
+fn push_long_list(out: &mut Page, name: &str, value: &Value) {
     let count = entries_of(value).len();
     out.push_all(&["`", name]);
     out.push_number_after("` has ", count as u64);

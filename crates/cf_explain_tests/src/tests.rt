@@ -123,6 +123,7 @@ fn policies_mean_what_they_say(rt: HostRuntime) -> Result<(), Fail> {
         policies::ORDER,
         policies::LIMITS,
         policies::SETS,
+        policies::SITES,
     ] {
         play_lines(&rt, alloc, Subject::Meaning, rows)?;
     }

@@ -40,9 +40,9 @@ usage:
       writes a first policy with the assets of POLICY, in few rules, that allows all that
       clients sent them in 1 to 64 captures; read it before use
   cmdwall migrate POLICY OUT
-      writes a policy as a document of version 2, or of version 3 where a rule has a log, in
-      which lists of points that several rules have stand once, as sets: OUT means exactly
-      what POLICY means
+      writes a policy as a document of version 2, or of version 3 where that alone can state
+      it, in which lists of points that several rules have stand once, as sets: OUT means
+      exactly what POLICY means
   cmdwall packets CAPTURE
       prints a line for each record of a capture: the fields of its TCP segment over IPv4,
       or why it has none
@@ -93,7 +93,8 @@ cmdwall sift POLICY ASSET CLIENT STREAM OUT REPLIES LOG
 filters a stored stream of one client
 
   POLICY   a text in the policy language (docs/POLICY.md)
-  ASSET    the name of the asset in it to which the stream goes
+  ASSET    the name of the asset in it to which the stream goes; of several behind one address
+           and port any of their names, and each command is for the one of its station
   CLIENT   the client's IPv4 address, as the rules' clients name it
   STREAM   the bytes that the client sends
   OUT      is created, and gets what the controller would get: the commands that the policy
@@ -200,8 +201,8 @@ example:
 const MIGRATE: &str = "\
 cmdwall migrate POLICY OUT
 
-writes a policy as a document of version 2, or of version 3 where a rule has a log, that means
-exactly the same
+writes a policy as a document of version 2, or of version 3 where a rule has a log or several
+assets have one address and port, that means exactly the same
 
   POLICY   a text in the policy language (docs/POLICY.md), of any version
   OUT      is created behind all else, and gets the document: each list of points that two
@@ -224,10 +225,11 @@ any box, or a recording of a line without one
   POLICY   a text in the policy language (docs/POLICY.md)
   CAPTURE  a pcap or pcapng file, of Ethernet or raw IP, of at most 67,108,864 bytes
 
-A flow is what one client sends to one asset, from a SYN in the capture on; packets before it
-are not used. Standard output has 'yes', with the numbers of flows and of commands that POLICY
-allows, with status 0; or, with status 15, 'no' and the first objection: the number of its
-record, the client, the asset, and one of
+A flow is what one client sends to the address and port of an asset, from a SYN in the capture
+on; packets before it are not used. Where several assets have them, each command is judged by
+the one of its station. Standard output has 'yes', with the numbers of flows and of commands
+that POLICY allows, with status 0; or, with status 15, 'no' and the first objection: the number
+of its record, the client, the asset, and one of
 
   conflict POSITION     two packets carry different bytes at one position of the flow
   broken WHY            the bytes are no units of the protocol
@@ -252,8 +254,9 @@ writes all that POLICY objects to in what clients sent to its assets in a record
            which they were recorded: a flow goes on from one to the next
   LOG      is created behind all else, and gets the lines, in the order of the records
 
-All names differ. A flow is what one client sends to one asset, from a SYN on, or from its
-first data in the captures on; VLAN tags are passed over, and a TCP sum of the pseudo header
+All names differ. A flow is what one client sends to the address and port of an asset, from a
+SYN on, or from its first data in the captures on; where several assets have them, each command
+is judged by the one of its station. VLAN tags are passed over, and a TCP sum of the pseudo header
 alone, as a sending host records it, counts as right. Each line has the moment of the record
 with which the thing was whole, the client, the asset, and one of
 
@@ -326,7 +329,8 @@ stands between a client and the controller of an asset: one client, which comes 
 127.0.0.1, and one connection to the asset's address and port (docs/SERVE.md)
 
   POLICY   a text in the policy language (docs/POLICY.md)
-  ASSET    the name of the asset in it
+  ASSET    the name of the asset in it; of several behind one address and port any of their
+           names, and each command is for the one of its station
   PORT     the port at which the client is awaited, 1 to 65535
   IDLES    how many turns in which nothing moves end the relay, 1 to 1000000. Such a turn lasts
            5 milliseconds, so 12000 are a minute; it takes twice as many once one side has
@@ -355,11 +359,11 @@ controller of the asset, as in relay (docs/SERVE.md)
   NAME=A.B.C.D:PORT
            an asset of the policy, and an address and a port of this machine at which its
            clients come; 0.0.0.0 is every address. One to 256 such words, no asset and no place
-           twice
+           twice; of several assets behind one address and port one, whose place is that of all
 
-At most 256 sessions stand at a time, and 32 of one asset; further clients wait. A client that
-no rule of the asset allows anything is closed as it comes. A line that cannot be appended ends
-the service: no command goes out behind a line that could not be written. Standard error
+At most 256 sessions stand at a time, and 32 of one place; further clients are closed. A client
+that no rule of its assets allows anything is closed as it comes. A line that cannot be appended
+ends the service: no command goes out behind a line that could not be written. Standard error
 has where it listens, and what the system said of each connection that failed; a line that it
 does not take at once is dropped and counted, so that no session waits for it.
 

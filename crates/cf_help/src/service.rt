@@ -3,11 +3,12 @@
 use crate::help::version_text;
 use crate::say::say;
 use crate::why::{expect_policy, explain_fault, explain_policy, explain_words, policy_again};
-use cf_explain::{asset_message, own_endpoint_message};
+use cf_explain::{asset_message, own_endpoint_message, same_site_message};
 use cf_machine::{Announcement, RealFiles};
 use cf_outside::read_whole;
 use cf_policy::{Action, Asset, Policy};
 use cf_policylang::{LONGEST_TEXT, address};
+use cf_view::same_endpoint;
 use cf_words::printed_number_in;
 use cf_words::status::{NO_MEMORY, POLICY_REFUSED, READ_FAULT, UNKNOWN_ASSET, USAGE, WRITE_FAULT};
 use std::alloc::Global;
@@ -28,7 +29,7 @@ pub fn expect_service_files<R: FileSystem>(
     Ok(())
 }
 
-/// What is said of a service as it begins: the asset and the controller of each place, the program's version, and which assets of the
+/// What is said of a service as it begins: the assets and the controller of each place, the program's version, and which assets of the
 /// policy have none. A policy that can be read but once, as from a pipe, is left to the service: then the names of the assets alone are
 /// said.
 pub fn announce_service<R: FileSystem + AllocGlobal>(
@@ -63,7 +64,7 @@ fn policy_before<R: FileSystem + AllocGlobal>(
     policy_again(rt, name, files)
 }
 
-/// What each place is for.
+/// What each place is for: the assets behind one address and port, and these.
 fn announce_places(
     alloc: Global,
     policy: &Option<Policy>,
@@ -72,17 +73,36 @@ fn announce_places(
 ) -> io::Result<()> {
     for place in places {
         let name = asset_of(place.as_str());
-        let line = match asset_named(policy, name) {
-            Some(asset) => {
-                let address = Ipv4Addr::from_bits(asset.endpoint.address);
-                let port = asset.endpoint.port;
-                format!(in alloc; "{name}, whose controller is {address}:{port}")?
-            }
-            None => String::from_str(alloc, name)?,
-        };
-        out.push(line)?;
+        out.push(place_line(alloc, policy, name)?)?;
     }
     Ok(())
+}
+
+fn place_line(alloc: Global, policy: &Option<Policy>, name: &str) -> io::Result<String> {
+    let Some(policy) = policy else {
+        return Ok(String::from_str(alloc, name)?);
+    };
+    let Some(asset) = asset_named(policy, name) else {
+        return Ok(String::from_str(alloc, name)?);
+    };
+    let names = site_names(alloc, policy, asset)?;
+    let address = Ipv4Addr::from_bits(asset.endpoint.address);
+    let port = asset.endpoint.port;
+    Ok(format!(in alloc; "{names}, whose controller is {address}:{port}")?)
+}
+
+/// The names of all assets that have the endpoint of this one.
+fn site_names(alloc: Global, policy: &Policy, asset: &Asset) -> io::Result<String> {
+    let mut names = String::new(alloc);
+    let mut between = "";
+    for other in policy.assets.as_slice() {
+        if same_endpoint(&other.endpoint, &asset.endpoint) {
+            names.push_str(between)?;
+            names.push_str(other.name.as_str())?;
+            between = ", ";
+        }
+    }
+    Ok(names)
 }
 
 /// Which assets of the policy no place is for, and of which no rule allows anything.
@@ -98,17 +118,45 @@ fn announce_unserved(
     };
     for asset in policy.assets.as_slice() {
         let name = asset.name.as_str();
-        if !places.iter().any(|place| asset_of(place.as_str()) == name) {
+        if !has_place(policy, asset, places) {
             out.push(format!(in alloc;
                 "{file}: asset \"{name}\" has no place, and is not served"
             )?)?;
         } else if !allows_something(asset) {
+            let so = what_follows(policy, asset);
             out.push(format!(in alloc;
-                "{file}: asset \"{name}\" has no rule that allows, so each client is closed as it comes"
+                "{file}: asset \"{name}\" has no rule that allows, so {so}"
             )?)?;
         }
     }
     Ok(())
+}
+
+/// What follows where no rule of an asset allows anything: a client that a rule of another asset of its site names is taken.
+fn what_follows(policy: &Policy, asset: &Asset) -> &'static str {
+    let site_allows = policy.assets.as_slice().iter().any(|other| {
+        same_endpoint(&other.endpoint, &asset.endpoint) && allows_something(other)
+    });
+    if site_allows {
+        "each command to it is refused"
+    } else {
+        "each client is closed as it comes"
+    }
+}
+
+/// Whether one of the places is for the asset: it has the name of an asset of its endpoint.
+fn has_place(policy: &Policy, asset: &Asset, places: &[String]) -> bool {
+    places
+        .iter()
+        .any(|place| is_for(policy, place.as_str(), asset))
+}
+
+/// Whether a place is for the asset.
+fn is_for(policy: &Policy, place: &str, asset: &Asset) -> bool {
+    match asset_named(policy, asset_of(place)) {
+        Some(named) => same_endpoint(&named.endpoint, &asset.endpoint),
+        None => false,
+    }
 }
 
 fn allows_something(asset: &Asset) -> bool {
@@ -119,15 +167,12 @@ fn allows_something(asset: &Asset) -> bool {
         .any(|rule| rule.action == Action::Allow)
 }
 
-fn asset_named<'a>(policy: &'a Option<Policy>, name: &str) -> Option<&'a Asset> {
-    match policy {
-        Some(policy) => policy
-            .assets
-            .as_slice()
-            .iter()
-            .find(|asset| asset.name.as_str() == name),
-        None => None,
-    }
+fn asset_named<'a>(policy: &'a Policy, name: &str) -> Option<&'a Asset> {
+    policy
+        .assets
+        .as_slice()
+        .iter()
+        .find(|asset| asset.name.as_str() == name)
 }
 
 /// Says why a service ended with this status. What the links met was said as they met it.
@@ -150,7 +195,7 @@ pub fn explain_service<R: FileSystem + Eprint + AllocGlobal>(
     }
 }
 
-/// The first place that is an endpoint of the policy; where there is none the words themselves are wrong.
+/// The first place that is an endpoint of the policy, or the first two of one site; where there are none the words themselves are wrong.
 fn explain_unfit<R: FileSystem + Eprint + AllocGlobal>(
     rt: &R,
     words: &[String],
@@ -158,15 +203,39 @@ fn explain_unfit<R: FileSystem + Eprint + AllocGlobal>(
     places: &[String],
     files: &RealFiles<'_, R>,
 ) -> io::Result<()> {
-    if let Some(policy) = policy_again(rt, name, files) {
-        for place in places {
-            if let Some(asset) = asset_at(&policy, place.as_str()) {
-                let alloc = rt.alloc();
-                return say(rt, own_endpoint_message(alloc, name, asset, place.as_str()));
-            }
+    let Some(policy) = policy_again(rt, name, files) else {
+        return explain_words(rt, words);
+    };
+    for place in places {
+        if let Some(asset) = asset_at(&policy, place.as_str()) {
+            let alloc = rt.alloc();
+            return say(rt, own_endpoint_message(alloc, name, asset, place.as_str()));
         }
     }
-    explain_words(rt, words)
+    match same_site(&policy, places) {
+        Some((place, other)) => say(rt, same_site_message(rt.alloc(), name, place, other)),
+        None => explain_words(rt, words),
+    }
+}
+
+/// The first place of which another one has the site, and that one.
+fn same_site<'a>(policy: &Policy, places: &'a [String]) -> Option<(&'a str, &'a str)> {
+    for place in places {
+        if let Some(other) = other_of_site(policy, place.as_str(), places) {
+            return Some((place.as_str(), other));
+        }
+    }
+    None
+}
+
+/// The first place of another name that is for the assets of this one's controller.
+fn other_of_site<'a>(policy: &Policy, place: &str, places: &'a [String]) -> Option<&'a str> {
+    let name = asset_of(place);
+    let asset = asset_named(policy, name)?;
+    let other = places.iter().find(|other| {
+        asset_of(other.as_str()) != name && is_for(policy, other.as_str(), asset)
+    })?;
+    Some(other.as_str())
 }
 
 /// The asset whose controller is at a place.

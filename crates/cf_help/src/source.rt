@@ -4,4 +4,4 @@
 pub(crate) const DATE: &str = "2026-12-01";
 
 /// The first twelve digits of the sum of the source.
-pub(crate) const SOURCE: &str = "ca5288847eb2";
+pub(crate) const SOURCE: &str = "c0bc1b9952f7";

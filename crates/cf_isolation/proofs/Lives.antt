@@ -14,27 +14,27 @@ use Rattle.cf_isolation.proofs.Tables.{same_self}
 use Rattle.cf_isolation.proofs.Turns.{AtMostOne, first_turn, none_there, second_turn}
 
 pub record Holds {X : Type 0} (o : Output X) (flow : Flow) (q : X → Bool) (es : List RunEvent) : Type 0 where
-  pub content : filter q (o.all es) ≡ flat_map (λ s. o.own s.flow s.events) (filter (is_between (client_of flow) flow.asset.endpoint) (sessions_of es))
-  pub in_life : (s : Session) (before later : List Session) → filter (is_between (client_of flow) flow.asset.endpoint) (sessions_of es) ≡ before ++ s ∷ later →
+  pub content : filter q (o.all es) ≡ flat_map (λ s. o.own s.flow s.events) (filter (is_between (client_of flow) flow.site.first.endpoint) (sessions_of es))
+  pub in_life : (s : Session) (before later : List Session) → filter (is_between (client_of flow) flow.site.first.endpoint) (sessions_of es) ≡ before ++ s ∷ later →
       filter (λ x. q x && is_in_life (born_at s.events) later (o.at x)) (o.all es) ≡ o.own s.flow s.events
-  pub in_time : (has : HasSession flow es) → filter (λ x. q x && is_during (began_at has) (seen_until has) (o.at x)) (o.all es) ≡ o.over (client_of flow) flow.asset.endpoint has.first has.earlier has.later
+  pub in_time : (has : HasSession flow es) → filter (λ x. q x && is_during (began_at has) (seen_until has) (o.at x)) (o.all es) ≡ o.over (client_of flow) flow.site.first.endpoint has.first has.earlier has.later
   pub to_next : (has : HasSession flow es) (behind : NextEvent has) → filter (λ x. q x && is_during (began_at has) (tick_of behind.next.input) (o.at x)) (o.all es) ≡
-      o.over (client_of flow) flow.asset.endpoint has.first has.earlier has.later ++ first_theirs o (has.later ++ has.first ∷ has.earlier) behind.next (client_of flow) flow.asset.endpoint
+      o.over (client_of flow) flow.site.first.endpoint has.first has.earlier has.later ++ first_theirs o (has.later ++ has.first ∷ has.earlier) behind.next (client_of flow) flow.site.first.endpoint
 
 module _ {X : Type 0} (o : Output X) (law : SessionsAreRight) (assets : List Asset) (limit : ℕ) (flow : Flow) (q : X → Bool)
     (Right : List RunEvent → Type 0) (right_before : (e : RunEvent) (es : List RunEvent) → Right (e ∷ es) → Right es) (are_of : (es : List RunEvent) → Right es → AreRunEvents assets limit es)
-    (theirs : (e : RunEvent) (es : List RunEvent) → Right (e ∷ es) → Rises (e ∷ es) → AreTheirs o es e (client_of flow) flow.asset.endpoint q) where
+    (theirs : (e : RunEvent) (es : List RunEvent) → Right (e ∷ es) → Rises (e ∷ es) → AreTheirs o es e (client_of flow) flow.site.first.endpoint q) where
   abbrev client : Endpoint
   client = client_of flow
 
-  abbrev asset : Endpoint
-  asset = flow.asset.endpoint
+  abbrev site : Endpoint
+  site = flow.site.first.endpoint
 
   abbrev own_of : Session → List X
   own_of s = o.own s.flow s.events
 
   abbrev mine : List Session → List Session
-  mine ss = filter (is_between client asset) ss
+  mine ss = filter (is_between client site) ss
 
   -- ---- what passes of all that is put out
 
@@ -101,15 +101,15 @@ module _ {X : Type 0} (o : Output X) (law : SessionsAreRight) (assets : List Ass
 
   -- what passes of the event in which the session begins
   module _ (first : RunEvent) (earlier : List RunEvent) (begun : SessionEvent) (begins : first.received ≡ Begun flow begun) (h : Right (first ∷ earlier)) (r : Rises (first ∷ earlier)) where
-    second_whole : second_passing earlier first ≡ o.over client asset first earlier []
+    second_whole : second_passing earlier first ≡ o.over client site first earlier []
     second_whole =
         let table = found (table_after earlier) first in
-        let its : is_flow_of client asset flow ≡ true = let x = same_self client in let y = same_self asset in rw (x, y) refl in
+        let its : is_flow_of client site flow ≡ true = let x = same_self client in let y = same_self site in rw (x, y) refl in
         (theirs first earlier h r).second_is
-        ∙ ap (λ c. cond (goes_to_theirs client asset table c) (o.put table c) [] ++ cond (begins_theirs client asset c) (o.put table c) []) begins
-        ∙ ap (λ b. [] ++ cond b (o.put table (Begun flow begun)) []) its ∙ sym (ap (o.put table) begins) ∙ sym (o.over_none client asset first earlier)
+        ∙ ap (λ c. cond (goes_to_theirs client site table c) (o.put table c) [] ++ cond (begins_theirs client site c) (o.put table c) []) begins
+        ∙ ap (λ b. [] ++ cond b (o.put table (Begun flow begun)) []) its ∙ sym (ap (o.put table) begins) ∙ sym (o.over_none client site first earlier)
 
-    start : (until : ℕ) → first.input.moment ≤ until → during first.input.moment until (passing (first ∷ earlier)) ≡ o.over client asset first earlier []
+    start : (until : ℕ) → first.input.moment ≤ until → during first.input.moment until (passing (first ∷ earlier)) ≡ o.over client site first earlier []
     start until most =
         let m = first.input.moment in
         let one = first_passing earlier first in
@@ -123,7 +123,7 @@ module _ {X : Type 0} (o : Output X) (law : SessionsAreRight) (assets : List Ass
         ∙ splits m until one two ∙ ap (λ ys. ys ++ during m until two) (whole m until false one early) ∙ whole m until true two here ∙ second_whole
 
     stretch : (until : ℕ) (later : List RunEvent) → Right (later ++ first ∷ earlier) → Rises (later ++ first ∷ earlier) → last_moment (later ++ first ∷ earlier) ≤ until →
-        NoneBegins client asset later → during first.input.moment until (passing (later ++ first ∷ earlier)) ≡ o.over client asset first earlier later
+        NoneBegins client site later → during first.input.moment until (passing (later ++ first ∷ earlier)) ≡ o.over client site first earlier later
     stretch until [] g s most none = start until most
     stretch until (e ∷ later) g s most none =
         let since = first.input.moment in
@@ -137,16 +137,16 @@ module _ {X : Type 0} (o : Output X) (law : SessionsAreRight) (assets : List Ass
         ∙ ap (λ ys. during since until (passing before) ++ ys)
         (whole since until true (one ++ two) (both_at e before g s (λ x. is_during since until (o.at x) ≡ true) (λ x a b. during_yes since until (o.at x) (omega (arith, a, grows)) (omega (arith, b, most))))
         ∙ ap (λ ys. ys ++ two) its.first_is
-        ∙ ap (λ ys. first_theirs o before e client asset ++ ys)
-        (its.second_is ∙ ap (λ b. cond (goes_to_theirs client asset there e.received) (second_now o before e) [] ++ cond b (second_now o before e) []) none.0 ∙ append-nil _))
-        ∙ ap (λ ys. ys ++ (first_theirs o before e client asset ++ cond (goes_to_theirs client asset there e.received) (second_now o before e) []))
+        ∙ ap (λ ys. first_theirs o before e client site ++ ys)
+        (its.second_is ∙ ap (λ b. cond (goes_to_theirs client site there e.received) (second_now o before e) [] ++ cond b (second_now o before e) []) none.0 ∙ append-nil _))
+        ∙ ap (λ ys. ys ++ (first_theirs o before e client site ++ cond (goes_to_theirs client site there e.received) (second_now o before e) []))
         (stretch until later (right_before e before g) s.1 (omega (arith, most, s.0)) none.1)
-        ∙ sym (o.over_more client asset first earlier e later)
+        ∙ sym (o.over_more client site first earlier e later)
 
     -- the first half of the event that comes next
-    half : (later : List RunEvent) (next : RunEvent) → Right (next ∷ (later ++ first ∷ earlier)) → Rises (next ∷ (later ++ first ∷ earlier)) → NoneBegins client asset later →
+    half : (later : List RunEvent) (next : RunEvent) → Right (next ∷ (later ++ first ∷ earlier)) → Rises (next ∷ (later ++ first ∷ earlier)) → NoneBegins client site later →
         during first.input.moment (tick_of next.input) (passing (next ∷ (later ++ first ∷ earlier)))
-        ≡ o.over client asset first earlier later ++ first_theirs o (later ++ first ∷ earlier) next client asset
+        ≡ o.over client site first earlier later ++ first_theirs o (later ++ first ∷ earlier) next client site
     half later next g s none =
         let since = first.input.moment in
         let until = tick_of next.input in
@@ -158,9 +158,9 @@ module _ {X : Type 0} (o : Output X) (law : SessionsAreRight) (assets : List Ass
         let late = all_map (λ x. o.at x ≡ until + 1) (λ x. is_during since until (o.at x) ≡ false) (λ x a. during_late since until (o.at x) (omega (arith, a))) two (second_at next before g s) in
         ap (during since until) (more next before) ∙ splits since until (passing before) (one ++ two)
         ∙ ap (λ ys. ys ++ during since until (one ++ two)) (stretch until later (right_before next before g) s.1 (omega (arith, s.0)) none)
-        ∙ ap (λ ys. o.over client asset first earlier later ++ ys)
+        ∙ ap (λ ys. o.over client site first earlier later ++ ys)
         (splits since until one two ∙ ap (λ ys. ys ++ during since until two) (whole since until true one here ∙ (theirs next before g s).first_is)
-        ∙ ap (λ ys. first_theirs o before next client asset ++ ys) (whole since until false two late) ∙ append-nil _)
+        ∙ ap (λ ys. first_theirs o before next client site ++ ys) (whole since until false two late) ∙ append-nil _)
 
   -- ---- in a life
 
@@ -174,7 +174,7 @@ module _ {X : Type 0} (o : Output X) (law : SessionsAreRight) (assets : List Ass
 
   right_one : (es : List RunEvent) → Right es → (s : Session) → mine (table_after es) ≡ s ∷ [] → HasEvents limit s.flow s.events
   right_one es h s is =
-      (subst (AllByRecursion (IsRightSession limit)) is (all_filtered (IsRightSession limit) (is_between client asset) (table_after es) (rights_after law assets limit es (are_of es h)))).0
+      (subst (AllByRecursion (IsRightSession limit)) is (all_filtered (IsRightSession limit) (is_between client site) (table_after es) (rights_after law assets limit es (are_of es h)))).0
 
   five : (g x y z t : List Session) → (g ++ (x ++ (y ++ z))) ++ t ≡ (g ++ (x ++ y)) ++ (z ++ t)
   five g x y z t = simp append_assoc
@@ -189,17 +189,17 @@ module _ {X : Type 0} (o : Output X) (law : SessionsAreRight) (assets : List Ass
       let its = theirs e es h r in
       let c = first_passing es e in
       let d = second_passing es e in
-      let one = first_turn o limit client asset tick table e.ticks event.ticks c until (omega (arith, r.0)) held.few (right_one es (right_before e es h)) its.first_is (first_at e es h r) in
-      let two = second_turn o limit client asset tick there one.here d (second_at e es h r) assets e.input.packet e.received event.received its.second_is in
+      let one = first_turn o limit client site tick table e.ticks event.ticks c until (omega (arith, r.0)) held.few (right_one es (right_before e es h)) its.first_is (first_at e es h r) in
+      let two = second_turn o limit client site tick there one.here d (second_at e es h r) assets e.input.packet e.received event.received its.second_is in
       let G = mine (gone_after es) in
       let T = mine (table_after (e ∷ es)) in
       let past = one.moves G in
       let now = two.moves (G ++ one.left) in
       let gone : mine (gone_after (e ∷ es)) ≡ G ++ (one.expired ++ (one.cut ++ two.left)) =
-      filter-append (is_between client asset) (gone_after es) (left_in table e)
-      ∙ ap (λ l. G ++ l) (filter-append (is_between client asset) (filter (λ s. is_expired s.flow s.events tick) table) _
+      filter-append (is_between client site) (gone_after es) (left_in table e)
+      ∙ ap (λ l. G ++ l) (filter-append (is_between client site) (filter (λ s. is_expired s.flow s.events tick) table) _
       ∙ ap (λ l. l ++ mine (filter leaves (with_events (kept tick table) e.ticks) ++ left_by_packet e.received there)) one.expired_is
-      ∙ ap (λ l. one.expired ++ l) (filter-append (is_between client asset) (filter leaves (with_events (kept tick table) e.ticks)) (left_by_packet e.received there)
+      ∙ ap (λ l. one.expired ++ l) (filter-append (is_between client site) (filter leaves (with_events (kept tick table) e.ticks)) (left_by_packet e.received there)
       ∙ ap (λ l. l ++ mine (left_by_packet e.received there)) one.cut_is ∙ ap (λ l. one.cut ++ l) two.left_is)) in
       let lists : list_of (e ∷ es) ≡ (G ++ one.left) ++ (two.left ++ T) =
       ap (λ l. l ++ T) gone ∙ five G one.expired one.cut two.left T ∙ ap (λ l. (G ++ l) ++ (two.left ++ T)) one.left_is in
@@ -223,14 +223,14 @@ module _ {X : Type 0} (o : Output X) (law : SessionsAreRight) (assets : List Ass
       filter (λ x. q x && is_in_life (born_at s.events) later (o.at x)) (o.all es) ≡ own_of s
   alive es h r s before later is =
       let held = each_held es h r in
-      let all : list_of es ≡ before ++ s ∷ later = sym (filter-append (is_between client asset) (gone_after es) (table_after es)) ∙ is in
+      let all : list_of es ≡ before ++ s ∷ later = sym (filter-append (is_between client site) (gone_after es) (table_after es)) ∙ is in
       filter_both q (λ x. is_in_life (born_at s.events) later (o.at x)) (o.all es) ∙ ap (filter (λ x. is_in_life (born_at s.events) later (o.at x))) (held.content ∙ ap (flat_map own_of) all)
       ∙ life o.at own_of 0 before s later (last_moment es + 1) (subst (λ l. InOrder o.at own_of 0 l (last_moment es + 1)) all held.order)
 
   -- ---- a run
 
   in_time : (es : List RunEvent) → Right es → Rises es → (has : HasSession flow es) →
-      filter (λ x. q x && is_during (began_at has) (seen_until has) (o.at x)) (o.all es) ≡ o.over client asset has.first has.earlier has.later
+      filter (λ x. q x && is_during (began_at has) (seen_until has) (o.at x)) (o.all es) ≡ o.over client site has.first has.earlier has.later
   in_time es h r has =
       let start = has.first ∷ has.earlier in
       let seen = has.later ++ start in
@@ -244,7 +244,7 @@ module _ {X : Type 0} (o : Output X) (law : SessionsAreRight) (assets : List Ass
 
   to_next : (es : List RunEvent) → Right es → Rises es → (has : HasSession flow es) (behind : NextEvent has) →
       filter (λ x. q x && is_during (began_at has) (tick_of behind.next.input) (o.at x)) (o.all es)
-      ≡ o.over client asset has.first has.earlier has.later ++ first_theirs o (has.later ++ has.first ∷ has.earlier) behind.next client asset
+      ≡ o.over client site has.first has.earlier has.later ++ first_theirs o (has.later ++ has.first ∷ has.earlier) behind.next client site
   to_next es h r has behind =
       let start = has.first ∷ has.earlier in
       let seen = has.later ++ start in
@@ -260,4 +260,4 @@ module _ {X : Type 0} (o : Output X) (law : SessionsAreRight) (assets : List Ass
       has.later behind.next next next_rise has.none
 
   pub holds : (es : List RunEvent) → Right es → Rises es → Holds o flow q es
-  holds es h r = record { content = (each_held es h r).content ∙ ap (flat_map own_of) (sym (filter-append (is_between client asset) (gone_after es) (table_after es))); in_life = alive es h r; in_time = in_time es h r; to_next = to_next es h r }
+  holds es h r = record { content = (each_held es h r).content ∙ ap (flat_map own_of) (sym (filter-append (is_between client site) (gone_after es) (table_after es))); in_life = alive es h r; in_time = in_time es h r; to_next = to_next es h r }

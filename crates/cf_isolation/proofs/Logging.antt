@@ -8,6 +8,7 @@ use Rattle.cf_run.specs.Isolation.{RunsIsolateSessions}
 use Rattle.cf_run.specs.Run.{IsRun}
 use Rattle.cf_run.specs.Trace.{logged_at, logged_received, logged_ticks}
 use Rattle.cf_run.specs.declared.summary.Summary.{Summary}
+use Rattle.cf_isolation.specs.Lines.{names_of}
 use Rattle.cf_isolation.specs.Lives.{AlikeInLines, EachLogged, own_logged}
 use Rattle.cf_isolation.specs.Logged.{IsReadInput, LogsAreIsolated, LogsHoldSessions, LogsHoldToTheNext}
 use Rattle.cf_isolation.proofs.Lists.{all_both, all_map, filter_all}
@@ -16,15 +17,15 @@ use Rattle.cf_isolation.proofs.Moments.{inputs_all, one_time}
 use Rattle.cf_isolation.proofs.Naming.{AreIts, IsTold, begins_its, first_its, lines_told, packet_its}
 use Rattle.cf_isolation.proofs.Output.{AreTheirs, logging}
 use Rattle.cf_isolation.proofs.Packets.{IsHalved, alike_events, halves, receives_halved}
-use Rattle.cf_isolation.proofs.Tables.{BegunHave, Has, IsAmong, begun_has, begun_in, each_get, found_has_all, kept_has, sessions_have, table_has}
+use Rattle.cf_isolation.proofs.Tables.{BegunHave, Has, IsSiteAmong, begun_has, begun_in, each_get, found_has_all, kept_has, sessions_have, table_has}
 use Rattle.cf_isolation.proofs.Theirs.{of_life}
 use Rattle.cf_isolation.proofs.Words.{IsEndpoint, IsMoment}
 
 -- ---- an event
 
--- the client of a flow is in the ranges of its fields, and its asset one of these
+-- the client of a flow is in the ranges of its fields, and its site one of these
 abbrev pub IsKnown : List Asset → Flow → Type 0
-IsKnown assets f = IsEndpoint (client_of f) × IsAmong assets f.asset
+IsKnown assets f = IsEndpoint (client_of f) × IsSiteAmong assets f.site
 
 -- right events, in time, in which known flows begin
 pub record AreKnown (assets : List Asset) (limit : ℕ) (es : List RunEvent) : Type 0 where
@@ -39,11 +40,11 @@ module _ (works : WorkIsOfTheTaken) (assets : List Asset) (within : AreAssetsWit
   abbrev client : Endpoint
   client = client_of flow
 
-  abbrev asset : Endpoint
-  asset = flow.asset.endpoint
+  abbrev site : Endpoint
+  site = flow.site.first.endpoint
 
   abbrev is_naming : List ℕ → Bool
-  is_naming line = names_both client flow.asset.name line
+  is_naming line = names_both client (names_of flow.site) line
 
   abbrev naming : List (List ℕ) → List (List ℕ)
   naming lines = filter is_naming lines
@@ -53,33 +54,33 @@ module _ (works : WorkIsOfTheTaken) (assets : List Asset) (within : AreAssetsWit
     moments : AllByRecursion (λ line. moment_in line ≡ now) xs
     names : naming xs ≡ its
 
-  of_flow : (f : Flow) → IsKnown assets f → (now at : ℕ) → at ≡ now → IsMoment now → (xs : List (List ℕ)) → AreIts f at xs → AreOf now xs (cond (is_flow_of client asset f) xs [])
+  of_flow : (f : Flow) → IsKnown assets f → (now at : ℕ) → at ≡ now → IsMoment now → (xs : List (List ℕ)) → AreIts f at xs → AreOf now xs (cond (is_flow_of client site f) xs [])
   of_flow f k now at is m xs h =
-      let told = lines_told assets within client flow.asset known.0 known.1 f k.0 k.1 now m xs (subst (λ n. AreIts f n xs) is h) in
+      let told = lines_told assets within client flow.site known.0 known.1 f k.0 k.1 now m xs (subst (λ n. AreIts f n xs) is h) in
       record {
-        moments = all_map (IsTold assets within client flow.asset known.0 known.1 f now) (λ line. moment_in line ≡ now) (λ line g. g.1) xs told;
-        names = filter_all is_naming (is_flow_of client asset f) xs (all_map (IsTold assets within client flow.asset known.0 known.1 f now) (λ line. is_naming line ≡ is_flow_of client asset f) (λ line g. g.0) xs told);
+        moments = all_map (IsTold assets within client flow.site known.0 known.1 f now) (λ line. moment_in line ≡ now) (λ line g. g.1) xs told;
+        names = filter_all is_naming (is_flow_of client site f) xs (all_map (IsTold assets within client flow.site known.0 known.1 f now) (λ line. is_naming line ≡ is_flow_of client site f) (λ line g. g.0) xs told);
       }
 
   ticks_naming : (tick : ℕ) (ss : List Session) (ts : List SessionEvent) → IsMoment tick → AllByRecursion (Has (IsKnown assets)) ss → AreTicks tick ss ts →
-      AreOf tick (logged_ticks ss ts) (logged_ticks (filter (is_between client asset) ss) (ticks_of client asset ss ts))
+      AreOf tick (logged_ticks ss ts) (logged_ticks (filter (is_between client site) ss) (ticks_of client site ss ts))
   ticks_naming tick [] ts m k are = record { moments = tt; names = refl }
   ticks_naming tick (s ∷ ss) [] m k are = absurd are
   ticks_naming tick (s ∷ ss) (t ∷ ts) m k are =
       let here = of_flow s.flow k.0 tick t.client.tick are.0.client_tick m (logged_first s.flow t) (first_its s.flow t) in
       let more = ticks_naming tick ss ts m k.1 are.1 in
-      let F = filter (is_between client asset) ss in
-      let T = ticks_of client asset ss ts in
+      let F = filter (is_between client site) ss in
+      let T = ticks_of client site ss ts in
       let L = logged_first s.flow t in
       record {
         moments = all_both (λ line. moment_in line ≡ tick) L (logged_ticks ss ts) here.moments more.moments;
-        names = filter-append is_naming L (logged_ticks ss ts) ∙ ap (λ xs. xs ++ naming (logged_ticks ss ts)) here.names ∙ ap (λ xs. cond (is_between client asset s) L [] ++ xs) more.names
-            ∙ (elim (is_between client asset s) as (λ b. cond b L [] ++ logged_ticks F T ≡ logged_ticks (cond b (s ∷ F) F) (cond b (t ∷ T) T)) [ true ↦ refl | false ↦ refl ]);
+        names = filter-append is_naming L (logged_ticks ss ts) ∙ ap (λ xs. xs ++ naming (logged_ticks ss ts)) here.names ∙ ap (λ xs. cond (is_between client site s) L [] ++ xs) more.names
+            ∙ (elim (is_between client site s) as (λ b. cond b L [] ++ logged_ticks F T ≡ logged_ticks (cond b (s ∷ F) F) (cond b (t ∷ T) T)) [ true ↦ refl | false ↦ refl ]);
       }
 
   -- the lines of what goes to their session, or begins one
   abbrev lines_theirs : List Session → Received → List (List ℕ)
-  lines_theirs table r = cond (goes_to_theirs client asset table r) (logged_received table r) [] ++ cond (begins_theirs client asset r) (logged_received table r) []
+  lines_theirs table r = cond (goes_to_theirs client site table r) (logged_received table r) [] ++ cond (begins_theirs client site r) (logged_received table r) []
 
   abbrev AreOfSecond : (tick : ℕ) → List Session → Received → Type 0
   AreOfSecond tick table r = AreOf (tick + 1) (logged_received table r) (lines_theirs table r)
@@ -92,15 +93,15 @@ module _ (works : WorkIsOfTheTaken) (assets : List Asset) (within : AreAssetsWit
       (λ f e b new. of_flow f (new f e refl) (tick + 1) (moment e.client) (ap (λ x. x.tick + 1) b.client) m (logged_second f [] e) (begins_its f tick e b))
       (λ i e s p x half es at is now before on new.
       let lines = packet_its x.flow works limit es half s p e before on in
-      let of = subst (λ o. AreOf (tick + 1) (logged_at o e) (cond (is_theirs client asset o) (logged_at o e) [])) (sym at)
-      (subst (λ ys. AreOf (tick + 1) (logged_at (Some (record { flow = x.flow; events = ys })) e) (cond (is_flow_of client asset x.flow) (logged_at (Some (record { flow = x.flow; events = ys })) e) [])) (sym is)
+      let of = subst (λ o. AreOf (tick + 1) (logged_at o e) (cond (is_theirs client site o) (logged_at o e) [])) (sym at)
+      (subst (λ ys. AreOf (tick + 1) (logged_at (Some (record { flow = x.flow; events = ys })) e) (cond (is_flow_of client site x.flow) (logged_at (Some (record { flow = x.flow; events = ys })) e) [])) (sym is)
       (of_flow x.flow (each_get (Has (IsKnown assets)) table i x k at) (tick + 1) (moment e.client) (ap (λ n. n + 1) (on.client_on.0 ∙ now)) m (logged_second x.flow es e) lines)) in
       record { moments = of.moments; names = of.names ∙ sym (append-nil _) }) p r g new
 
   -- ---- a whole event
 
   module _ (law : SessionsAreRight) where
-    logged_theirs : (e : RunEvent) (es : List RunEvent) → AreKnown assets limit (e ∷ es) → Rises (e ∷ es) → AreTheirs logging es e client asset is_naming
+    logged_theirs : (e : RunEvent) (es : List RunEvent) → AreKnown assets limit (e ∷ es) → Rises (e ∷ es) → AreTheirs logging es e client site is_naming
     logged_theirs e es h r =
         let tick = tick_of e.input in
         let table = table_after es in
@@ -145,10 +146,10 @@ module _ (law : SessionsAreRight) (works : WorkIsOfTheTaken) (assets : List Asse
   run_known : AreKnown assets limit run.events
   run_known = all_known assets limit run.events run.are (inputs_all IsReadInput run.events (subst (AllByRecursion IsReadInput) (sym run.are_inputs) read))
 
-  its_lines : (flow : Flow) → IsKnown assets flow → Holds logging flow (λ line. names_both (client_of flow) flow.asset.name line) run.events
+  its_lines : (flow : Flow) → IsKnown assets flow → Holds logging flow (λ line. names_both (client_of flow) (names_of flow.site) line) run.events
   its_lines flow known = logged_holds works assets within limit flow known law run.events run_known run.rises
 
-  its_flow : (flow : Flow) → HasSession flow run.events → Holds logging flow (λ line. names_both (client_of flow) flow.asset.name line) run.events
+  its_flow : (flow : Flow) → HasSession flow run.events → Holds logging flow (λ line. names_both (client_of flow) (names_of flow.site) line) run.events
   its_flow flow has = its_lines flow (begun_has (IsKnown assets) flow run.events run_known.begun has)
 
 pub logs_hold : SessionsAreRight → WorkIsOfTheTaken → LogsHoldSessions

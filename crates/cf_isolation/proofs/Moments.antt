@@ -51,10 +51,10 @@ last_is : (es : List RunEvent) → get_or (times es) 0 0 ≡ last_moment es
 last_is [] = refl
 last_is (e ∷ es) = refl
 
-matched_length : (assets : List Asset) (client asset : Endpoint) (here there xs ys : List RunEvent) → AreMatched assets client asset here there xs ys → length xs ≡ length ys
-matched_length assets client asset here there [] [] h = refl
-matched_length assets client asset here there (x ∷ xs) (y ∷ ys) h = ap suc (matched_length assets client asset here there xs ys h.1)
-matched_length assets client asset here there _ _ h = absurd h
+matched_length : (assets : List Asset) (client site : Endpoint) (here there xs ys : List RunEvent) → AreMatched assets client site here there xs ys → length xs ≡ length ys
+matched_length assets client site here there [] [] h = refl
+matched_length assets client site here there (x ∷ xs) (y ∷ ys) h = ap suc (matched_length assets client site here there xs ys h.1)
+matched_length assets client site here there _ _ h = absurd h
 
 module _ (flow : Flow) (events : List RunEvent) (has : HasSession flow events) where
   abbrev whole : List RunEvent
@@ -76,7 +76,7 @@ module _ (flow : Flow) (events : List RunEvent) (has : HasSession flow events) w
 pub one_time : (assets : List Asset) (flow : Flow) (events others : List RunEvent) (one : HasSession flow events) (other : HasSession flow others) →
     moments_of (inputs_of events) ≡ moments_of (inputs_of others) → length one.earlier ≡ length other.earlier → AreMatchedAlike assets flow one other → HaveOneTime flow one other
 one_time assets flow events others one other moments earlier matched =
-    let later = matched_length assets (client_of flow) flow.asset.endpoint (one.first ∷ one.earlier) (other.first ∷ other.earlier) one.later other.later matched in
+    let later = matched_length assets (client_of flow) flow.site.first.endpoint (one.first ∷ one.earlier) (other.first ∷ other.earlier) one.later other.later matched in
     let from : length (one.first ∷ one.earlier) ≡ length (other.first ∷ other.earlier) = ap suc earlier in
     let same : times events ≡ times others = sym (reversed events) ∙ ap reverse moments ∙ reversed others in
     let sizes = ap length same in

@@ -29,12 +29,12 @@ pub record Output (X : Type 0) : Type 0 where
   pub all_none : all [] ≡ []
   pub all_more : (e : RunEvent) (es : List RunEvent) → all (e ∷ es) ≡ all es ++ (ticking (kept (tick_of e.input) (table_after es)) e.ticks ++ put (found (table_after es) e) e.received)
   -- what is put out of a session from its first event on
-  pub over : (client asset : Endpoint) → (start : RunEvent) → (earlier later : List RunEvent) → List X
-  pub over_none : (client asset : Endpoint) (start : RunEvent) (earlier : List RunEvent) → over client asset start earlier [] ≡ put (found (table_after earlier) start) start.received
-  pub over_more : (client asset : Endpoint) (start : RunEvent) (earlier : List RunEvent) (e : RunEvent) (later : List RunEvent) → over client asset start earlier (e ∷ later) ≡
-      over client asset start earlier later ++ (ticking (filter (is_between client asset) (kept (tick_of e.input) (table_after (later ++ start ∷ earlier))))
-      (ticks_of client asset (kept (tick_of e.input) (table_after (later ++ start ∷ earlier))) e.ticks)
-      ++ cond (goes_to_theirs client asset (found (table_after (later ++ start ∷ earlier)) e) e.received) (put (found (table_after (later ++ start ∷ earlier)) e) e.received) [])
+  pub over : (client site : Endpoint) → (start : RunEvent) → (earlier later : List RunEvent) → List X
+  pub over_none : (client site : Endpoint) (start : RunEvent) (earlier : List RunEvent) → over client site start earlier [] ≡ put (found (table_after earlier) start) start.received
+  pub over_more : (client site : Endpoint) (start : RunEvent) (earlier : List RunEvent) (e : RunEvent) (later : List RunEvent) → over client site start earlier (e ∷ later) ≡
+      over client site start earlier later ++ (ticking (filter (is_between client site) (kept (tick_of e.input) (table_after (later ++ start ∷ earlier))))
+      (ticks_of client site (kept (tick_of e.input) (table_after (later ++ start ∷ earlier))) e.ticks)
+      ++ cond (goes_to_theirs client site (found (table_after (later ++ start ∷ earlier)) e) e.received) (put (found (table_after (later ++ start ∷ earlier)) e) e.received) [])
 
 abbrev pub sending : Output Sent
 sending = record {
@@ -57,8 +57,8 @@ sending = record {
   all_none = refl;
   all_more = λ e es. refl;
   over = sent_over;
-  over_none = λ client asset start earlier. refl;
-  over_more = λ client asset start earlier e later. refl;
+  over_none = λ client site start earlier. refl;
+  over_more = λ client site start earlier e later. refl;
 }
 
 abbrev pub logging : Output (List ℕ)
@@ -82,8 +82,8 @@ logging = record {
   all_none = refl;
   all_more = λ e es. refl;
   over = logged_over;
-  over_none = λ client asset start earlier. refl;
-  over_more = λ client asset start earlier e later. refl;
+  over_none = λ client site start earlier. refl;
+  over_more = λ client site start earlier e later. refl;
 }
 
 -- ---- one event of a run
@@ -95,19 +95,19 @@ module _ {X : Type 0} (o : Output X) (es : List RunEvent) (e : RunEvent) where
   abbrev pub second_now : List X
   second_now = o.put (found (table_after es) e) e.received
 
-  -- of the first half what is of the session of a client and an asset
-  abbrev pub first_theirs : (client asset : Endpoint) → List X
-  first_theirs client asset =
+  -- of the first half what is of the session of a client and a site
+  abbrev pub first_theirs : (client site : Endpoint) → List X
+  first_theirs client site =
       let table = kept (tick_of e.input) (table_after es) in
-      o.ticking (filter (is_between client asset) table) (ticks_of client asset table e.ticks)
+      o.ticking (filter (is_between client site) table) (ticks_of client site table e.ticks)
 
   -- the second half, by what its packet is to them
   abbrev pub second_theirs : (goes begins : Bool) → List X
   second_theirs goes begins = cond goes second_now [] ++ cond begins second_now []
 
   -- each half is at its moment, and what passes of it is theirs
-  pub record AreTheirs (client asset : Endpoint) (q : X → Bool) : Type 0 where
+  pub record AreTheirs (client site : Endpoint) (q : X → Bool) : Type 0 where
     pub first_at : AllByRecursion (λ x. o.at x ≡ tick_of e.input) first_now
     pub second_at : AllByRecursion (λ x. o.at x ≡ tick_of e.input + 1) second_now
-    pub first_is : filter q first_now ≡ first_theirs client asset
-    pub second_is : filter q second_now ≡ second_theirs (goes_to_theirs client asset (found (table_after es) e) e.received) (begins_theirs client asset e.received)
+    pub first_is : filter q first_now ≡ first_theirs client site
+    pub second_is : filter q second_now ≡ second_theirs (goes_to_theirs client site (found (table_after es) e) e.received) (begins_theirs client site e.received)

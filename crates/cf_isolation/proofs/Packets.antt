@@ -1,4 +1,4 @@
--- Which packets of one event go between a client and an asset: those of their session.
+-- Which packets of one event go between a client and a site: those of their session.
 use Rattle.std.proofs.Common.{◌≡◌, ℕ, Bool, true, false, List, [], ◌∷◌, ◌++◌, cond, if◌then◌else◌, Option, Some, None, Result, refl, sym, ap, ◌∙◌, subst, filter, not, slice_get}
 use Rattle.cf_isolation.proofs.Common.{AllByRecursion, AreRight, AreRunEvents, AreTicks, Asset, Begun, CutReason, Dropped, Endpoint, EventsAreFixed, Flow, GoesOnAt, HasEvents, IsBeginning, IsPacket, IsRightSession, LegEvent, NoRoom, NoSession, PacketRefusal, PacketValue, Received, ReceivesRecord, RunEvent, Sent, Session, SessionEvent, SessionsAreRight, Side, Went, append-nil, at, begins_theirs, client_ends, client_of, controller_ends, filter-append, flat_map, found, goes_between, goes_to_theirs, gone_after, is_between, is_first_half, is_flow_of, is_theirs, kept, moment, said_by, same_endpoint, same_is, sent, sent_first, sent_received, sent_second, stays, table_after, tick_of, ticked, ticks_of, true≢false, with_events}
 use Rattle.std.specs.Option.{is_some}
@@ -94,7 +94,7 @@ module _ (P : PacketValue → Type 0) (Q : Sent → Type 0) (e : SessionEvent) (
   pub second_all : ((p : PacketValue) → P p → Q (record { moment = moment e.client; packet = p })) → AllByRecursion Q (sent_second e)
   second_all f = at_all _ f _ (all_both P (late (is_first_half e) e.controller) _ (late_all P _ e.controller controller) (late_all P _ e.client client))
 
-module _ (assets : List Asset) (client asset : Endpoint) (none : has_asset_at assets client ≡ false) (some : has_asset_at assets asset ≡ true) where
+module _ (assets : List Asset) (client site : Endpoint) (none : has_asset_at assets client ≡ false) (some : has_asset_at assets site ≡ true) where
   never_same : (x y : Endpoint) → has_asset_at assets x ≡ false → has_asset_at assets y ≡ true → x ≡ y → ⊥
   never_same x y a b e = absurd (true≢false (sym b ∙ (sym (ap (has_asset_at assets) e) ∙ a)))
 
@@ -103,17 +103,17 @@ module _ (assets : List Asset) (client asset : Endpoint) (none : has_asset_at as
 
   module _ (f : Flow) (own : IsOwn assets f) where
     abbrev IsTold : PacketValue → Type 0
-    IsTold p = goes_between client asset p ≡ is_flow_of client asset f
+    IsTold p = goes_between client site p ≡ is_flow_of client site f
 
-    to_controller : (p : PacketValue) → GoesFrom (client_of f) f.asset.endpoint p → IsTold p
+    to_controller : (p : PacketValue) → GoesFrom (client_of f) f.site.first.endpoint p → IsTold p
     to_controller p g =
-        let other = apart (client_of f) asset (never_same (client_of f) asset own.0 some) in
+        let other = apart (client_of f) site (never_same (client_of f) site own.0 some) in
         rw (g.0, g.1, other) (or-false _)
 
-    to_client : (p : PacketValue) → GoesFrom f.asset.endpoint (client_of f) p → IsTold p
+    to_client : (p : PacketValue) → GoesFrom f.site.first.endpoint (client_of f) p → IsTold p
     to_client p g =
-        let other = apart f.asset.endpoint client (λ e. never_same client f.asset.endpoint none own.1 (sym e)) in
-        rw (g.0, g.1, other) (and_comm (same_endpoint f.asset.endpoint asset) (same_endpoint (client_of f) client))
+        let other = apart f.site.first.endpoint client (λ e. never_same client f.site.first.endpoint none own.1 (sym e)) in
+        rw (g.0, g.1, other) (and_comm (same_endpoint f.site.first.endpoint site) (same_endpoint (client_of f) client))
 
     told_by : (source dest : Endpoint) → ((p : PacketValue) → GoesFrom source dest p → IsTold p) → (e : LegEvent) → Sends (GoesFrom source dest) e → Sends IsTold e
     told_by source dest k e h = record {
@@ -141,25 +141,25 @@ module _ (assets : List Asset) (client asset : Endpoint) (none : has_asset_at as
   -- ---- the first half
 
   abbrev between : List Sent → List Sent
-  between all = filter (λ s. goes_between client asset s.packet) all
+  between all = filter (λ s. goes_between client site s.packet) all
 
   pub ticks_between : (limit tick : ℕ) (ss : List Session) (ts : List SessionEvent) → AllByRecursion (IsRightSession limit) ss → AllByRecursion (HasOwn assets) ss → AreTicks tick ss ts →
-      between (flat_map sent_first ts) ≡ flat_map sent_first (ticks_of client asset ss ts)
+      between (flat_map sent_first ts) ≡ flat_map sent_first (ticks_of client site ss ts)
   ticks_between limit tick [] ts h own are = ap (λ xs. between (flat_map sent_first xs)) are
   ticks_between limit tick (s ∷ ss) [] h own are = absurd are
   ticks_between limit tick (s ∷ ss) (t ∷ ts) h own are =
       let legs = legs_right s.flow limit s.events (right_events limit s.flow s.events h.0) in
       let here = filter_all _ _ (sent_first t) (first_told s.flow own.0 s.events t legs are.0.right) in
       let more = ticks_between limit tick ss ts h.1 own.1 are.1 in
-      let T = ticks_of client asset ss ts in
-      filter-append (λ x. goes_between client asset x.packet) (sent_first t) (flat_map sent_first ts) ∙ ap (λ xs. xs ++ between (flat_map sent_first ts)) here ∙ ap (λ xs. cond (is_between client asset s) (sent_first t) [] ++ xs) more
-      ∙ (elim (is_between client asset s) as (λ b. cond b (sent_first t) [] ++ flat_map sent_first T ≡ flat_map sent_first (cond b (t ∷ T) T)) [ true ↦ refl | false ↦ refl ])
+      let T = ticks_of client site ss ts in
+      filter-append (λ x. goes_between client site x.packet) (sent_first t) (flat_map sent_first ts) ∙ ap (λ xs. xs ++ between (flat_map sent_first ts)) here ∙ ap (λ xs. cond (is_between client site s) (sent_first t) [] ++ xs) more
+      ∙ (elim (is_between client site s) as (λ b. cond b (sent_first t) [] ++ flat_map sent_first T ≡ flat_map sent_first (cond b (t ∷ T) T)) [ true ↦ refl | false ↦ refl ])
 
   -- ---- the second half
 
   -- what goes to their session, or begins one
   abbrev pub received_theirs : List Session → Received → List Sent
-  received_theirs table r = (if goes_to_theirs client asset table r then sent_received r else []) ++ (if begins_theirs client asset r then sent_received r else [])
+  received_theirs table r = (if goes_to_theirs client site table r then sent_received r else []) ++ (if begins_theirs client site r then sent_received r else [])
 
   pub received_between : (limit tick : ℕ) (table : List Session) (p : Result PacketValue PacketRefusal) (r : Received) → AllByRecursion (HasOwn assets) table → AllByRecursion (IsHalved limit tick) table →
       ((f : Flow) (e : SessionEvent) → r ≡ Begun f e → IsOwn assets f) → ReceivesRecord assets limit tick table p r → between (sent_received r) ≡ received_theirs table r
@@ -168,7 +168,7 @@ module _ (assets : List Asset) (client asset : Endpoint) (none : has_asset_at as
       ((λ new. refl), (λ new. refl), (λ new. refl))
       (λ f e b new. filter_all _ _ (sent_second e) (second_told f (new f e refl) [] e (record { controller = tt; client = tt }) b.right))
       (λ i e s p x half es at is now before on new.
-      subst (λ o. between (sent_second e) ≡ cond (is_theirs client asset o) (sent_second e) []) (sym at)
+      subst (λ o. between (sent_second e) ≡ cond (is_theirs client site o) (sent_second e) []) (sym at)
       (filter_all _ _ (sent_second e) (second_told x.flow (each_get (HasOwn assets) table i x own at) es e (legs_right x.flow limit es before) on.right)) ∙ sym (append-nil _)) p r g new
 
 -- ---- all that a run sends

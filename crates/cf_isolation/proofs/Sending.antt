@@ -34,9 +34,9 @@ received_at assets limit tick table p r h g =
 
 module _ (law : SessionsAreRight) (assets : List Asset) (limit : ℕ) (flow : Flow) (own : IsOwn assets flow) where
   abbrev pub is_its : Sent → Bool
-  is_its s = goes_between (client_of flow) flow.asset.endpoint s.packet
+  is_its s = goes_between (client_of flow) flow.site.first.endpoint s.packet
 
-  sent_theirs : (e : RunEvent) (es : List RunEvent) → AreRunEvents assets limit (e ∷ es) → AreTheirs sending es e (client_of flow) flow.asset.endpoint is_its
+  sent_theirs : (e : RunEvent) (es : List RunEvent) → AreRunEvents assets limit (e ∷ es) → AreTheirs sending es e (client_of flow) flow.site.first.endpoint is_its
   sent_theirs e es h =
       let tick = tick_of e.input in
       let table = table_after es in
@@ -45,11 +45,11 @@ module _ (law : SessionsAreRight) (assets : List Asset) (limit : ℕ) (flow : Fl
       record {
         first_at = ticks_at tick (kept tick table) e.ticks h.0.ticks;
         second_at = received_at assets limit tick (found table e) e.input.packet e.received half h.0.received;
-        first_is = ticks_between assets (client_of flow) flow.asset.endpoint own.0 own.1 limit tick (kept tick table) e.ticks
+        first_is = ticks_between assets (client_of flow) flow.site.first.endpoint own.0 own.1 limit tick (kept tick table) e.ticks
             (all_filtered (IsRightSession limit) _ table (rights_after law assets limit es h.1)) (kept_has (IsOwn assets) tick table flows) h.0.ticks;
-        second_is = received_between assets (client_of flow) flow.asset.endpoint own.0 own.1 limit tick (found table e) e.input.packet e.received (found_has_all (IsOwn assets) tick e.ticks table flows)
+        second_is = received_between assets (client_of flow) flow.site.first.endpoint own.0 own.1 limit tick (found table e) e.input.packet e.received (found_has_all (IsOwn assets) tick e.ticks table flows)
             half (λ f b is. (begun_in assets limit e es h f b is).2.own) h.0.received;
       }
 
-  pub sent_holds : (es : List RunEvent) → AreRunEvents assets limit es → Rises es → Holds sending flow (λ (s : Sent). goes_between (client_of flow) flow.asset.endpoint s.packet) es
+  pub sent_holds : (es : List RunEvent) → AreRunEvents assets limit es → Rises es → Holds sending flow (λ (s : Sent). goes_between (client_of flow) flow.site.first.endpoint s.packet) es
   sent_holds = holds sending law assets limit flow is_its (AreRunEvents assets limit) (λ e es h. h.1) (λ es h. h) (λ e es h r. sent_theirs e es h)

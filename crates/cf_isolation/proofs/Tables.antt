@@ -1,9 +1,11 @@
--- The flows of a table's sessions: each goes from no asset's endpoint to an asset's.
-use Rattle.std.proofs.Common.{◌≡◌, ℕ, zero, suc, ◌&&◌, ◌||◌, Bool, true, false, not, List, [], ◌∷◌, ◌++◌, cond, if◌then◌else◌, Option, Some, None, Result, Ok, Err, refl, sym, ap, ◌∙◌, subst, arith, filter, slice_get}
+-- The flows of a table's sessions: each goes from no site's endpoint to a site's.
+use Rattle.std.proofs.Common.{◌≡◌, ℕ, zero, suc, ◌&&◌, ◌||◌, Bool, true, false, not, List, [], ◌∷◌, ◌++◌, cond, if◌then◌else◌, Option, Some, None, option_map, Result, Ok, Err, refl, sym, ap, ◌∙◌, subst, arith, filter, slice_get}
 use Rattle.cf_isolation.proofs.Common.{AreRunEvents, Asset, Begun, Dropped, Endpoint, Flow, GoesOnAt, HasSession, IsBeginning, NoRoom, NoSession, PacketRefusal, PacketValue, Received, ReceivesRecord, RunEvent, Session, SessionEvent, Side, Went, client_of, gone_after, is_expired, kept, leaves, left_by_packet, nat_tests, remove, same_endpoint, same_is, session_at, sessions_of, stays, table_after, tick_of, ticked, true≢false, with_event_at, with_events}
 use Rattle.std.specs.List.{AllByRecursion as Each}
 use Rattle.cf_leg.specs.Segment.{is_opening}
+use Rattle.cf_policy.proofs.SiteLaws.{sites_begin}
 use Rattle.cf_policy.specs.AtEndpoint.{asset_at, has_asset_at}
+use Rattle.cf_policy.specs.Site.{SiteValue, site_at}
 use Rattle.cf_run.specs.Sessions.{left_in}
 use Rattle.cf_run.specs.Table.{Begins, Full, Goes, Match, begins, begins_or_full, goes, goes_from_client, match_of, may_begin, place_of, without}
 use Rattle.cf_isolation.proofs.Lists.{all_both, all_filtered}
@@ -17,9 +19,13 @@ same_self e = grind (arith, nat_tests)
 abbrev pub IsAmong : List Asset → Asset → Type 0
 IsAmong assets asset = (place : ℕ) × (slice_get assets place ≡ Some asset)
 
--- a flow goes from no asset's endpoint to an asset's
+-- a site is the one at its endpoint
+abbrev pub IsSiteAmong : List Asset → SiteValue → Type 0
+IsSiteAmong assets site = site_at assets site.first.endpoint ≡ Some site
+
+-- a flow goes from no site's endpoint to a site's
 abbrev pub IsOwn : List Asset → Flow → Type 0
-IsOwn assets f = (has_asset_at assets (client_of f) ≡ false) × (has_asset_at assets f.asset.endpoint ≡ true)
+IsOwn assets f = (has_asset_at assets (client_of f) ≡ false) × (has_asset_at assets f.site.first.endpoint ≡ true)
 
 abbrev pub HasOwn : List Asset → Session → Type 0
 HasOwn assets s = IsOwn assets s.flow
@@ -52,14 +58,6 @@ found_has (a ∷ assets) endpoint asset h = by (λ e. found_has assets endpoint 
     by more true e = let same : a ≡ asset = cc in subst (λ x. has_asset_at (a ∷ assets) x.endpoint ≡ true) same (rw (same_self a.endpoint) refl)
     by more false e = elim (same_endpoint a.endpoint asset.endpoint) as (λ b. (b || has_asset_at assets asset.endpoint) ≡ true) [ true ↦ refl | false ↦ more e ]
 
-found_among : (assets : List Asset) (endpoint : Endpoint) (asset : Asset) → asset_at assets endpoint ≡ Some asset → IsAmong assets asset
-found_among [] endpoint asset h = cc
-found_among (a ∷ assets) endpoint asset h = by (λ e. found_among assets endpoint asset e) (same_endpoint a.endpoint endpoint) h
-  where
-    by : (asset_at assets endpoint ≡ Some asset → IsAmong assets asset) → (b : Bool) → cond b (Some a) (asset_at assets endpoint) ≡ Some asset → IsAmong (a ∷ assets) asset
-    by more true e = (0, e)
-    by more false e = let there = more e in (suc there.0, there.1)
-
 -- an asset that is found at an endpoint stands there
 pub found_there : (assets : List Asset) (endpoint : Endpoint) (asset : Asset) → asset_at assets endpoint ≡ Some asset → asset.endpoint ≡ endpoint
 found_there [] endpoint asset h = cc
@@ -70,14 +68,17 @@ found_there (a ∷ assets) endpoint asset h = by (λ e. found_there assets endpo
     by more true is e = let same : a ≡ asset = cc in sym (ap (λ (x : Asset). x.endpoint) same) ∙ same_is a.endpoint endpoint is
     by more false is e = more e
 
-found_itself : (assets : List Asset) (endpoint : Endpoint) (asset : Asset) → asset_at assets endpoint ≡ Some asset → asset_at assets asset.endpoint ≡ Some asset
-found_itself assets endpoint asset h = subst (λ e. asset_at assets e ≡ Some asset) (sym (found_there assets endpoint asset h)) h
+-- the first asset of a site is the one at its endpoint
+site_first : (assets : List Asset) (endpoint : Endpoint) (site : SiteValue) → site_at assets endpoint ≡ Some site → asset_at assets endpoint ≡ Some site.first
+site_first assets endpoint site h = sym (sites_begin assets endpoint) ∙ ap (option_map (λ x. x.first)) h
+
+site_itself : (assets : List Asset) (endpoint : Endpoint) (site : SiteValue) → site_at assets endpoint ≡ Some site → IsSiteAmong assets site
+site_itself assets endpoint site h = subst (λ e. site_at assets e ≡ Some site) (sym (found_there assets endpoint site.first (site_first assets endpoint site h))) h
 
 -- what holds of a flow that a packet begins
 pub record IsBegunBy (assets : List Asset) (p : PacketValue) (f : Flow) : Type 0 where
   pub own : IsOwn assets f
-  pub among : IsAmong assets f.asset
-  pub found : asset_at assets f.asset.endpoint ≡ Some f.asset
+  pub among : IsSiteAmong assets f.site
   pub client : client_of f ≡ p.source
 
 module _ (assets : List Asset) (table : List Session) (p : PacketValue) (f : Flow) where
@@ -86,30 +87,30 @@ module _ (assets : List Asset) (table : List Session) (p : PacketValue) (f : Flo
   never_goes None (Some i) h = cc
   never_goes None None h = cc
 
-  abbrev flow_to : Asset → Flow
-  flow_to asset = record { asset = asset; syn = p }
+  abbrev flow_to : SiteValue → Flow
+  flow_to site = record { site = site; syn = p }
 
-  room_by : (asset : Asset) (b : Bool) → (if b then Begins (flow_to asset) else Full) ≡ Begins f → flow_to asset ≡ f
-  room_by asset true h = cc
-  room_by asset false h = cc
+  room_by : (site : SiteValue) (b : Bool) → (if b then Begins (flow_to site) else Full) ≡ Begins f → flow_to site ≡ f
+  room_by site true h = cc
+  room_by site false h = cc
 
-  closed_by : (asset : Asset) (b : Bool) → (if b then begins_or_full table (flow_to asset) else goes table p) ≡ Begins f → flow_to asset ≡ f
-  closed_by asset true h = room_by asset _ h
-  closed_by asset false h = absurd (never_goes _ _ h)
+  closed_by : (site : SiteValue) (b : Bool) → (if b then begins_or_full table (flow_to site) else goes table p) ≡ Begins f → flow_to site ≡ f
+  closed_by site true h = room_by site _ h
+  closed_by site false h = absurd (never_goes _ _ h)
 
-  begun_to : has_asset_at assets p.source ≡ false → (asset : Asset) → asset_at assets p.dest ≡ Some asset → IsBegunBy assets p (flow_to asset)
-  begun_to none asset e = record { own = (none, found_has assets p.dest asset e); among = found_among assets p.dest asset e; found = found_itself assets p.dest asset e; client = refl }
+  begun_to : has_asset_at assets p.source ≡ false → (site : SiteValue) → site_at assets p.dest ≡ Some site → IsBegunBy assets p (flow_to site)
+  begun_to none site e = record { own = (none, found_has assets p.dest site.first (site_first assets p.dest site e)); among = site_itself assets p.dest site e; client = refl }
 
-  begun_if : has_asset_at assets p.source ≡ false → (o : Option Asset) → asset_at assets p.dest ≡ o → begins table p o ≡ Begins f → IsBegunBy assets p f
+  begun_if : has_asset_at assets p.source ≡ false → (o : Option SiteValue) → site_at assets p.dest ≡ o → begins table p o ≡ Begins f → IsBegunBy assets p f
   begun_if none None e h = absurd (never_goes _ _ h)
-  begun_if none (Some asset) e h = subst (IsBegunBy assets p) (closed_by asset _ h) (begun_to none asset e)
+  begun_if none (Some site) e h = subst (IsBegunBy assets p) (closed_by site _ h) (begun_to none site e)
 
   not_both : (a b : Bool) → (a && not b) ≡ true → b ≡ false
   not_both true false e = refl
   not_both _ _ e = absurd (true≢false (sym e))
 
-  may_by : (b : Bool) → may_begin assets p ≡ b → (if b then begins table p (asset_at assets p.dest) else goes table p) ≡ Begins f → IsBegunBy assets p f
-  may_by true e h = begun_if (not_both (is_opening p) (has_asset_at assets p.source) e) (asset_at assets p.dest) refl h
+  may_by : (b : Bool) → may_begin assets p ≡ b → (if b then begins table p (site_at assets p.dest) else goes table p) ≡ Begins f → IsBegunBy assets p f
+  may_by true e h = begun_if (not_both (is_opening p) (has_asset_at assets p.source) e) (site_at assets p.dest) refl h
   may_by false e h = absurd (never_goes _ _ h)
 
   pub begins_by : match_of assets table p ≡ Begins f → IsBegunBy assets p f
@@ -183,7 +184,7 @@ module _ (K : Flow → Type 0) where
 
   received_has : (table : List Session) (r : Received) → ((f : Flow) (b : SessionEvent) → r ≡ Begun f b → K f) → Each Has table → Each Has (after_received r table)
   received_has table (Begun f e) new h =
-      all_both Has (without (client_of f) f.asset.endpoint table) _ (each_without Has table (place_of (client_of f) f.asset.endpoint table) h) (new f e refl, tt)
+      all_both Has (without (client_of f) f.site.first.endpoint table) _ (each_without Has table (place_of (client_of f) f.site.first.endpoint table) h) (new f e refl, tt)
   received_has table (Went i e) new h = all_filtered Has stays (with_event_at i e table) (went_has i e table h)
   received_has table _ new h = h
 
@@ -206,7 +207,7 @@ module _ (K : Flow → Type 0) where
   at_has table (Some i) h = one_has table (slice_get table i) (λ s e. each_get Has table i s h e)
 
   left_has : (table : List Session) (r : Received) → Each Has table → Each Has (left_by_packet r table)
-  left_has table (Begun f e) h = at_has table (place_of (client_of f) f.asset.endpoint table) h
+  left_has table (Begun f e) h = at_has table (place_of (client_of f) f.site.first.endpoint table) h
   left_has table (Went i e) h = all_filtered Has leaves (with_event_at i e table) (went_has i e table h)
   left_has table _ h = tt
 

@@ -1,4 +1,4 @@
--- The sessions of a client and an asset in a table, through the two halves of an event.
+-- The sessions of a client and a site in a table, through the two halves of an event.
 use Rattle.std.proofs.Common.{◌≡◌, ℕ, zero, suc, Bool, true, false, List, [], ◌∷◌, ◌++◌, cond, Option, Some, None, refl, sym, ap, ◌∙◌, subst, filter, position, slice_get}
 use Rattle.cf_isolation.proofs.Common.{AllByRecursion, Endpoint, RunEvent, Session, SessionEvent, client_of, is_between, remove, session_at, sessions_of, with_event_at}
 use Rattle.cf_policy.proofs.FirstPlace.{first_at}
@@ -54,14 +54,14 @@ module _ (p : Session → Bool) (keeps : (s : Session) (es : List SessionEvent) 
       })
   around (x ∷ xs) (suc i) y h = more_around x xs i y (p x) refl (around xs i y h)
 
--- ---- a client and an asset
+-- ---- a client and a site
 
-module _ (client asset : Endpoint) where
+module _ (client site : Endpoint) where
   abbrev pub theirs : List Session → List Session
-  theirs ss = filter (is_between client asset) ss
+  theirs ss = filter (is_between client site) ss
 
-  pub around_theirs : (xs : List Session) (i : ℕ) (y : Session) → slice_get xs i ≡ Some y → Around (is_between client asset) (λ s es. refl) xs i y
-  around_theirs xs i y h = around (is_between client asset) (λ s es. refl) xs i y h
+  pub around_theirs : (xs : List Session) (i : ℕ) (y : Session) → slice_get xs i ≡ Some y → Around (is_between client site) (λ s es. refl) xs i y
+  around_theirs xs i y h = around (is_between client site) (λ s es. refl) xs i y h
 
   -- ---- the session that gives way to a new one
 
@@ -83,27 +83,27 @@ module _ (client asset : Endpoint) where
   at_one table i x h = ap (λ o. elim o [ None ↦ [] | Some session ↦ session ∷ [] ]) h
 
   -- the one of theirs, where there is one at most
-  pub gives_theirs : (table : List Session) (y : Session) (place : Option ℕ) → position (is_between client asset) table ≡ place → theirs table ≡ y ∷ [] → GivesWay table place (y ∷ []) []
-  gives_theirs table y None e h = let none = none_there (is_between client asset) table e in cc (sym h ∙ none)
+  pub gives_theirs : (table : List Session) (y : Session) (place : Option ℕ) → position (is_between client site) table ≡ place → theirs table ≡ y ∷ [] → GivesWay table place (y ∷ []) []
+  gives_theirs table y None e h = let none = none_there (is_between client site) table e in cc (sym h ∙ none)
   gives_theirs table y (Some i) e h =
-      let first = first_at (is_between client asset) table i e in
+      let first = first_at (is_between client site) table i e in
       let a = around_theirs table i first.0 first.1.here in
       let all : y ∷ [] ≡ a.front ++ first.0 ∷ a.back = sym h ∙ a.is ∙ ap (λ b. a.front ++ cond b (first.0 ∷ a.back) a.back) first.1.passes in
       let one = one_left first.0 y a.front a.back all in
       record {
-        gone = ap theirs (at_one table i first.0 first.1.here) ∙ filter_one (is_between client asset) true first.0 first.1.passes ∙ ap (λ z. z ∷ []) one.0;
+        gone = ap theirs (at_one table i first.0 first.1.here) ∙ filter_one (is_between client site) true first.0 first.1.passes ∙ ap (λ z. z ∷ []) one.0;
         stays = a.removed ∙ one.1;
       }
 
-  pub gives_none : (table : List Session) (place : Option ℕ) → position (is_between client asset) table ≡ place → theirs table ≡ [] → GivesWay table place [] []
+  pub gives_none : (table : List Session) (place : Option ℕ) → position (is_between client site) table ≡ place → theirs table ≡ [] → GivesWay table place [] []
   gives_none table None e h = record { gone = refl; stays = h }
   gives_none table (Some i) e h =
-      let first = first_at (is_between client asset) table i e in
+      let first = first_at (is_between client site) table i e in
       let a = around_theirs table i first.0 first.1.here in
       absurd (none_left first.0 a.front a.back (sym h ∙ a.is ∙ ap (λ b. a.front ++ cond b (first.0 ∷ a.back) a.back) first.1.passes))
 
   -- that of others
-  pub gives_other : (c a : Endpoint) (table : List Session) → ((s : Session) → is_between c a s ≡ true → is_between client asset s ≡ false) → (place : Option ℕ) →
+  pub gives_other : (c a : Endpoint) (table : List Session) → ((s : Session) → is_between c a s ≡ true → is_between client site s ≡ false) → (place : Option ℕ) →
       position (is_between c a) table ≡ place → GivesWay table place [] (theirs table)
   gives_other c a table apart None e = record { gone = refl; stays = refl }
   gives_other c a table apart (Some i) e =
@@ -111,7 +111,7 @@ module _ (client asset : Endpoint) where
       let near = around_theirs table i first.0 first.1.here in
       let other = apart first.0 first.1.passes in
       record {
-        gone = ap theirs (at_one table i first.0 first.1.here) ∙ filter_one (is_between client asset) false first.0 other;
+        gone = ap theirs (at_one table i first.0 first.1.here) ∙ filter_one (is_between client site) false first.0 other;
         stays = near.removed ∙ sym (near.is ∙ ap (λ b. near.front ++ cond b (first.0 ∷ near.back) near.back) other);
       }
 
@@ -120,7 +120,7 @@ module _ (client asset : Endpoint) where
   pub record Changes (table : List Session) (i : ℕ) (e : SessionEvent) (y : Session) : Type 0 where
     pub after : theirs (with_event_at i e table) ≡ record y { events = replaced e y.events } ∷ []
 
-  pub own_changes : (table : List Session) (i : ℕ) (e : SessionEvent) (x y : Session) → slice_get table i ≡ Some x → is_between client asset x ≡ true → theirs table ≡ y ∷ [] → (x ≡ y) × Changes table i e y
+  pub own_changes : (table : List Session) (i : ℕ) (e : SessionEvent) (x y : Session) → slice_get table i ≡ Some x → is_between client site x ≡ true → theirs table ≡ y ∷ [] → (x ≡ y) × Changes table i e y
   own_changes table i e x y at passes h =
       let a = around_theirs table i x at in
       let all : y ∷ [] ≡ a.front ++ x ∷ a.back = sym h ∙ a.is ∙ ap (λ b. a.front ++ cond b (x ∷ a.back) a.back) passes in
@@ -136,12 +136,12 @@ module _ (client asset : Endpoint) where
       put_in z [] back k = ap (λ l. z ∷ l) k
       put_in z (w ∷ front) back k = cc
 
-  pub none_changes : (table : List Session) (i : ℕ) (x : Session) → slice_get table i ≡ Some x → is_between client asset x ≡ true → theirs table ≡ [] → ⊥
+  pub none_changes : (table : List Session) (i : ℕ) (x : Session) → slice_get table i ≡ Some x → is_between client site x ≡ true → theirs table ≡ [] → ⊥
   none_changes table i x at passes h =
       let a = around_theirs table i x at in
       none_left x a.front a.back (sym h ∙ a.is ∙ ap (λ b. a.front ++ cond b (x ∷ a.back) a.back) passes)
 
-  pub other_changes : (table : List Session) (i : ℕ) (e : SessionEvent) (x : Session) → slice_get table i ≡ Some x → is_between client asset x ≡ false → theirs (with_event_at i e table) ≡ theirs table
+  pub other_changes : (table : List Session) (i : ℕ) (e : SessionEvent) (x : Session) → slice_get table i ≡ Some x → is_between client site x ≡ false → theirs (with_event_at i e table) ≡ theirs table
   other_changes table i e x at other =
       let a = around_theirs table i x at in
       a.changed e ∙ ap (λ b. a.front ++ cond b (record x { events = replaced e x.events } ∷ a.back) a.back) other ∙ sym (a.is ∙ ap (λ b. a.front ++ cond b (x ∷ a.back) a.back) other)
@@ -150,11 +150,11 @@ module _ (client asset : Endpoint) where
 
 pub each_has_a_life : EachHasALife
 each_has_a_life events place s h =
-    let own : is_between (client_of s.flow) s.flow.asset.endpoint s ≡ true = let x = same_self (client_of s.flow) in let y = same_self s.flow.asset.endpoint in rw (x, y) refl in
-    let a = around_theirs (client_of s.flow) s.flow.asset.endpoint (sessions_of events) place s h in
+    let own : is_between (client_of s.flow) s.flow.site.first.endpoint s ≡ true = let x = same_self (client_of s.flow) in let y = same_self s.flow.site.first.endpoint in rw (x, y) refl in
+    let a = around_theirs (client_of s.flow) s.flow.site.first.endpoint (sessions_of events) place s h in
     record { before = a.front; later = a.back; are = a.is ∙ ap (λ b. a.front ++ cond b (s ∷ a.back) a.back) own }
 
 -- what holds of each session holds of one that has a life
 pub of_life : (P : Session → Type 0) (s : Session) (events : List RunEvent) (life : HasLife s events) → AllByRecursion P (sessions_of events) → P s
 of_life P s events life all =
-    (all_back P life.before (s ∷ life.later) (subst (AllByRecursion P) life.are (all_filtered P (is_between (client_of s.flow) s.flow.asset.endpoint) (sessions_of events) all))).0
+    (all_back P life.before (s ∷ life.later) (subst (AllByRecursion P) life.are (all_filtered P (is_between (client_of s.flow) s.flow.site.first.endpoint) (sessions_of events) all))).0

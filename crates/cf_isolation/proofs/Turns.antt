@@ -1,4 +1,4 @@
--- What the two halves of an event do to the sessions of a client and an asset, and what these put out.
+-- What the two halves of an event do to the sessions of a client and a site, and what these put out.
 use Rattle.std.proofs.Common.{◌≡◌, ℕ, ◌+◌, ◌<◌, ◌≤◌, ◌&&◌, Bool, true, false, not, List, [], ◌∷◌, ◌++◌, cond, Option, Some, None, Result, refl, sym, ap, ◌∙◌, subst, append_assoc, arith, filter, slice_get}
 use Rattle.cf_isolation.proofs.Common.{AllByRecursion, AreTicks, Asset, Begun, Dropped, Endpoint, Flow, GoesOnAt, HasEvents, IsBeginning, IsPacket, IsTick, NoRoom, NoSession, PacketRefusal, PacketValue, Received, ReceivesRecord, Session, SessionEvent, Side, Went, and_parts, append-nil, begins_theirs, born_at, client_of, filter-append, goes_to_theirs, is_between, is_expired, is_flow_of, is_theirs, kept, leaves, left_by_packet, remove, same_endpoint, same_is, session_at, stays, ticked, ticks_of, with_event_at, with_events}
 use Rattle.std.specs.Option.{is_some}
@@ -29,9 +29,9 @@ module _ {X : Type 0} (o : Output X) where
   abbrev MovesTo : List Session → List Session → List X → ℕ → ℕ → Type 0
   MovesTo before after more until now = Moves o.at own_of before after more until now
 
-  module _ (limit : ℕ) (client asset : Endpoint) (tick : ℕ) where
+  module _ (limit : ℕ) (client site : Endpoint) (tick : ℕ) where
     abbrev mine : List Session → List Session
-    mine ss = filter (is_between client asset) ss
+    mine ss = filter (is_between client site) ss
 
     -- ---- whom the packet finds
 
@@ -76,22 +76,22 @@ module _ {X : Type 0} (o : Output X) where
       exp s = is_expired s.flow s.events tick
 
       abbrev U : List SessionEvent
-      U = ticks_of client asset (kept tick table) ticks
+      U = ticks_of client site (kept tick table) ticks
 
       expired_mine : mine (filter exp table) ≡ filter exp (mine table)
-      expired_mine = filter_swap (is_between client asset) exp table
+      expired_mine = filter_swap (is_between client site) exp table
 
       kept_mine : mine (kept tick table) ≡ filter (λ s. not (exp s)) (mine table)
-      kept_mine = filter_swap (is_between client asset) (λ s. not (exp s)) table
+      kept_mine = filter_swap (is_between client site) (λ s. not (exp s)) table
 
       next_mine : mine (with_events (kept tick table) ticks) ≡ with_events (mine (kept tick table)) U
-      next_mine = next_are client asset tick (kept tick table) ticks are
+      next_mine = next_are client site tick (kept tick table) ticks are
 
       cut_mine : mine (filter leaves (with_events (kept tick table) ticks)) ≡ filter leaves (with_events (mine (kept tick table)) U)
-      cut_mine = filter_swap (is_between client asset) leaves (with_events (kept tick table) ticks) ∙ ap (filter leaves) next_mine
+      cut_mine = filter_swap (is_between client site) leaves (with_events (kept tick table) ticks) ∙ ap (filter leaves) next_mine
 
       found_mine : mine (ticked ticks tick table) ≡ filter stays (with_events (mine (kept tick table)) U)
-      found_mine = filter_swap (is_between client asset) stays (with_events (kept tick table) ticks) ∙ ap (filter stays) next_mine
+      found_mine = filter_swap (is_between client site) stays (with_events (kept tick table) ticks) ∙ ap (filter stays) next_mine
 
       -- none of theirs has a first half
       nobody_ticks : (one : List Session) → mine table ≡ one → filter exp one ≡ one → filter (λ s. not (exp s)) one ≡ [] → c ≡ [] → First table ticks c until
@@ -158,7 +158,7 @@ module _ {X : Type 0} (o : Output X) where
             }
 
       mine_are : AreTicks tick (mine (kept tick table)) U
-      mine_are = ticks_are client asset tick (kept tick table) ticks are
+      mine_are = ticks_are client site tick (kept tick table) ticks are
 
       none_ticks : mine (kept tick table) ≡ [] → U ≡ []
       none_ticks h = subst (λ l. AreTicks tick l U) h mine_are
@@ -225,20 +225,20 @@ module _ {X : Type 0} (o : Output X) where
       abbrev new_one : Flow → SessionEvent → Session
       new_one f e = record { flow = f; events = e ∷ [] }
 
-      place_same : (f : Flow) → is_flow_of client asset f ≡ true → place_of (client_of f) f.asset.endpoint found ≡ place_of client asset found
+      place_same : (f : Flow) → is_flow_of client site f ≡ true → place_of (client_of f) f.site.first.endpoint found ≡ place_of client site found
       place_same f is =
-          let parts = and_parts (same_endpoint (client_of f) client) (same_endpoint f.asset.endpoint asset) is in
-          ap (λ x. place_of x f.asset.endpoint found) (same_is (client_of f) client parts.0) ∙ ap (λ x. place_of client x found) (same_is f.asset.endpoint asset parts.1)
+          let parts = and_parts (same_endpoint (client_of f) client) (same_endpoint f.site.first.endpoint site) is in
+          ap (λ x. place_of x f.site.first.endpoint found) (same_is (client_of f) client parts.0) ∙ ap (λ x. place_of client x found) (same_is f.site.first.endpoint site parts.1)
 
       begun_own : (f : Flow) (e : SessionEvent) → IsBeginning f tick e → o.own f (e ∷ []) ≡ o.second f [] e
       begun_own f e h = o.own_more f e [] ∙ ap (λ xs. xs ++ (o.first f e ++ o.second f [] e)) (o.own_none f) ∙ ap (λ xs. xs ++ o.second f [] e) (o.no_first f tick e h)
 
-      begun_by : (f : Flow) (e : SessionEvent) → is_flow_of client asset f ≡ true → IsBeginning f tick e → c ≡ o.second f [] e → (gives : (left : List Session) × (mine (left_by_packet (Begun f e) found) ≡ left)
-          × (mine (without (client_of f) f.asset.endpoint found) ≡ []) × (mine found ≡ left)) → Second found (Begun f e) c
+      begun_by : (f : Flow) (e : SessionEvent) → is_flow_of client site f ≡ true → IsBeginning f tick e → c ≡ o.second f [] e → (gives : (left : List Session) × (mine (left_by_packet (Begun f e) found) ≡ left)
+          × (mine (without (client_of f) f.site.first.endpoint found) ≡ []) × (mine found ≡ left)) → Second found (Begun f e) c
       begun_by f e is h c_is (left, gone, rest, all) =
           let new = new_one f e in
           let after : mine (after_received (Begun f e) found) ≡ new ∷ [] =
-          filter-append (is_between client asset) (without (client_of f) f.asset.endpoint found) (new ∷ []) ∙ ap (λ l. l ++ mine (new ∷ [])) rest ∙ filter_one (is_between client asset) true new is in
+          filter-append (is_between client site) (without (client_of f) f.site.first.endpoint found) (new ∷ []) ∙ ap (λ l. l ++ mine (new ∷ [])) rest ∙ filter_one (is_between client site) true new is in
           let born_is : born new ≡ tick + 1 = ap (λ x. x.tick + 1) h.client in
           record {
             left = left;
@@ -252,28 +252,28 @@ module _ {X : Type 0} (o : Output X) where
                 (at_within (tick + 1) (born new) (tick + 2) c (omega (arith, born_is)) (omega arith) c_at));
           }
 
-      begun_gives : (f : Flow) (e : SessionEvent) → is_flow_of client asset f ≡ true → Here found → (left : List Session) × (mine (left_by_packet (Begun f e) found) ≡ left)
-          × (mine (without (client_of f) f.asset.endpoint found) ≡ []) × (mine found ≡ left)
+      begun_gives : (f : Flow) (e : SessionEvent) → is_flow_of client site f ≡ true → Here found → (left : List Session) × (mine (left_by_packet (Begun f e) found) ≡ left)
+          × (mine (without (client_of f) f.site.first.endpoint found) ≡ []) × (mine found ≡ left)
       begun_gives f e is (nobody h) =
-          let gives = gives_none client asset found (place_of client asset found) refl h in
+          let gives = gives_none client site found (place_of client site found) refl h in
           let place = place_same f is in
           ([], ap (λ o. mine (session_at found o)) place ∙ gives.gone, ap (λ o. mine (elim o [ Some i ↦ remove found i | None ↦ found ])) place ∙ gives.stays, h)
       begun_gives f e is (going s t h right tick_is none) =
-          let gives = gives_theirs client asset found (ticked_one s t) (place_of client asset found) refl h in
+          let gives = gives_theirs client site found (ticked_one s t) (place_of client site found) refl h in
           let place = place_same f is in
           (ticked_one s t ∷ [], ap (λ o. mine (session_at found o)) place ∙ gives.gone, ap (λ o. mine (elim o [ Some i ↦ remove found i | None ↦ found ])) place ∙ gives.stays, h)
 
       -- another's does
-      begun_other : (f : Flow) (e : SessionEvent) → is_flow_of client asset f ≡ false → c ≡ [] → Second found (Begun f e) c
+      begun_other : (f : Flow) (e : SessionEvent) → is_flow_of client site f ≡ false → c ≡ [] → Second found (Begun f e) c
       begun_other f e other empty =
-          let apart : (s : Session) → is_between (client_of f) f.asset.endpoint s ≡ true → is_between client asset s ≡ false = λ s h.
-          let parts = and_parts (same_endpoint (client_of s.flow) (client_of f)) (same_endpoint s.flow.asset.endpoint f.asset.endpoint) h in
-          ap (λ x. same_endpoint x client && same_endpoint s.flow.asset.endpoint asset) (same_is (client_of s.flow) (client_of f) parts.0)
-          ∙ ap (λ x. same_endpoint (client_of f) client && same_endpoint x asset) (same_is s.flow.asset.endpoint f.asset.endpoint parts.1) ∙ other in
-          let gives = gives_other client asset (client_of f) f.asset.endpoint found apart (place_of (client_of f) f.asset.endpoint found) refl in
+          let apart : (s : Session) → is_between (client_of f) f.site.first.endpoint s ≡ true → is_between client site s ≡ false = λ s h.
+          let parts = and_parts (same_endpoint (client_of s.flow) (client_of f)) (same_endpoint s.flow.site.first.endpoint f.site.first.endpoint) h in
+          ap (λ x. same_endpoint x client && same_endpoint s.flow.site.first.endpoint site) (same_is (client_of s.flow) (client_of f) parts.0)
+          ∙ ap (λ x. same_endpoint (client_of f) client && same_endpoint x site) (same_is s.flow.site.first.endpoint f.site.first.endpoint parts.1) ∙ other in
+          let gives = gives_other client site (client_of f) f.site.first.endpoint found apart (place_of (client_of f) f.site.first.endpoint found) refl in
           quiet (Begun f e) gives.gone
-          (filter-append (is_between client asset) (without (client_of f) f.asset.endpoint found) (new_one f e ∷ []) ∙ ap (λ l. mine (without (client_of f) f.asset.endpoint found) ++ l)
-          (filter_one (is_between client asset) false (new_one f e) other) ∙ append-nil _ ∙ gives.stays) empty
+          (filter-append (is_between client site) (without (client_of f) f.site.first.endpoint found) (new_one f e ∷ []) ∙ ap (λ l. mine (without (client_of f) f.site.first.endpoint found) ++ l)
+          (filter_one (is_between client site) false (new_one f e) other) ∙ append-nil _ ∙ gives.stays) empty
 
       -- their session's event goes on
       abbrev went_one : Session → SessionEvent → Session
@@ -283,10 +283,10 @@ module _ {X : Type 0} (o : Output X) where
           (none : t.cut ≡ None) (from : Side) (p : PacketValue) (on : IsPacket s.flow limit s.events t from p e) (changed : mine (with_event_at i e found) ≡ went_one s e ∷ [])
           (c_is : c ≡ o.second s.flow s.events e) where
         gone_one : mine (left_by_packet (Went i e) found) ≡ filter leaves (went_one s e ∷ [])
-        gone_one = filter_swap (is_between client asset) leaves (with_event_at i e found) ∙ ap (filter leaves) changed
+        gone_one = filter_swap (is_between client site) leaves (with_event_at i e found) ∙ ap (filter leaves) changed
 
         after_one : mine (after_received (Went i e) found) ≡ filter stays (went_one s e ∷ [])
-        after_one = filter_swap (is_between client asset) stays (with_event_at i e found) ∙ ap (filter stays) changed
+        after_one = filter_swap (is_between client site) stays (with_event_at i e found) ∙ ap (filter stays) changed
 
         went_moves : (past : List Session) → MovesTo (past ++ mine found) (past ++ went_one s e ∷ []) c (tick + 1) (tick + 2)
         went_moves past =
@@ -312,42 +312,42 @@ module _ {X : Type 0} (o : Output X) where
               moves = λ past. subst (λ l. MovesTo (past ++ mine found) (past ++ went_one s e ∷ l) c (tick + 1) (tick + 2)) (sym after) (went_moves past);
             }
 
-      went_theirs : (i : ℕ) (e : SessionEvent) (x : Session) → slice_get found i ≡ Some x → is_between client asset x ≡ true → (from : Side) (p : PacketValue) →
+      went_theirs : (i : ℕ) (e : SessionEvent) (x : Session) → slice_get found i ≡ Some x → is_between client site x ≡ true → (from : Side) (p : PacketValue) →
           GoesOnWith limit from p e x.flow x.events → c ≡ o.second x.flow (behind x.events) e → Here found → Second found (Went i e) c
-      went_theirs i e x at_i passes from p on c_is (nobody h) = absurd (none_changes client asset found i x at_i passes h)
+      went_theirs i e x at_i passes from p on c_is (nobody h) = absurd (none_changes client site found i x at_i passes h)
       went_theirs i e x at_i passes from p on c_is (going s t h right tick_is none) =
-          let changes = own_changes client asset found i e x (ticked_one s t) at_i passes h in
+          let changes = own_changes client site found i e x (ticked_one s t) at_i passes h in
           let goes : IsPacket s.flow limit s.events t from p e = subst (λ (y : Session). GoesOnWith limit from p e y.flow y.events) changes.0 on in
           let put_is : c ≡ o.second s.flow s.events e = c_is ∙ ap (λ (y : Session). o.second y.flow (behind y.events) e) changes.0 in
           went_by i e s t h right tick_is none from p goes changes.1.after put_is (stays (went_one s e)) refl
 
-      went_other : (i : ℕ) (e : SessionEvent) (x : Session) → slice_get found i ≡ Some x → is_between client asset x ≡ false → c ≡ [] → Second found (Went i e) c
+      went_other : (i : ℕ) (e : SessionEvent) (x : Session) → slice_get found i ≡ Some x → is_between client site x ≡ false → c ≡ [] → Second found (Went i e) c
       went_other i e x at_i other empty =
-          let same = other_changes client asset found i e x at_i other in
-          quiet (Went i e) (filter_swap (is_between client asset) leaves (with_event_at i e found) ∙ ap (filter leaves) same ∙ here_none here)
-          (filter_swap (is_between client asset) stays (with_event_at i e found) ∙ ap (filter stays) same ∙ here_stay here) empty
+          let same = other_changes client site found i e x at_i other in
+          quiet (Went i e) (filter_swap (is_between client site) leaves (with_event_at i e found) ∙ ap (filter leaves) same ∙ here_none here)
+          (filter_swap (is_between client site) stays (with_event_at i e found) ∙ ap (filter stays) same ∙ here_stay here) empty
 
       -- what is put out, by what the packet is to theirs
       abbrev of_theirs : (goes begins : Bool) → Received → List X
       of_theirs goes begins r = cond goes (o.put found r) [] ++ cond begins (o.put found r) []
 
       went_if : (i : ℕ) (e : SessionEvent) (x : Session) → slice_get found i ≡ Some x → (from : Side) (p : PacketValue) → GoesOnWith limit from p e x.flow x.events →
-          (b : Bool) → is_between client asset x ≡ b → c ≡ of_theirs b false (Went i e) → Second found (Went i e) c
+          (b : Bool) → is_between client site x ≡ b → c ≡ of_theirs b false (Went i e) → Second found (Went i e) c
       went_if i e x at_i from p on true passes c_is = went_theirs i e x at_i passes from p on (c_is ∙ append-nil _ ∙ o.put_went found i e x at_i) here
       went_if i e x at_i from p on false other c_is = went_other i e x at_i other c_is
 
       went_at : (i : ℕ) (e : SessionEvent) (o : Option Session) → slice_get found i ≡ o → (from : Side) (p : PacketValue) → GoesOnAt limit from p e o →
-          c ≡ of_theirs (is_theirs client asset o) false (Went i e) → Second found (Went i e) c
+          c ≡ of_theirs (is_theirs client site o) false (Went i e) → Second found (Went i e) c
       went_at i e None at_i from p on c_is = absurd on
-      went_at i e (Some x) at_i from p on c_is = went_if i e x at_i from p on (is_between client asset x) refl c_is
+      went_at i e (Some x) at_i from p on c_is = went_if i e x at_i from p on (is_between client site x) refl c_is
 
-      begun_if : (f : Flow) (e : SessionEvent) → IsBeginning f tick e → (b : Bool) → is_flow_of client asset f ≡ b → c ≡ of_theirs false b (Begun f e) → Second found (Begun f e) c
+      begun_if : (f : Flow) (e : SessionEvent) → IsBeginning f tick e → (b : Bool) → is_flow_of client site f ≡ b → c ≡ of_theirs false b (Begun f e) → Second found (Begun f e) c
       begun_if f e h true is c_is = begun_by f e is h (c_is ∙ o.put_begun found f e) (begun_gives f e is here)
       begun_if f e h false other c_is = begun_other f e other c_is
 
       pub second_turn : (assets : List Asset) (p : Result PacketValue PacketRefusal) (r : Received) → ReceivesRecord assets limit tick found p r →
-          c ≡ of_theirs (goes_to_theirs client asset found r) (begins_theirs client asset r) r → Second found r c
+          c ≡ of_theirs (goes_to_theirs client site found r) (begins_theirs client site r) r → Second found r c
       second_turn assets =
-          receives assets limit tick found (λ r. c ≡ of_theirs (goes_to_theirs client asset found r) (begins_theirs client asset r) r → Second found r c)
-          (quiet Dropped refl refl, quiet NoRoom refl refl, quiet NoSession refl refl) (λ f e b c_is. begun_if f e b (is_flow_of client asset f) refl c_is)
+          receives assets limit tick found (λ r. c ≡ of_theirs (goes_to_theirs client site found r) (begins_theirs client site r) r → Second found r c)
+          (quiet Dropped refl refl, quiet NoRoom refl refl, quiet NoSession refl refl) (λ f e b c_is. begun_if f e b (is_flow_of client site f) refl c_is)
           (λ i e from p on c_is. went_at i e (slice_get found i) refl from p on c_is)

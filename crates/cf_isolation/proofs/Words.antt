@@ -1,7 +1,7 @@
 -- The words of a line of the log: they tell its moment, its client and its asset's name.
 use Rattle.std.proofs.Common.{◌≡◌, ℕ, ◌+◌, ◌*◌, ◌/◌, ◌%◌, ◌^◌, ◌<◌, ◌==◌, ◌&&◌, Bool, true, false, not, List, [], ◌∷◌, ◌++◌, cond, refl, sym, ap, ◌∙◌, subst, append_assoc, arith, bytes_eq, codes, decimal, filter}
 use Rattle.cf_isolation.proofs.Common.{AllByRecursion, Endpoint, and_parts, append-nil, filter-append, moment_in, names_both, nat_tests, same_endpoint, same_is, true≢false}
-use Rattle.std.specs.List.{list_all}
+use Rattle.std.specs.List.{list_all, list_any}
 use Rattle.std.specs.Char.{digit_value}
 use Rattle.std.specs.Str.Parse.{AllDigits, digits_value, digits_value_after}
 use Rattle.std.proofs.lemmas.Bool.{false_from_ne_true, ne_eqb}
@@ -227,8 +227,9 @@ module _ (l : LineValue) (moment : IsMoment l.moment) (client : IsEndpoint l.cli
           let is = endpoint_is l.client other client h ((bytes_eq-Decides (endpoint_text l.client) (endpoint_text other)).0 yes) in
           true≢false (sym (ap (λ x. same_endpoint x other) is ∙ same_self other) ∙ e))
 
-  pub names_is : (other : Endpoint) (text : List ℕ) → IsEndpoint other → names_both other text (line_text l) ≡ (same_endpoint l.client other && bytes_eq l.asset text)
-  names_is other text h =
-      ap (λ word. bytes_eq word (endpoint_text other) && bytes_eq (first_word (behind_word (behind_word (line_text l)))) text) second_is
-      ∙ ap (λ word. bytes_eq (endpoint_text l.client) (endpoint_text other) && bytes_eq word text) third_is
-      ∙ ap (λ b. b && bytes_eq l.asset text) (same_text other h)
+  pub names_is : (other : Endpoint) (names : List (List ℕ)) → IsEndpoint other →
+      names_both other names (line_text l) ≡ (same_endpoint l.client other && list_any (λ name. bytes_eq l.asset name) names)
+  names_is other names h =
+      ap (λ word. bytes_eq word (endpoint_text other) && list_any (λ name. bytes_eq (first_word (behind_word (behind_word (line_text l)))) name) names) second_is
+      ∙ ap (λ word. bytes_eq (endpoint_text l.client) (endpoint_text other) && list_any (λ name. bytes_eq word name) names) third_is
+      ∙ ap (λ b. b && list_any (λ name. bytes_eq l.asset name) names) (same_text other h)

@@ -110,5 +110,6 @@ rows_hold = record {
   moment = refl;
   other_port = refl;
   other_asset = refl;
+  other_names = refl;
   other_time = refl;
 }

@@ -2,7 +2,7 @@
 -- output capture between its two endpoints, and they are what its own events sent.
 --
 -- A session's time in a run goes from the moment of the record in which it began to that of any record before the one in which the next
--- session of its client and asset begins: the records that are considered, `HasSession` of `cf_run`. The next session of theirs has the
+-- session of its client and site begins: the records that are considered, `HasSession` of `cf_run`. The next session of theirs has the
 -- same two endpoints, and all that it sends goes out after that time. In the record in which the next one begins the session may still
 -- have a first half, a microsecond before the packet, and the time then goes on up to that half.
 use Rattle.std.specs.Prelude.{◌≡◌, ◌<◌, ◌≤◌, ◌^◌, ℕ, List, [], ◌∷◌, ◌++◌, drop, length, map}
@@ -31,7 +31,7 @@ began_at has = has.first.input.moment
 abbrev pub seen_until : {flow : Flow} → {events : List RunEvent} → HasSession flow events → ℕ
 seen_until has = last_moment (has.later ++ has.first ∷ has.earlier)
 
--- the event after those that are considered. Where the next session of the same client and asset begins in it, its first half is the
+-- the event after those that are considered. Where the next session of the same client and site begins in it, its first half is the
 -- last that this session has
 pub record NextEvent {flow : Flow} {events : List RunEvent} (has : HasSession flow events) : Type 0 where
   pub after : List RunEvent
@@ -48,13 +48,13 @@ pub record HaveOneTime {events others : List RunEvent} (flow : Flow)
 
 -- all that it sent between the endpoints of a session, in the session's time
 abbrev pub sent_in_time : {events : List RunEvent} → (flow : Flow) → HasSession flow events → List Sent
-sent_in_time {events} flow has = sent_between (client_of flow) flow.asset.endpoint (began_at has) (seen_until has) (sent events)
+sent_in_time {events} flow has = sent_between (client_of flow) flow.site.first.endpoint (began_at has) (seen_until has) (sent events)
 
 -- what a session sends in the first half of the event that comes next
 abbrev pub sent_last : {events : List RunEvent} → (flow : Flow) → (has : HasSession flow events) → NextEvent has → List Sent
 sent_last flow has behind =
     let table = kept (tick_of behind.next.input) (table_after (has.later ++ has.first ∷ has.earlier)) in
-    flat_map sent_first (ticks_of (client_of flow) flow.asset.endpoint table behind.next.ticks)
+    flat_map sent_first (ticks_of (client_of flow) flow.site.first.endpoint table behind.next.ticks)
 
 -- ---- the output capture
 
@@ -75,7 +75,7 @@ CapturesHoldSessions =
     (assets : List Asset) (limit : ℕ) (given : List Input) (out log : List ℕ) (summary : Summary)
     (run : IsRun assets limit given out log summary) → IsInTime given out → (records : List Record) → HasWrittenRecords out records →
     (flow : Flow) (has : HasSession flow run.events) →
-    records_between (client_of flow) flow.asset.endpoint (began_at has) (seen_until has) records ≡ map record_by (session_sent flow has)
+    records_between (client_of flow) flow.site.first.endpoint (began_at has) (seen_until has) records ≡ map record_by (session_sent flow has)
 
 -- the output capture holds a session's records up to the first half of the event that comes next
 abbrev pub CapturesHoldToTheNext : Type 0
@@ -83,7 +83,7 @@ CapturesHoldToTheNext =
     (assets : List Asset) (limit : ℕ) (given : List Input) (out log : List ℕ) (summary : Summary)
     (run : IsRun assets limit given out log summary) → IsInTime given out → (records : List Record) → HasWrittenRecords out records →
     (flow : Flow) (has : HasSession flow run.events) (behind : NextEvent has) →
-    records_between (client_of flow) flow.asset.endpoint (began_at has) (tick_of behind.next.input) records
+    records_between (client_of flow) flow.site.first.endpoint (began_at has) (tick_of behind.next.input) records
     ≡ map record_by (session_sent flow has ++ sent_last flow has behind)
 
 -- two sessions as above: the two output captures have the same records between their endpoints in that time
@@ -96,5 +96,5 @@ CapturesAreIsolated =
     (records others : List Record) → HasWrittenRecords out records → HasWrittenRecords other_out others →
     (flow : Flow) (one : HasSession flow run.events) (other : HasSession flow other_run.events) →
     length one.earlier ≡ length other.earlier → AreMatchedAlike assets flow one other →
-    records_between (client_of flow) flow.asset.endpoint (began_at one) (seen_until one) records
-    ≡ records_between (client_of flow) flow.asset.endpoint (began_at one) (seen_until one) others
+    records_between (client_of flow) flow.site.first.endpoint (began_at one) (seen_until one) records
+    ≡ records_between (client_of flow) flow.site.first.endpoint (began_at one) (seen_until one) others

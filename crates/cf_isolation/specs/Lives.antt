@@ -2,7 +2,7 @@
 -- AlikeInLines. A session is one of `sessions_of` of `cf_run`, with its own events.
 --
 -- A life goes from the moment of the record in which the session began to before that of the record in which the next session of the
--- same client and asset begins, or to the end.
+-- same client and site begins, or to the end.
 use Rattle.std.specs.Prelude.{◌≡◌, ℕ, nat_le, nat_lt, Bool, ◌&&◌, List, [], ◌∷◌, ◌++◌, filter, map, slice_get, Some}
 use Rattle.std.specs.List.{AllByRecursion}
 use Rattle.cf_leg.specs.Event.{moment}
@@ -20,7 +20,7 @@ use Rattle.cf_session.specs.Sent.{Sent, logged_first, logged_second, sent_first,
 use Rattle.cf_session.specs.Session.{Flow, SessionEvent, client_of}
 use Rattle.cf_view.specs.declared.Endpoint.{Endpoint}
 use Rattle.cf_isolation.specs.Isolated.{HasWrittenRecords, IsInTime}
-use Rattle.cf_isolation.specs.Lines.{moment_in, names_both}
+use Rattle.cf_isolation.specs.Lines.{moment_in, names_both, names_of}
 use Rattle.cf_isolation.specs.Logged.{IsReadInput}
 use Rattle.cf_isolation.specs.Records.{goes_between, is_packet_between}
 
@@ -44,15 +44,15 @@ born_at (event ∷ (before ∷ earlier)) = born_at (before ∷ earlier)
 
 -- ---- its life
 
--- the sessions of a client and an asset, in the order in which they began
-abbrev pub sessions_between : (client asset : Endpoint) → List RunEvent → List Session
-sessions_between client asset events = filter (is_between client asset) (sessions_of events)
+-- the sessions of a client and a site, in the order in which they began
+abbrev pub sessions_between : (client site : Endpoint) → List RunEvent → List Session
+sessions_between client site events = filter (is_between client site) (sessions_of events)
 
 -- the session is one of them, and these of theirs began after it
 pub record HasLife (session : Session) (events : List RunEvent) : Type 0 where
   pub before : List Session
   pub later : List Session
-  pub are : sessions_between (client_of session.flow) session.flow.asset.endpoint events ≡ before ++ session ∷ later
+  pub are : sessions_between (client_of session.flow) session.flow.site.first.endpoint events ≡ before ++ session ∷ later
 
 -- each session that there was has one
 abbrev pub EachHasALife : Type 0
@@ -70,23 +70,23 @@ is_in_life born (next ∷ later) moment = nat_le born moment && nat_lt moment (b
 abbrev pub sent_in_life : {events : List RunEvent} → (session : Session) → HasLife session events → List Sent
 sent_in_life {events} session life =
     let client = client_of session.flow in
-    let asset = session.flow.asset.endpoint in
-    filter (λ s. goes_between client asset s.packet && is_in_life (born_at session.events) life.later s.moment) (sent events)
+    let site = session.flow.site.first.endpoint in
+    filter (λ s. goes_between client site s.packet && is_in_life (born_at session.events) life.later s.moment) (sent events)
 
 -- the records of its output capture in a session's life
 abbrev pub records_in_life : {events : List RunEvent} → (session : Session) → HasLife session events → List Record → List Record
 records_in_life session life records =
     let client = client_of session.flow in
-    let asset = session.flow.asset.endpoint in
-    filter (λ r. is_packet_between client asset (read_record r.link r.body) && is_in_life (born_at session.events) life.later r.stamp)
+    let site = session.flow.site.first.endpoint in
+    filter (λ r. is_packet_between client site (read_record r.link r.body) && is_in_life (born_at session.events) life.later r.stamp)
     records
 
 -- the lines of its log in a session's life
 abbrev pub lines_in_life : {events : List RunEvent} → (session : Session) → HasLife session events → List (List ℕ)
 lines_in_life {events} session life =
     let client = client_of session.flow in
-    let name = session.flow.asset.name in
-    filter (λ line. names_both client name line && is_in_life (born_at session.events) life.later (moment_in line)) (logged events)
+    let names = names_of session.flow.site in
+    filter (λ line. names_both client names line && is_in_life (born_at session.events) life.later (moment_in line)) (logged events)
 
 -- the records of the output capture between the ends of a session, in its life, are the records of what it sent
 abbrev pub EachHasRecords : Type 0
@@ -96,7 +96,7 @@ EachHasRecords =
     (session : Session) (life : HasLife session run.events) →
     records_in_life session life records ≡ map record_by (own_sent session.events)
 
--- the lines that name its client and asset, in its life, are those that its own events logged, in their order
+-- the lines that name its client and an asset of its site, in its life, are those that its own events logged, in their order
 abbrev pub EachLogged : Type 0
 EachLogged =
     (assets : List Asset) (limit : ℕ) (given : List Input) (out log : List ℕ) (summary : Summary)

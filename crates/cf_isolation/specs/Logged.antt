@@ -13,11 +13,11 @@ use Rattle.cf_run.specs.Trace.{RunEvent, Input, kept, logged, logged_ticks, tabl
 use Rattle.cf_run.specs.declared.summary.Summary.{Summary}
 use Rattle.cf_session.specs.Session.{Flow, client_of}
 use Rattle.cf_isolation.specs.Isolated.{HaveOneTime, NextEvent, began_at, seen_until}
-use Rattle.cf_isolation.specs.Lines.{lines_naming}
+use Rattle.cf_isolation.specs.Lines.{lines_naming, names_of}
 
--- all lines of a run that name a session's client and its asset, in the session's time
+-- all lines of a run that name a session's client and an asset of its site, in the session's time
 abbrev pub logged_in_time : {events : List RunEvent} → (flow : Flow) → HasSession flow events → List (List ℕ)
-logged_in_time {events} flow has = lines_naming (client_of flow) flow.asset.name (began_at has) (seen_until has) (logged events)
+logged_in_time {events} flow has = lines_naming (client_of flow) (names_of flow.site) (began_at has) (seen_until has) (logged events)
 
 -- a record is in time, and its packet, if it is one, has fields of their types, as one that was read from octets
 pub record IsReadInput (input : Input) : Type 0 where
@@ -35,8 +35,8 @@ LogsHoldSessions =
 abbrev pub logged_last : {events : List RunEvent} → (flow : Flow) → (has : HasSession flow events) → NextEvent has → List (List ℕ)
 logged_last flow has behind =
     let table = kept (tick_of behind.next.input) (table_after (has.later ++ has.first ∷ has.earlier)) in
-    logged_ticks (filter (is_between (client_of flow) flow.asset.endpoint) table)
-    (ticks_of (client_of flow) flow.asset.endpoint table behind.next.ticks)
+    logged_ticks (filter (is_between (client_of flow) flow.site.first.endpoint) table)
+    (ticks_of (client_of flow) flow.site.first.endpoint table behind.next.ticks)
 
 -- a log holds a session's lines up to the packet that begins the next session of theirs
 abbrev pub LogsHoldToTheNext : Type 0
@@ -44,10 +44,10 @@ LogsHoldToTheNext =
     (assets : List Asset) (limit : ℕ) (given : List Input) (out log : List ℕ) (summary : Summary)
     (run : IsRun assets limit given out log summary) → AreAssetsWithin assets → AllByRecursion IsReadInput given →
     (flow : Flow) (has : HasSession flow run.events) (behind : NextEvent has) →
-    lines_naming (client_of flow) flow.asset.name (began_at has) (tick_of behind.next.input) (logged run.events)
+    lines_naming (client_of flow) (names_of flow.site) (began_at has) (tick_of behind.next.input) (logged run.events)
     ≡ session_logged flow has ++ logged_last flow has behind
 
--- two runs of one policy with equal moments: a session of the one and a session of the other, of the same client and asset, which
+-- two runs of one policy with equal moments: a session of the one and a session of the other, of the same client and site, which
 -- began in the same event by the same packet, have one time up to the last event before which they are matched alike, and in it the
 -- two logs have the same lines that name them, in the same order. The rest of the two captures may differ in every way
 abbrev pub LogsAreIsolated : Type 0

@@ -4,13 +4,14 @@
 -- what it proves of itself; here stands what the laws say of them.
 use Rattle.cf_audit.specs.declared.CutReason.TheVariants as cut
 use Rattle.cf_isolation.specs.Isolated.{HaveOneTime, NextEvent, began_at, seen_until, sent_in_time, sent_last}
-use Rattle.cf_isolation.specs.Lines.{lines_naming, moment_in}
+use Rattle.cf_isolation.specs.Lines.{lines_naming, moment_in, names_of}
 use Rattle.cf_isolation.specs.Lives.{HasLife, lines_in_life, own_logged, own_sent, records_in_life, sent_in_life}
 use Rattle.cf_isolation.specs.Logged.{logged_in_time, logged_last}
 use Rattle.cf_isolation.specs.Records.{records_between, sent_between}
 use Rattle.cf_lane.specs.Rows.{modbus_asset}
 use Rattle.cf_leg.specs.Event.{Cut, Greeting, Packet, Spoke, begun, clocked}
 use Rattle.cf_packet.specs.Packet.{PacketValue}
+use Rattle.cf_policy.specs.Site.{alone as site_alone}
 use Rattle.cf_packet.specs.declared.PacketRefusal.TheVariants as refusal
 use Rattle.cf_isolation.specs.ReadBack.{record_by}
 use Rattle.cf_records.specs.Capture.{Record}
@@ -73,7 +74,7 @@ reset_back = segment pump one 0 1001 20 0 None
 
 -- the flow that a SYN of a client begins
 abbrev pub flow : Endpoint → (number : ℕ) → Flow
-flow client number = record { asset = modbus_asset; syn = asks client number }
+flow client number = record { site = site_alone modbus_asset; syn = asks client number }
 
 -- a session begins; it waits, and its SYN may go out again; its client resets it
 abbrev pub begins : Endpoint → (number tick : ℕ) → SessionEvent
@@ -215,7 +216,7 @@ pub record ShowsNext (flow : Flow) (own last : List Sent) (own_lines last_lines 
   pub own_lines_are : session_logged flow has ≡ own_lines
   pub last_lines_are : logged_last flow has behind ≡ last_lines
   pub lines_are :
-      lines_naming (client_of flow) flow.asset.name (began_at has) (tick_of behind.next.input) (logged events) ≡ own_lines ++ last_lines
+      lines_naming (client_of flow) (names_of flow.site) (began_at has) (tick_of behind.next.input) (logged events) ≡ own_lines ++ last_lines
 
 -- a session in its whole life
 pub record Lives (session : Session) (own : List Sent) (own_lines : List (List ℕ)) : Type 0 where
@@ -283,6 +284,7 @@ pub record RowsHold : Type 0 where
   pub changed : records_between one pump 0 1000000 (record { stamp = 1000000; link = link.RawIp; body = set first_octets 27 233 } ∷ []) ≡ []
   -- a line's moment, and lines of another port, another asset or another time
   pub moment : moment_in (codes "1.000002 10.0.0.5:49152 pump open\n") ≡ 1000002
-  pub other_port : lines_naming (record one { port = 4915 }) (codes "pump") 0 5000000 (logged events) ≡ []
-  pub other_asset : lines_naming one (codes "pum") 0 5000000 (logged events) ≡ []
-  pub other_time : lines_naming one (codes "pump") 1000001 2999999 (logged events) ≡ []
+  pub other_port : lines_naming (record one { port = 4915 }) (codes "pump" ∷ []) 0 5000000 (logged events) ≡ []
+  pub other_asset : lines_naming one (codes "pum" ∷ []) 0 5000000 (logged events) ≡ []
+  pub other_names : lines_naming one (codes "pum" ∷ codes "pump" ∷ []) 0 2000000 (logged events) ≡ codes "1.000000 10.0.0.5:49152 pump open\n" ∷ []
+  pub other_time : lines_naming one (codes "pump" ∷ []) 1000001 2999999 (logged events) ≡ []

@@ -1,5 +1,5 @@
 //! Laws of a run's files: each is the contract of a function that does nothing.
-//! All sessions of one client and asset are told apart by their time alone, so the laws on lines ask for assets with distinct
+//! All sessions of one client and site are told apart by their time alone, so the laws on lines ask for assets with distinct
 //! names.
 ghost use Rattle.cf_isolation.specs.FileRows.{FileRowsHold};
 ghost use Rattle.cf_isolation.specs.Isolated.{CapturesAreIsolated, CapturesHoldSessions, CapturesHoldToTheNext};
@@ -20,9 +20,9 @@ pub fn runs_are_read_back()
 }
 
 /// The records of the output capture between the two endpoints of a session are those of what the session's own events sent, in their
-/// order: in its time up to any record before the one in which the next session of its client and asset begins, up to the packet of that
+/// order: in its time up to any record before the one in which the next session of its client and site begins, up to the packet of that
 /// one, and over its whole life. So they are the same in two runs of the same policy with equal moments, of sessions of one client and
-/// asset that began in the same event by the same packet and are matched the same packets; and over whole lives, of sessions of one flow
+/// site that began in the same event by the same packet and are matched the same packets; and over whole lives, of sessions of one flow
 /// that are given the same packets at the same moments, whatever else the captures hold.
 pub fn captures_hold_sessions()
     ensures records { CapturesHoldSessions }
@@ -39,8 +39,8 @@ pub fn captures_hold_sessions()
     octets_have_one_list_of_records();
 }
 
-/// The lines of the log that name a session's client and asset are those that the session's own events logged, in these times and over its
-/// whole life; and they are the same in two runs as above.
+/// The lines of the log that name a session's client and an asset of its site are those that the session's own events logged, in these
+/// times and over its whole life; and they are the same in two runs as above.
 pub fn logs_hold_sessions()
     ensures lines { LogsHoldSessions }
     ensures lines_to_the_next { LogsHoldToTheNext }

@@ -25,9 +25,9 @@ use Rattle.cf_policy.specs.declared.Asset.{Asset}
 use Rattle.cf_policy.specs.declared.Protocol.{Protocol}
 use Rattle.cf_policy.specs.declared.Protocol.TheVariants as protocol
 use Rattle.cf_view.specs.declared.Side.TheVariants as side
-use Rattle.cf_judge.specs.Front.{IsReaderOf}
+use Rattle.cf_judge.specs.Front.{IsOwnReaderOf}
 use Rattle.cf_judge.specs.Plain.{HasPlainFate, completed_in, frame_fate}
-use Rattle.cf_judge.specs.declared.front.Reader.{Reader}
+use Rattle.cf_judge.specs.declared.front.OwnReader.{OwnReader}
 
 module _ (asset : Asset) (earlier : List Judged) where
   by_adu : (u : UnitValue) (xs : List ℕ) → SpellsUnit protocol.Modbus u xs → xs ≡ command_octets asset earlier side.Client u
@@ -63,12 +63,12 @@ module _ (asset : Asset) (says : Says) (refusal : Refusal) where
   whole (answers.Dropped why) last octets l e = cc e
   whole answers.Whole last octets l e = subst (λ o. octets ≡ flat_map (λ (xs : List ℕ). xs) (completed answers.Whole o)) (sym l) (sym (append-nil octets))
 
-module _ (asset : Asset) (client : ℕ) (earlier : List Judged) (number : ℕ) (refusal : Refusal) (r : Reader) where
+module _ (asset : Asset) (client : ℕ) (earlier : List Judged) (number : ℕ) (refusal : Refusal) (o : OwnReader) where
   is_segment : (x : FrameValue) → stray_of asset side.Client x ≡ None → is_data x ≡ true → segment_in asset side.Client (Took side.Client (Frame x)) ≡ user_of x.blocks ∷ []
   is_segment x a b = rw (a, b) refl
 
-  by_frame : (x : FrameValue) (octets : List ℕ) → ((segments : List (List ℕ)) → IsAssemblyOf r.assembly segments → last_fragment segments ≡ Some octets) →
-      IsAssemblyOf r.assembly (segments_of asset side.Client (earlier ++ completed_in number (Frame x) (fate.Refused refusal) ∷ [])) →
+  by_frame : (x : FrameValue) (octets : List ℕ) → ((segments : List (List ℕ)) → IsAssemblyOf o.assembly segments → last_fragment segments ≡ Some octets) →
+      IsAssemblyOf o.assembly (segments_of asset side.Client (earlier ++ completed_in number (Frame x) (fate.Refused refusal) ∷ [])) →
       fate.Refused refusal ≡ frame_fate asset client earlier x → octets ≡ frame_octets asset earlier side.Client x
   by_frame x octets told keeps e =
       let says = verdict_of asset client in
@@ -77,17 +77,17 @@ module _ (asset : Asset) (client : ℕ) (earlier : List Judged) (number : ℕ) (
       let more : segments_of asset side.Client (earlier ++ completed_in number (Frame x) (fate.Refused refusal) ∷ []) ≡ user_of x.blocks ∷ segments_of asset side.Client earlier =
       segments_of-more asset side.Client earlier (completed_in number (Frame x) (fate.Refused refusal)) ∙ ap (λ xs. xs ++ segments_of asset side.Client earlier) (is_segment x s.0 d.0) in
       whole asset says refusal (answer_now asset side.Client earlier x) (last_fragment (user_of x.blocks ∷ segments_of asset side.Client earlier)) octets
-      (told (user_of x.blocks ∷ segments_of asset side.Client earlier) (subst (IsAssemblyOf r.assembly) more keeps)) d.1
+      (told (user_of x.blocks ∷ segments_of asset side.Client earlier) (subst (IsAssemblyOf o.assembly) more keeps)) d.1
 
-  by_unit : (u : UnitValue) (xs octets : List ℕ) → SpellsUnit protocol.Dnp3 u xs → ((segments : List (List ℕ)) → IsAssemblyOf r.assembly segments → last_fragment segments ≡ Some octets) →
-      IsReaderOf asset client (earlier ++ completed_in number u (fate.Refused refusal) ∷ []) r → HasPlainFate asset client earlier u (fate.Refused refusal) →
+  by_unit : (u : UnitValue) (xs octets : List ℕ) → SpellsUnit protocol.Dnp3 u xs → ((segments : List (List ℕ)) → IsAssemblyOf o.assembly segments → last_fragment segments ≡ Some octets) →
+      IsOwnReaderOf asset client (earlier ++ completed_in number u (fate.Refused refusal) ∷ []) o → HasPlainFate asset client earlier u (fate.Refused refusal) →
       octets ≡ command_octets asset earlier side.Client u
   by_unit (Adu a) xs octets s told h f = absurd s
   by_unit (Frame x) xs octets s told h f = by_frame x octets told h.assembly f
   by_unit (Apdu a) xs octets s told h f = absurd s
 
   pub shown_fragment : (p : Protocol) (u : UnitValue) (xs octets : List ℕ) → p ≡ protocol.Dnp3 → SpellsUnit p u xs →
-      ((segments : List (List ℕ)) → IsAssemblyOf r.assembly segments → last_fragment segments ≡ Some octets) →
-      IsReaderOf asset client (earlier ++ completed_in number u (fate.Refused refusal) ∷ []) r → HasPlainFate asset client earlier u (fate.Refused refusal) →
+      ((segments : List (List ℕ)) → IsAssemblyOf o.assembly segments → last_fragment segments ≡ Some octets) →
+      IsOwnReaderOf asset client (earlier ++ completed_in number u (fate.Refused refusal) ∷ []) o → HasPlainFate asset client earlier u (fate.Refused refusal) →
       octets ≡ command_octets asset earlier side.Client u
   shown_fragment p u xs octets is s told h f = by_unit u xs octets (subst (λ q. SpellsUnit q u xs) is s) told h f

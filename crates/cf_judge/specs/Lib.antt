@@ -3,3 +3,4 @@ pub mod Found
 pub mod Front
 pub mod Objections
 pub mod Plain
+pub mod SiteLaws

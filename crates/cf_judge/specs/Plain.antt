@@ -1,5 +1,5 @@
--- The units of a client's bytes, each with its fate: AreRead. The fates are those of a lane, but that no rule is ever spent, and that
--- an APDU of IEC 60870-5-104 is judged by its ASDU alone.
+-- The units of a client's bytes to a site, each with its fate: AreRead. The fates are those of a lane, but that no rule is ever spent, and
+-- that an APDU of IEC 60870-5-104 is judged by its ASDU alone.
 use Rattle.std.specs.Prelude.{◌≡◌, ◌-◌, ◌<◌, ℕ, List, [], ◌∷◌, ◌++◌, drop, slice_index}
 use Rattle.cf_apci.specs.Apdu.{Ack, ApduValue, Control, Info}
 use Rattle.cf_dnplink.specs.LinkFrame.{FrameValue}
@@ -8,8 +8,11 @@ use Rattle.cf_lane.specs.Iec104.{fate_of_asdu}
 use Rattle.cf_lane.specs.Item.{Took}
 use Rattle.cf_lane.specs.Judged.{Judged}
 use Rattle.cf_lane.specs.Modbus.{HasCommandFate}
+use Rattle.cf_lane.specs.Parts.{part}
+use Rattle.cf_lane.specs.Site.{asset_for, place_for}
 use Rattle.cf_lane.specs.Unit.{Adu, Apdu, Frame, SpellsUnit, UnitValue, unit_break}
 use Rattle.cf_lane.specs.declared.fate.Fate.{Fate}
+use Rattle.cf_policy.specs.Site.{SiteValue}
 use Rattle.cf_policy.specs.Verdict.{verdict_of}
 use Rattle.cf_policy.specs.declared.Asset.{Asset}
 use Rattle.cf_view.specs.Framing.{Begins, BreaksAt, IsPartial}
@@ -27,11 +30,16 @@ fate_by_asdu asset client (Control octet) = fate.Carried
 abbrev pub frame_fate : Asset → ℕ → (earlier : List Judged) → FrameValue → Fate
 frame_fate asset client earlier x = fate_of_frame asset (verdict_of asset client) side.Client earlier x (stray_of asset side.Client x)
 
--- the fate of a client's unit after the earlier ones, by the verdict on each act
+-- the fate of a client's unit by one asset after the earlier ones, by the verdict on each act
 abbrev pub HasPlainFate : Asset → ℕ → (earlier : List Judged) → UnitValue → Fate → Type 0
 HasPlainFate asset client earlier (Adu a) f = HasCommandFate asset (verdict_of asset client) a f
 HasPlainFate asset client earlier (Frame x) f = f ≡ frame_fate asset client earlier x
 HasPlainFate asset client earlier (Apdu a) f = f ≡ fate_by_asdu asset client a
+
+-- the fate of a client's unit to a site, by the asset that it is for, after the earlier units that are for that asset
+abbrev pub HasSiteFate : SiteValue → ℕ → (earlier : List Judged) → UnitValue → Fate → Type 0
+HasSiteFate site client earlier u f =
+    HasPlainFate (asset_for site side.Client u) client (part site (place_for site side.Client u) earlier) u f
 
 -- a unit of the client with its fate, and the number of the record that completed it in the place of a moment
 abbrev pub completed_in : (record_number : ℕ) → UnitValue → Fate → Judged
@@ -43,17 +51,17 @@ pub data Ending : Type 0 where
   Breaks : (record_number : ℕ) → Break → Ending
 
 -- what follows the last unit: a proper prefix of one, or octets that break, and then the record of the octet that does
-abbrev pub HasEnding : Asset → (bytes born : List ℕ) → Ending → Type 0
-HasEnding asset bytes born Whole = IsPartial (SpellsUnit asset.protocol) bytes
-HasEnding asset bytes born (Breaks number reason) =
-    (place : ℕ) × BreaksAt (SpellsUnit asset.protocol) bytes place × (reason ≡ unit_break asset.protocol place)
+abbrev pub HasEnding : SiteValue → (bytes born : List ℕ) → Ending → Type 0
+HasEnding site bytes born Whole = IsPartial (SpellsUnit site.first.protocol) bytes
+HasEnding site bytes born (Breaks number reason) =
+    (place : ℕ) × BreaksAt (SpellsUnit site.first.protocol) bytes place × (reason ≡ unit_break site.first.protocol place)
     × (number ≡ slice_index born place)
 
 -- the units that follow each other in a client's bytes, after earlier ones, and what follows them; each byte came with the record at its
 -- place
-abbrev pub AreRead : Asset → ℕ → (earlier : List Judged) → (bytes born : List ℕ) → List Judged → Ending → Type 0
-AreRead asset client earlier bytes born [] ending = HasEnding asset bytes born ending
-AreRead asset client earlier bytes born (j ∷ js) ending =
-    (unit : UnitValue) × (n : ℕ) × Begins (SpellsUnit asset.protocol) bytes unit n × (0 < n)
-    × (j ≡ completed_in (slice_index born (n - 1)) unit j.fate) × HasPlainFate asset client earlier unit j.fate
-    × AreRead asset client (earlier ++ j ∷ []) (drop n bytes) (drop n born) js ending
+abbrev pub AreRead : SiteValue → ℕ → (earlier : List Judged) → (bytes born : List ℕ) → List Judged → Ending → Type 0
+AreRead site client earlier bytes born [] ending = HasEnding site bytes born ending
+AreRead site client earlier bytes born (j ∷ js) ending =
+    (unit : UnitValue) × (n : ℕ) × Begins (SpellsUnit site.first.protocol) bytes unit n × (0 < n)
+    × (j ≡ completed_in (slice_index born (n - 1)) unit j.fate) × HasSiteFate site client earlier unit j.fate
+    × AreRead site client (earlier ++ j ∷ []) (drop n bytes) (drop n born) js ending

@@ -1,13 +1,14 @@
 //! The judgement of watched flows.
-ghost use Rattle.std.specs.Prelude.{◌≡◌, ◌+◌, ◌^◌, ◌<◌, ◌≤◌, All, IfOk, IfSome, drop, length, map};
-ghost use Rattle.cf_policy.specs.Within.{AreAssetsWithin, IsAssetWithin};
+ghost use Rattle.std.specs.Prelude.{◌≡◌, ◌+◌, ◌^◌, ◌<◌, ◌≤◌, All, IfOk, IfSome, Some, drop, length, map, option_map};
+ghost use Rattle.cf_policy.specs.Site.{IsSiteWithin, site_from};
+ghost use Rattle.cf_policy.specs.Within.{AreAssetsWithin};
 ghost use Rattle.cf_watch.specs.FlowValue.{IsForAsset, flow_value};
-ghost use Rattle.cf_judge.specs.Found.{IsFoundIn, with_ruling, with_wrong};
-ghost use Rattle.cf_judge.specs.Objections.{IsJudgementOf, earlier, objection_by, sooner};
+ghost use Rattle.cf_judge.specs.Found.{HavePlaces, IsFoundAt, IsFoundIn, with_ruling, with_wrong};
+ghost use Rattle.cf_judge.specs.Objections.{IsJudgementOf, earlier, objected, objection_by, sooner, wrong_by};
 
 use crate::front::{Front, Reader};
 use crate::ruling::{Complaint, Ruling};
-use cf_policy::{Asset, Policy};
+use cf_policy::{Asset, Policy, Site, site_at_place};
 use cf_view::{Endpoint, NoMemory, View};
 use cf_watch::Flow;
 use std::alloc::Global;
@@ -18,7 +19,7 @@ pub struct Objection {
     /// The number, counted from 1, of the record with which it comes.
     pub at_record: u64,
     pub client: Endpoint,
-    /// The place of the asset in the policy, counted from 0.
+    /// The place in the policy, counted from 0, of the asset that it is about: that of a unit, or else the first of the flow's site.
     pub asset: u32,
     pub what: Complaint,
 }
@@ -32,10 +33,12 @@ pub struct Judged {
     pub objection: Option<Objection>,
 }
 
-/// Something that is wrong, with the number of the record with which it came.
+/// Something that is wrong in a flow, with the number of the record with which it came.
 #[derive(Clone, Copy)]
 struct Wrong {
     number: u64,
+    /// The place in the site of the asset that it is about, counted from 0.
+    place: usize,
     what: Complaint,
 }
 
@@ -46,7 +49,8 @@ struct Found {
     first: Option<Wrong>,
 }
 
-/// Judges flows, each of which is to an asset of the policy. The flows are those of a whole capture.
+/// Judges flows, each of which is to the site that begins with the asset at its place of the policy. The flows are those of a
+/// whole capture.
 pub fn judge(alloc: Global, policy: &Policy, flows: &[Flow]) -> Result<Judged, NoMemory>
     requires within { AreAssetsWithin policy.now.assets }
     requires flows { All (IsForAsset policy.now.assets) (map flow_value flows.now) }
@@ -57,7 +61,7 @@ pub fn judge(alloc: Global, policy: &Policy, flows: &[Flow]) -> Result<Judged, N
     let mut commands: u64 = 0;
     let mut objection = None;
     for flow in flows {
-        let found = judge_flow(alloc, &assets[flow.asset as usize], flow)?;
+        let found = judge_at(alloc, assets, flow)?;
         commands = commands.saturating_add(found.commands);
         objection = earlier(objection, objection_of(flow, found.first));
     }
@@ -66,6 +70,16 @@ pub fn judge(alloc: Global, policy: &Policy, flows: &[Flow]) -> Result<Judged, N
         commands,
         objection,
     })
+}
+
+/// Judges the bytes of a flow to the site at its place of the policy.
+fn judge_at(alloc: Global, assets: &[Asset], flow: &Flow) -> Result<Found, NoMemory>
+    requires within { AreAssetsWithin assets.now }
+    requires flow { IsForAsset assets.now (flow_value flow.now) }
+    ensures { IfOk result (λ found. IsFoundAt (site_from assets.now flow.now.asset) (flow_value flow.now) found) }
+{
+    let site = site_at_place(assets, flow.asset as usize);
+    judge_flow(alloc, &site, flow)
 }
 
 /// The earlier of two objections, the first where they have one record.
@@ -87,18 +101,40 @@ fn earlier(first: Option<Objection>, later: Option<Objection>) -> Option<Objecti
 
 /// The objection to a flow: its conflict, unless something about its bytes came with an earlier record.
 fn objection_of(flow: &Flow, first: Option<Wrong>) -> Option<Objection>
+    requires places { HavePlaces (2 ^ 32) flow.now.asset first }
     ensures { result ≡ objection_by (flow_value flow.now) first }
 {
-    let conflict = flow.conflict.map(|c| Wrong {
-        number: c.at_record,
-        what: Complaint::Conflict(c.position),
-    });
-    sooner(conflict, first).map(|wrong| Objection {
+    match sooner(conflict_in(flow), first) {
+        Some(wrong) => Some(objected(flow, wrong)),
+        None => None,
+    }
+}
+
+/// What is wrong by the conflict of a flow: it is about the first asset.
+fn conflict_in(flow: &Flow) -> Option<Wrong>
+    ensures { result ≡ option_map wrong_by flow.now.conflict }
+{
+    match flow.conflict {
+        Some(conflict) => Some(Wrong {
+            number: conflict.at_record,
+            place: 0,
+            what: Complaint::Conflict(conflict.position),
+        }),
+        None => None,
+    }
+}
+
+/// The objection to a flow for something that is wrong in it: it names the asset that this is about.
+fn objected(flow: &Flow, wrong: Wrong) -> Objection
+    requires { flow.now.asset + wrong.place < 2 ^ 32 }
+    ensures { result ≡ objected (flow_value flow.now) wrong }
+{
+    Objection {
         at_record: wrong.number,
         client: flow.client,
-        asset: flow.asset,
+        asset: flow.asset + wrong.place as u32,
         what: wrong.what,
-    })
+    }
 }
 
 /// What came with the earlier record, and of two with one record the first.
@@ -118,11 +154,11 @@ fn sooner(first: Option<Wrong>, later: Option<Wrong>) -> Option<Wrong>
     }
 }
 
-/// Judges the bytes of a flow to an asset.
-fn judge_flow(alloc: Global, asset: &Asset, flow: &Flow) -> Result<Found, NoMemory>
-    requires within { IsAssetWithin asset.now }
+/// Judges the bytes of a flow to a site.
+fn judge_flow(alloc: Global, site: &Site<'_>, flow: &Flow) -> Result<Found, NoMemory>
+    requires within { IsSiteWithin site.now }
     requires born { length flow.now.born ≡ length flow.now.bytes.items }
-    ensures { IfOk result (λ found. IsFoundIn asset.now (flow_value flow.now) found) }
+    ensures { IfOk result (λ found. IsFoundIn site.now (flow_value flow.now) found) }
 {
     let mut found = Found {
         commands: 0,
@@ -131,21 +167,26 @@ fn judge_flow(alloc: Global, asset: &Asset, flow: &Flow) -> Result<Found, NoMemo
     if flow.bytes.is_empty() {
         return Ok(found);
     }
-    let mut reader = Reader::new(alloc, asset, flow.client.address)?;
+    let mut reader = Reader::new(alloc, site, flow.client.address)?;
     let mut at = 0;
     'units: while at < flow.bytes.len() {
-        match reader.next(asset, &rest_of(flow.bytes.as_slice(), at)) {
+        match reader.next(site, &rest_of(flow.bytes.as_slice(), at)) {
             Front::Rest => return Ok(found),
             Front::Broken { reason, place } => {
                 let broken = Wrong {
                     number: flow.record_at(at + place),
+                    place: 0,
                     what: Complaint::Broken(reason),
                 };
                 return Ok(with_wrong(found, broken));
             }
-            Front::Took { ruling, used } => {
+            Front::Took {
+                ruling,
+                place,
+                used,
+            } => {
                 at += used;
-                found = with_ruling(found, flow.record_at(at - 1), ruling);
+                found = with_ruling(found, flow.record_at(at - 1), place, ruling);
             }
         }
     }
@@ -160,10 +201,10 @@ fn rest_of(bytes: &[u8], at: usize) -> View<'_>
     View::one(&bytes[at..])
 }
 
-/// What was found, with a unit that a record completed.
-fn with_ruling(found: Found, number: u64, ruling: Ruling) -> Found
+/// What was found, with a unit for the asset of a place that a record completed.
+fn with_ruling(found: Found, number: u64, place: usize, ruling: Ruling) -> Found
     requires { found.commands + 1 < 2 ^ 64 }
-    ensures { result ≡ with_ruling found number ruling }
+    ensures { result ≡ with_ruling found number place ruling }
 {
     match ruling {
         Ruling::Nothing => found,
@@ -175,6 +216,7 @@ fn with_ruling(found: Found, number: u64, ruling: Ruling) -> Found
             found,
             Wrong {
                 number,
+                place,
                 what: Complaint::Refused(refusal.decider, refusal.reason),
             },
         ),
@@ -182,6 +224,7 @@ fn with_ruling(found: Found, number: u64, ruling: Ruling) -> Found
             found,
             Wrong {
                 number,
+                place,
                 what: Complaint::Stray(why),
             },
         ),

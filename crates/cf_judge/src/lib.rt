@@ -6,9 +6,11 @@ mod dnp3;
 mod front;
 mod iec104;
 mod judging;
+mod laws;
 mod modbus;
 mod ruling;
 
 pub use front::{Front, Reader};
 pub use judging::{Judged, Objection, judge};
+pub use laws::each_asset_is_judged_alone;
 pub use ruling::{Complaint, Ruling};

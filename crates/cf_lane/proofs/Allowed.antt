@@ -1,5 +1,7 @@
 -- What goes to the controller, in the policy's words.
-use Rattle.cf_lane.specs.Caller.{Caller}
+use Rattle.cf_lane.specs.Caller.{Caller, own}
+use Rattle.cf_lane.specs.Parts.{bears, part}
+use Rattle.cf_lane.specs.Site.{item_place}
 use Rattle.cf_lane.specs.Rates.{Says, says_at}
 use Rattle.cf_apci.specs.Apdu.{Ack, ApduValue, Control, Info}
 use Rattle.cf_asdu.specs.Asdu.{first_refusal, refusal_reason, station_of}
@@ -30,6 +32,7 @@ use Rattle.cf_lane.specs.Unit.{Adu, Apdu, Frame, apdu_spelling, frame_spelling}
 use Rattle.cf_lane.specs.declared.fate.Fate.{Fate}
 use Rattle.cf_lane.specs.declared.fate.Refusal.{Refusal}
 use Rattle.cf_modbus.specs.Adu.{AduValue, spelling}
+use Rattle.cf_policy.specs.Site.{SiteValue, asset_of}
 use Rattle.cf_policy.specs.declared.Asset.{Asset}
 use Rattle.cf_policy.specs.declared.Decider.{Decider}
 use Rattle.cf_renumber.specs.Counts.{admitted_stamp, owed_ack}
@@ -201,12 +204,14 @@ module _ (asset : Asset) (says : Says) where
       leave [] (item_output asset side.Controller earlier j (Took side.Controller (Frame x))) more Rest none r
   one_item earlier j i more Rest is has r = (more, refl, r)
 
-module _ (asset : Asset) (client : Caller) where
-  pass : (earlier js : List Judged) → HaveFates asset client earlier js → Passes asset client earlier js (in_turn (output asset side.Controller) earlier js)
+module _ (site : SiteValue) (client : Caller) where
+  pass : (earlier js : List Judged) → HaveFates site client earlier js → Passes site client earlier js (in_turn (output site side.Controller) earlier js)
   pass earlier [] fates = refl
   pass earlier (j ∷ js) fates =
-      one_item asset (says_at asset client earlier j.moment) earlier j j.item (in_turn (output asset side.Controller) (earlier ++ j ∷ []) js) (Passes asset client (earlier ++ j ∷ []) js) refl fates.0
+      let k = item_place site j.item in
+      one_item (asset_of site k) (says_at (asset_of site k) (own k client) (part site k earlier) j.moment) (bears j.item earlier (part site k earlier)) j j.item
+      (in_turn (output site side.Controller) (earlier ++ j ∷ []) js) (Passes site client (earlier ++ j ∷ []) js) refl fates.0
       (pass (earlier ++ j ∷ []) js fates.1)
 
 pub lane_passes_allowed : LanePassesAllowed
-lane_passes_allowed asset client h js a = pass asset client [] js a.fates
+lane_passes_allowed site client h js a = pass site client [] js a.fates

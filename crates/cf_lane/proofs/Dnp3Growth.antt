@@ -6,9 +6,9 @@ use Rattle.cf_dnptrans.specs.declared.assembly.SegmentAnswer.{SegmentAnswer}
 use Rattle.cf_lane.proofs.Assemblies.{final, owed_none, owed_step, whole_paid}
 use Rattle.cf_lane.proofs.Recutting.{length-spelling}
 use Rattle.cf_lane.proofs.Taking.{room_less}
-use Rattle.cf_lane.specs.Fragments.{AddsSegment, owed_by, sent_most}
+use Rattle.cf_lane.specs.Fragments.{AddsSegment, sent_most}
 use Rattle.cf_lane.specs.Handled.{Grows, HasRoom}
-use Rattle.cf_lane.specs.Kept.{AreFragments, of_side, owed_octets}
+use Rattle.cf_lane.specs.Kept.{AreFragments, of_side, owed_octets, owed_by}
 use Rattle.cf_lane.specs.Output.{other}
 use Rattle.cf_lane.specs.Unit.{frame_spelling}
 use Rattle.cf_lane.specs.declared.wire.Fragments.{Fragments}

@@ -2,29 +2,33 @@
 use Rattle.cf_dnptrans.specs.AssemblyValue.{AssemblyValue, IsAssemblyOf}
 use Rattle.cf_dnptrans.specs.Segments.{count_of}
 use Rattle.cf_dnptrans.specs.Transport.{fitting, is_final, is_linked, left_of, made_of, octets_of, since_first, unfinished}
+use Rattle.cf_lane.proofs.Parting.{part_apart, part_mine}
 use Rattle.cf_lane.proofs.Sides.{side_known}
 use Rattle.cf_lane.specs.Dnp3.{fragment_in, segment_in, segments_into, segments_of}
-use Rattle.cf_lane.specs.Handled.{IsLaneOf, LaneValue, debt}
+use Rattle.cf_lane.specs.Handled.{IsLaneOf, LaneValue, debt, debt_by, debt_limit}
 use Rattle.cf_lane.specs.Judged.{Judged, fate_cut, cut_of, in_turn}
-use Rattle.cf_lane.specs.Kept.{IsWireOf, KnowsFragments, KnowsWire, of_side, owed_octets, wire_debt}
+use Rattle.cf_lane.specs.Kept.{AreFragments, IsWireOf, KnowAllFragments, KnowsFragments, KnowsWire, StandOf, of_side, owed_octets, wire_debt}
 use Rattle.cf_lane.specs.Log.{has_unfinished}
 use Rattle.cf_lane.specs.Numbers.{events_of, item_event}
+use Rattle.cf_lane.specs.Parts.{concerns, part}
 use Rattle.cf_lane.specs.declared.wire.Fragments.{Fragments}
 use Rattle.cf_lane.specs.declared.wire.Wire.{Wire}
 use Rattle.cf_audit.specs.declared.line.CutReason.{CutReason}
+use Rattle.cf_policy.specs.Site.{SiteValue, asset_of, assets_of}
 use Rattle.cf_policy.specs.declared.Asset.{Asset}
 use Rattle.cf_policy.specs.declared.Protocol.{Protocol}
 use Rattle.cf_renumber.specs.Numbers.{IsNumbersOf}
 use Rattle.cf_view.specs.declared.Side.{Side}
-use Rattle.std.proofs.Common.{Bool, List, None, Option, Some, [], ap, append_assoc, arith, false, length, refl, subst, sym, true, ℕ, ◌%◌, ◌*◌, ◌++◌, ◌+◌, ◌/◌, ◌∙◌, ◌∷◌, ◌≡◌, ◌≤◌}
+use Rattle.std.proofs.Common.{Bool, List, None, Option, Some, [], ap, append_assoc, arith, false, length, refl, slice_get, subst, suc, sym, true, ℕ, ◌%◌, ◌*◌, ◌++◌, ◌+◌, ◌/◌, ◌∙◌, ◌∷◌, ◌≡◌, ◌≤◌}
 use Rattle.std.proofs.lemmas.Bool.{leb-true}
 use Rattle.std.proofs.lemmas.List.{append-nil, reverse-append}
-use Rattle.std.proofs.lemmas.List.Sums.{sum_by-append}
-use Rattle.std.specs.List.{flat_map, sum_by}
+use Rattle.std.proofs.lemmas.List.Sums.{sum_by-append, sum_by-cons}
+use Rattle.std.specs.List.{flat_map, list_any, range_with_len, sum_by}
 use Rattle.std.specs.Option.{option_or}
 use Rattle.std.specs.Prelude.{IsSome, IsTrue, if◌then◌else◌, is_some, nat_le, reverse, ◌↔◌}
 use Rattle.cf_policy.specs.declared.Protocol.TheVariants as protocol
 use Rattle.cf_view.specs.declared.Side.TheVariants as side
+use Rattle.cf_lane.specs.Kept as kept
 use Rattle.cf_lane.specs.declared.wire.Wire.TheVariants as wire
 
 -- what items put out, and then what more items do
@@ -85,12 +89,22 @@ module _ (asset : Asset) (earlier : List Judged) (j : Judged) (no_segment : (s :
     to_controller = k.to_controller ∙ ap (λ n. n % 64) (same_count side.Controller);
   }
 
-  -- and one that is no event either changes nothing of what is kept
-  pub wire_stays : item_event earlier j.fate j.item ≡ [] → (w : Wire) → KnowsWire asset w earlier → KnowsWire asset w (earlier ++ j ∷ [])
-  wire_stays no_event wire.Modbus k = tt
-  wire_stays no_event (wire.Dnp3 f) k = fragments_stay f k
-  wire_stays no_event (wire.Iec104 numbers) k =
-      subst (IsNumbersOf numbers) (sym (events_of-more earlier j ∙ ap (λ xs. reverse xs ++ events_of earlier) no_event)) k
+-- so it is at each asset
+own_stays : (site : SiteValue) (earlier : List Judged) (j : Judged) → ((asset : Asset) (s : Side) → segment_in asset s j.item ≡ []) →
+    ((asset : Asset) (to : Side) (before : List Judged) → fragment_in asset to before j j.item ≡ []) → (k : ℕ) (f : Fragments) → KnowsFragments (asset_of site k) f (part site k earlier) →
+    (mine : Bool) → concerns site k j.item ≡ mine → KnowsFragments (asset_of site k) f (part site k (earlier ++ j ∷ []))
+own_stays site earlier j no_segment no_fragment k f know true is = subst (KnowsFragments (asset_of site k) f) (sym (part_mine site k earlier j is))
+    (fragments_stay (asset_of site k) (part site k earlier) j (no_segment (asset_of site k)) (λ to. no_fragment (asset_of site k) to (part site k earlier)) f know)
+own_stays site earlier j no_segment no_fragment k f know false is = subst (KnowsFragments (asset_of site k) f) (sym (part_apart site k earlier j is)) know
+
+-- an item that is no segment, no fragment and no event changes nothing of what is kept
+pub wire_stays : (site : SiteValue) (earlier : List Judged) (j : Judged) → ((asset : Asset) (s : Side) → segment_in asset s j.item ≡ []) →
+    ((asset : Asset) (to : Side) (before : List Judged) → fragment_in asset to before j j.item ≡ []) → item_event earlier j.fate j.item ≡ [] →
+    (w : Wire) → KnowsWire site w earlier → KnowsWire site w (earlier ++ j ∷ [])
+wire_stays site earlier j no_segment no_fragment no_event wire.Modbus = λ know. tt
+wire_stays site earlier j no_segment no_fragment no_event (wire.Dnp3 all) = λ know k f at. own_stays site earlier j no_segment no_fragment k f (know k f at) (concerns site k j.item) refl
+wire_stays site earlier j no_segment no_fragment no_event (wire.Iec104 numbers) = λ know.
+    subst (IsNumbersOf numbers) (sym (events_of-more earlier j ∙ ap (λ xs. reverse xs ++ events_of earlier) no_event)) know
 
 -- a fragment that is put together has at most 2,048 octets
 if_some : (b : Bool) (o : Option (List ℕ)) (x : List ℕ) → (if b then o else None) ≡ Some x → (b ≡ true) × (o ≡ Some x)
@@ -118,22 +132,32 @@ owed_by false octets o e most = omega arith
 owed_most : (a : AssemblyValue) (segments : List (List ℕ)) → IsAssemblyOf a segments → owed_octets a ≤ 2560
 owed_most a segments is = owed_by a.begun a.octets (unfinished segments) is.opened (left_most (since_first segments))
 
-wire_most : (p : Protocol) (w : Wire) → IsWireOf p w → wire_debt w ≤ 5120
-wire_most protocol.Dnp3 (wire.Dnp3 f) is = omega (arith, owed_most f.client is.client.0 is.client.1, owed_most f.controller is.controller.0 is.controller.1)
-wire_most p (wire.Dnp3 f) is = absurd is
-wire_most p w is = omega arith
+fragments_most : (f : Fragments) → AreFragments f → kept.owed_by f ≤ 5300
+fragments_most f are = omega (arith, owed_most f.client are.client.0 are.client.1, owed_most f.controller are.controller.0 are.controller.1)
+
+all_most : (all : List Fragments) → ((k : ℕ) (f : Fragments) → slice_get all k ≡ Some f → AreFragments f) → sum_by kept.owed_by all ≤ 5300 * length all
+all_most [] each = omega arith
+all_most (f ∷ all) each =
+    omega (arith, sum_by-cons kept.owed_by f all, fragments_most f (each 0 f refl), all_most all (λ k x at. each (suc k) x at))
+
+wire_most : (p : Protocol) (n : ℕ) (w : Wire) → IsWireOf p n w → wire_debt w ≤ debt_by p n
+wire_most protocol.Dnp3 n (wire.Dnp3 all) is = omega (arith, all_most all is.each, is.one_each)
+wire_most p n (wire.Dnp3 all) is = absurd is
+wire_most protocol.Modbus n wire.Modbus is = omega arith
+wire_most protocol.Iec104 n (wire.Iec104 numbers) is = omega arith
+wire_most p n w is = absurd is
 
 -- what unfinished fragments may still put out
-pub debt_most : (asset : Asset) (lane : LaneValue) → IsLaneOf asset lane → debt lane ≤ 5300
-debt_most asset lane is = omega (arith, wire_most asset.protocol lane.wire is.wire)
+pub debt_most : (site : SiteValue) (lane : LaneValue) → IsLaneOf site lane → debt lane ≤ debt_limit site
+debt_most site lane is = wire_most site.first.protocol (length (assets_of site)) lane.wire is.wire
 
-wire_no_debt : (w : Wire) → IsWireOf protocol.Modbus w → wire_debt w ≡ 0
-wire_no_debt wire.Modbus is = refl
-wire_no_debt w is = absurd is
+wire_no_debt : (n : ℕ) (w : Wire) → IsWireOf protocol.Modbus n w → wire_debt w ≡ 0
+wire_no_debt n wire.Modbus is = refl
+wire_no_debt n w is = absurd is
 
 -- a lane of Modbus has no debt
-pub no_debt : (asset : Asset) (lane : LaneValue) → asset.protocol ≡ protocol.Modbus → IsLaneOf asset lane → debt lane ≡ 0
-no_debt asset lane modbus is = wire_no_debt lane.wire (subst (λ p. IsWireOf p lane.wire) modbus is.wire)
+pub no_debt : (site : SiteValue) (lane : LaneValue) → site.first.protocol ≡ protocol.Modbus → IsLaneOf site lane → debt lane ≡ 0
+no_debt site lane modbus is = wire_no_debt (length (assets_of site)) lane.wire (subst (λ p. IsWireOf p (length (assets_of site)) lane.wire) modbus is.wire)
 
 true_or_none : (b : Bool) (o : Option (List ℕ)) → IsTrue b ↔ IsSome o → b ≡ is_some o
 true_or_none true (Some x) e = refl
@@ -141,16 +165,19 @@ true_or_none true None e = cc (e.0 refl)
 true_or_none false (Some x) e = cc (e.1 refl)
 true_or_none false None e = refl
 
-unfinished_by : (p : Protocol) (asset : Asset) (f : Fragments) (s : Side) (b : Bool) → ((segments : List (List ℕ)) → IsAssemblyOf (of_side s f) segments → IsTrue b ↔ IsSome (unfinished segments)) →
-    (earlier : List Judged) → IsWireOf p (wire.Dnp3 f) → KnowsFragments asset f earlier → b ≡ has_unfinished asset p s earlier
-unfinished_by protocol.Dnp3 asset f s b told earlier is knows =
-    true_or_none b (unfinished (segments_of asset s earlier)) (told (segments_of asset s earlier) (side_known asset f s earlier knows))
-unfinished_by p asset f s b told earlier is knows = absurd is
+unfinished_by : (p : Protocol) (site : SiteValue) (all : List Fragments) (s : Side) (b : Bool) →
+    ((segments : ℕ → List (List ℕ)) → StandOf s all segments → b ≡ list_any (λ k. is_some (unfinished (segments k))) (range_with_len 0 (length all))) →
+    (earlier : List Judged) → IsWireOf p (length (assets_of site)) (wire.Dnp3 all) → KnowAllFragments site all earlier → b ≡ has_unfinished site p s earlier
+unfinished_by protocol.Dnp3 site all s b told earlier is knows =
+    let segments : ℕ → List (List ℕ) = λ k. segments_of (asset_of site k) s (part site k earlier) in
+    told segments (λ k f at. side_known (asset_of site k) f s (part site k earlier) (knows k f at))
+    ∙ ap (λ n. list_any (λ k. is_some (unfinished (segments k))) (range_with_len 0 n)) is.one_each
+unfinished_by p site all s b told earlier is knows = absurd is
 
--- what the assembly of a side tells is what the earlier items leave unfinished
-pub unfinished_told : (w : Wire) (f : Fragments) (s : Side) (a : AssemblyValue) (b : Bool) → w ≡ wire.Dnp3 f → a ≡ of_side s f →
-    ((segments : List (List ℕ)) → IsAssemblyOf a segments → IsTrue b ↔ IsSome (unfinished segments)) →
-    (asset : Asset) (earlier : List Judged) → IsWireOf asset.protocol w → KnowsWire asset w earlier → b ≡ has_unfinished asset asset.protocol s earlier
-unfinished_told w f s a b is of told asset earlier wire knows =
-    unfinished_by asset.protocol asset f s b (subst (λ v. (segments : List (List ℕ)) → IsAssemblyOf v segments → IsTrue b ↔ IsSome (unfinished segments)) of told) earlier
-    (subst (IsWireOf asset.protocol) is wire) (subst (λ v. KnowsWire asset v earlier) is knows)
+-- what the assemblies of a side tell is what the earlier items leave unfinished
+pub unfinished_told : (w : Wire) (all : List Fragments) (s : Side) (b : Bool) → w ≡ wire.Dnp3 all →
+    ((segments : ℕ → List (List ℕ)) → StandOf s all segments → b ≡ list_any (λ k. is_some (unfinished (segments k))) (range_with_len 0 (length all))) →
+    (site : SiteValue) (earlier : List Judged) → IsWireOf site.first.protocol (length (assets_of site)) w → KnowsWire site w earlier → b ≡ has_unfinished site site.first.protocol s earlier
+unfinished_told w all s b is told site earlier wire knows =
+    unfinished_by site.first.protocol site all s b told earlier
+    (subst (IsWireOf site.first.protocol (length (assets_of site))) is wire) (subst (λ v. KnowsWire site v earlier) is knows)

@@ -13,7 +13,7 @@ use Rattle.cf_outside.proofs.Desks.{keeps_both, keeps_none}
 use Rattle.cf_outq.specs.SendQueue.{Queue}
 use Rattle.cf_outside.specs.Faults.{HasCause}
 use Rattle.cf_outside.specs.Desk.{DeskValue}
-use Rattle.cf_policy.specs.declared.Asset.{Asset}
+use Rattle.cf_policy.specs.Site.{SiteValue}
 use Rattle.cf_view.proofs.OctetLists.{IsOctets-drop}
 use Rattle.cf_view.specs.Framing.{IsPartial}
 use Rattle.cf_view.specs.Octets.{IsOctets}
@@ -64,20 +64,20 @@ room_for_rest bytes rest used d e p q is inside r g =
     let size : length rest + used ≡ length bytes = omega (arith, ap length is, length-drop used bytes, inside) in
     room_left (2 * used) (2 * length rest) d e p q (room_less (d + 2 * length bytes) (d + (2 * used + 2 * length rest)) p (omega (arith, size)) r) g
 
-module _ (asset : Asset) (moment : ℕ) (s : Side) (bytes rest : List ℕ) (used : ℕ) (left : rest ≡ drop used bytes) (inside : used ≤ length bytes) where
+module _ (site : SiteValue) (moment : ℕ) (s : Side) (bytes rest : List ℕ) (used : ℕ) (left : rest ≡ drop used bytes) (inside : used ≤ length bytes) where
   rest_length : length rest + used ≡ length bytes
   rest_length = omega (arith, ap length left, length-drop used bytes, inside)
 
   pub within : (st : Step) → letters_in st ≤ length rest → used + letters_in st ≤ length bytes
   within st l = omega (arith, l, rest_length)
 
-  pub along_took : (old mid new : State) (st : Step) (n : ℕ) → st ≡ step.Took n → Along asset moment s bytes used old mid → Steps asset moment s rest mid new st →
-      Along asset moment s bytes (used + n) old new
+  pub along_took : (old mid new : State) (st : Step) (n : ℕ) → st ≡ step.Took n → Along site moment s bytes used old mid → Steps site moment s rest mid new st →
+      Along site moment s bytes (used + n) old new
   along_took old mid new st n is a steps =
-      along_more asset moment s bytes used n old mid new a (subst (λ xs. TakesUnit asset moment s xs n None mid new) left (subst (Steps asset moment s rest mid new) is steps))
+      along_more site moment s bytes used n old mid new a (subst (λ xs. TakesUnit site moment s xs n None mid new) left (subst (Steps site moment s rest mid new) is steps))
 
-  pub some_letters : (mid new : State) (st : Step) (n : ℕ) → st ≡ step.Took n → Steps asset moment s rest mid new st → 0 < n
-  some_letters mid new st n is steps = (subst (Steps asset moment s rest mid new) is steps).some_bytes
+  pub some_letters : (mid new : State) (st : Step) (n : ℕ) → st ≡ step.Took n → Steps site moment s rest mid new st → 0 < n
+  some_letters mid new st n is steps = (subst (Steps site moment s rest mid new) is steps).some_bytes
 
   pub smaller : (st : Step) (n : ℕ) → st ≡ step.Took n → 0 < n → letters_in st ≤ length rest → length bytes - (used + n) < length bytes - used
   smaller st n is some l = omega (arith, some, l, ap letters_in is, rest_length)
@@ -94,42 +94,42 @@ took_stops : {P : Type 0} (n : ℕ) → Stops (step.Took n) → P
 took_stops n (inl e) = cc
 took_stops n (inr e) = cc e.1
 
-module _ (asset : Asset) (moment : ℕ) (s : Side) (bytes rest : List ℕ) (used : ℕ) (old mid new : State)
-    (a : Along asset moment s bytes used old mid) (left : rest ≡ drop used bytes) where
+module _ (site : SiteValue) (moment : ℕ) (s : Side) (bytes rest : List ℕ) (used : ℕ) (old mid new : State)
+    (a : Along site moment s bytes used old mid) (left : rest ≡ drop used bytes) where
   -- where no whole unit is left, or the step cuts, the history goes on by the piece
-  pub apart_stop : (st : Step) → Steps asset moment s rest mid new st → IsOctets bytes → Stops st →
+  pub apart_stop : (st : Step) → Steps site moment s rest mid new st → IsOctets bytes → Stops st →
       (past : RateMoments) (h : List Element) (rests : Rests) (first own : Option (List (List ℕ))) (piece : List ℕ) (ended : Bool) → IsEndBehindCut ended (cut_in st) →
-      bytes ≡ rest_of s rests ++ piece → Follows asset past h rests None first (over own old) →
-      AddsTo asset past (h ++ letters_at moment s piece ended ∷ []) (with_rest s rests (drop used bytes)) (cut_in st) first own old.lines new
+      bytes ≡ rest_of s rests ++ piece → Follows site past h rests None first (over own old) →
+      AddsTo site past (h ++ letters_at moment s piece ended ∷ []) (with_rest s rests (drop used bytes)) (cut_in st) first own old.lines new
   apart_stop step.More steps octets stops past h rests first own piece true behind is f = absurd behind
   apart_stop step.More steps octets stops past h rests first own piece false behind is f =
-      subst (λ (n : State). AddsTo asset past (h ++ bytes_at moment s piece ∷ []) (with_rest s rests (drop used bytes)) None first own old.lines n) (sym steps.1)
-      (fed_whole asset past h rests first own moment s piece bytes used old mid is f a (subst (IsPartial (SpellsUnit asset.protocol)) left steps.0))
+      subst (λ (n : State). AddsTo site past (h ++ bytes_at moment s piece ∷ []) (with_rest s rests (drop used bytes)) None first own old.lines n) (sym steps.1)
+      (fed_whole site past h rests first own moment s piece bytes used old mid is f a (subst (IsPartial (SpellsUnit site.first.protocol)) left steps.0))
   apart_stop (step.Cut reason) (inl here) octets stops past h rests first own piece ended behind is f =
-      subst (λ (n : State). AddsTo asset past (h ++ letters_at moment s piece ended ∷ []) (with_rest s rests (drop used bytes)) (Some reason) first own old.lines n) (sym here.1)
-      (fed_broken asset past h rests first own moment s piece bytes used old mid is f a ended reason (subst (λ xs. Breaks asset s xs reason) left here.0))
+      subst (λ (n : State). AddsTo site past (h ++ letters_at moment s piece ended ∷ []) (with_rest s rests (drop used bytes)) (Some reason) first own old.lines n) (sym here.1)
+      (fed_broken site past h rests first own moment s piece bytes used old mid is f a ended reason (subst (λ xs. Breaks site s xs reason) left here.0))
   apart_stop (step.Cut reason) (inr unit) octets stops past h rests first own piece ended behind is f =
       let n = unit.1.0 in
-      fed_cut asset past h rests first own moment s piece bytes used n old mid new is f a ended reason (subst (λ xs. TakesUnit asset moment s xs n (Some reason) mid new) left unit.1.1)
-      (units_of_octets asset.protocol (drop n (drop used bytes)) (IsOctets-drop (drop used bytes) n (IsOctets-drop bytes used octets))) (with_rest s rests (drop used bytes))
+      fed_cut site past h rests first own moment s piece bytes used n old mid new is f a ended reason (subst (λ xs. TakesUnit site moment s xs n (Some reason) mid new) left unit.1.1)
+      (units_of_octets site.first.protocol (drop n (drop used bytes)) (IsOctets-drop (drop used bytes) n (IsOctets-drop bytes used octets))) (with_rest s rests (drop used bytes))
   apart_stop (step.Took n) steps octets stops past h rests first own piece ended behind is f = took_stops n stops
 
-  pub follows_stop : (st : Step) → Steps asset moment s rest mid new st → IsOctets bytes → Stops st →
+  pub follows_stop : (st : Step) → Steps site moment s rest mid new st → IsOctets bytes → Stops st →
       (past : RateMoments) (h : List Element) (rests : Rests) (first : Option (List (List ℕ))) (piece : List ℕ) (ended : Bool) → IsEndBehindCut ended (cut_in st) →
-      bytes ≡ rest_of s rests ++ piece → Follows asset past h rests None first old →
-      Follows asset past (h ++ letters_at moment s piece ended ∷ []) (with_rest s rests (drop used bytes)) (cut_in st) first new
+      bytes ≡ rest_of s rests ++ piece → Follows site past h rests None first old →
+      Follows site past (h ++ letters_at moment s piece ended ∷ []) (with_rest s rests (drop used bytes)) (cut_in st) first new
   follows_stop st steps octets stops past h rests first piece ended behind is f =
-      of_whole_log asset past (h ++ letters_at moment s piece ended ∷ []) (with_rest s rests (drop used bytes)) (cut_in st) first old new
+      of_whole_log site past (h ++ letters_at moment s piece ended ∷ []) (with_rest s rests (drop used bytes)) (cut_in st) first old new
       (apart_stop st steps octets stops past h rests first old.lines piece ended behind is f)
 
   -- what is left is shorter than a unit
-  pub little_left : (st : Step) → Steps asset moment s rest mid new st → Stops st → cut_in st ≡ None → length (drop used bytes) < 300
-  little_left step.More steps stops none = short_unit asset.protocol (drop used bytes) (subst (IsPartial (SpellsUnit asset.protocol)) left steps.0)
+  pub little_left : (st : Step) → Steps site moment s rest mid new st → Stops st → cut_in st ≡ None → length (drop used bytes) < 300
+  little_left step.More steps stops none = short_unit site.first.protocol (drop used bytes) (subst (IsPartial (SpellsUnit site.first.protocol)) left steps.0)
   little_left (step.Cut reason) steps stops none = let e : Some reason ≡ None = none in cc
   little_left (step.Took n) steps stops none = took_stops n stops
 
   -- the lane stays that of its client
-  pub same_client : (st : Step) → Steps asset moment s rest mid new st → Stops st → new.lane.client ≡ old.lane.client
+  pub same_client : (st : Step) → Steps site moment s rest mid new st → Stops st → new.lane.client ≡ old.lane.client
   same_client step.More steps stops = ap (λ (x : State). x.lane.client) steps.1 ∙ a.handled.client
   same_client (step.Cut reason) (inl here) stops = ap (λ (x : State). x.lane.client) here.1 ∙ a.handled.client
   same_client (step.Cut reason) (inr unit) stops = unit.1.1.handled.client ∙ a.handled.client

@@ -3,15 +3,16 @@ use Rattle.cf_audit.specs.declared.line.CutReason.{CutReason}
 use Rattle.cf_lane.proofs.Saying.{lane_on}
 use Rattle.cf_lane.specs.Handled.{Counts, CountsBy, CountsFront, Fronts, FrontsOf, Grows, IsLaneOf, LaneValue, Outlets, State, Steps, TakesUncounted, TakesUnit, debt, lane_at, letters_in, most_counted, state, step_at, step_by, taken_in}
 use Rattle.cf_lane.specs.Judged.{fate_cut, is_admitted, is_refused, one_if}
-use Rattle.cf_lane.specs.Kept.{AreFragments, IsWireOf, wire_debt}
-use Rattle.cf_lane.specs.Rings.{IsRulesOf}
+use Rattle.cf_lane.specs.Kept.{AreAllFragments, IsWireOf, wire_debt}
+use Rattle.cf_lane.specs.Rings.{AreRulesOf, HasFewAt}
 use Rattle.cf_lane.specs.declared.fate.Fate.{Fate}
+use Rattle.cf_lane.specs.declared.lane.Decided.{Decided}
 use Rattle.cf_lane.specs.declared.lane.Step.{Step}
 use Rattle.cf_lane.specs.declared.rules.Rules.{Rules}
 use Rattle.cf_lane.specs.declared.wire.Fragments.{Fragments}
 use Rattle.cf_lane.specs.declared.wire.Wire.{Wire}
 use Rattle.cf_outq.specs.SendQueue.{Queue}
-use Rattle.cf_policy.specs.declared.Asset.{Asset}
+use Rattle.cf_policy.specs.Site.{SiteValue, assets_of}
 use Rattle.cf_policy.specs.declared.Protocol.{Protocol}
 use Rattle.cf_renumber.specs.Numbers.{NumbersValue}
 use Rattle.cf_view.specs.declared.Endpoint.{Endpoint}
@@ -23,9 +24,9 @@ use Rattle.cf_view.specs.declared.base.Framed.TheVariants as framed
 use Rattle.cf_lane.specs.declared.wire.Wire.TheVariants as wire
 use Rattle.cf_policy.specs.declared.Protocol.TheVariants as protocol
 
-module _ (asset : Asset) (moment : ℕ) (s : Side) (bytes : List ℕ) (n : ℕ) (f : Fate) (old mid : State) (t : TakesUncounted asset moment s bytes n f old mid) where
-  abbrev takes_by : (lane : LaneValue) → Counts f moment mid.lane lane → (cut : Option CutReason) → fate_cut f ≡ cut →
-      TakesUnit asset moment s bytes n cut old (state lane mid.to_client mid.to_controller mid.lines)
+module _ (site : SiteValue) (moment : ℕ) (s : Side) (bytes : List ℕ) (n place : ℕ) (f : Fate) (old mid : State) (t : TakesUncounted site moment s bytes n place f old mid) where
+  abbrev takes_by : (lane : LaneValue) → Counts place f moment mid.lane lane → (cut : Option CutReason) → fate_cut f ≡ cut →
+      TakesUnit site moment s bytes n cut old (state lane mid.to_client mid.to_controller mid.lines)
   takes_by lane counts cut is = record {
     unit = t.unit;
     begins = t.begins;
@@ -35,16 +36,16 @@ module _ (asset : Asset) (moment : ℕ) (s : Side) (bytes : List ℕ) (n : ℕ) 
     handled = t.handled lane counts;
   }
 
-  steps_by : (lane : LaneValue) → Counts f moment mid.lane lane → (cut : Option CutReason) → fate_cut f ≡ cut →
-      Steps asset moment s bytes old (state lane mid.to_client mid.to_controller mid.lines) (step_by cut n)
+  steps_by : (lane : LaneValue) → Counts place f moment mid.lane lane → (cut : Option CutReason) → fate_cut f ≡ cut →
+      Steps site moment s bytes old (state lane mid.to_client mid.to_controller mid.lines) (step_by cut n)
   steps_by lane counts None is = takes_by lane counts None is
   steps_by lane counts (Some reason) is = inr (t.cuts reason is, (n, takes_by lane counts (Some reason) is))
 
   -- a unit that was taken and counted is a step by its fate
-  steps_front : (lane : LaneValue) → Counts f moment mid.lane lane → (st : Step) → st ≡ step_by (fate_cut f) n →
-      Steps asset moment s bytes old (state lane mid.to_client mid.to_controller mid.lines) st
+  steps_front : (lane : LaneValue) → Counts place f moment mid.lane lane → (st : Step) → st ≡ step_by (fate_cut f) n →
+      Steps site moment s bytes old (state lane mid.to_client mid.to_controller mid.lines) st
   steps_front lane counts st is =
-      subst (Steps asset moment s bytes old (state lane mid.to_client mid.to_controller mid.lines)) (sym is) (steps_by lane counts (fate_cut f) refl)
+      subst (Steps site moment s bytes old (state lane mid.to_client mid.to_controller mid.lines)) (sym is) (steps_by lane counts (fate_cut f) refl)
 
 -- how much of a unit goes on
 letters_most : (cut : Option CutReason) (n : ℕ) → letters_in (step_by cut n) ≤ n
@@ -62,82 +63,91 @@ counts_front : (f : Fate) (st : Step) (n : ℕ) → 0 < n → st ≡ step_by (fa
 counts_front f st n some is old new admitted refused = omega (arith, counts_by f n some, ap letters_in is, admitted, refused)
 
 -- what stands at the front is a step, once the lane has counted it
-pub steps_counted : (asset : Asset) (moment : ℕ) (s : Side) (bytes : List ℕ) (old : State) (mid : LaneValue) (q r : Queue) (lines : Option (List (List ℕ))) (answer : Framed Fate) →
-    Fronts asset moment s bytes old (state mid q r lines) answer → (new : LaneValue) → CountsFront answer moment mid new → (st : Step) → st ≡ step_at s answer →
-    Steps asset moment s bytes old (state new q r lines) st
-steps_counted asset moment s bytes old mid q r lines (framed.Unit f n) front new counts st is =
-    steps_front asset moment s bytes n f old (state mid q r lines) front new counts st is
-steps_counted asset moment s bytes old mid q r lines framed.More front new counts st is =
-    subst (Steps asset moment s bytes old (state new q r lines)) (sym is) (front.0, ap (λ (l : LaneValue). state l q r lines) counts ∙ front.1)
-steps_counted asset moment s bytes old mid q r lines (framed.Broken reason) front new counts st is =
-    subst (Steps asset moment s bytes old (state new q r lines)) (sym is) (inl (front.0, ap (λ (l : LaneValue). state l q r lines) counts ∙ front.1))
+pub steps_counted : (site : SiteValue) (moment : ℕ) (s : Side) (bytes : List ℕ) (old : State) (mid : LaneValue) (q r : Queue) (lines : Option (List (List ℕ))) (answer : Framed Decided) →
+    Fronts site moment s bytes old (state mid q r lines) answer → (new : LaneValue) → CountsFront answer moment mid new → (st : Step) → st ≡ step_at s answer →
+    Steps site moment s bytes old (state new q r lines) st
+steps_counted site moment s bytes old mid q r lines (framed.Unit d n) front new counts st is =
+    steps_front site moment s bytes n d.place d.fate old (state mid q r lines) front new counts st is
+steps_counted site moment s bytes old mid q r lines framed.More front new counts st is =
+    subst (Steps site moment s bytes old (state new q r lines)) (sym is) (front.0, ap (λ (l : LaneValue). state l q r lines) counts ∙ front.1)
+steps_counted site moment s bytes old mid q r lines (framed.Broken reason) front new counts st is =
+    subst (Steps site moment s bytes old (state new q r lines)) (sym is) (inl (front.0, ap (λ (l : LaneValue). state l q r lines) counts ∙ front.1))
 
 -- a queue grew by what stands at the front, and counting it changed nothing of it
-pub grows_counted : (s : Side) (moment : ℕ) (answer : Framed Fate) (mid new : LaneValue) → CountsFront answer moment mid new → (st : Step) → st ≡ step_at s answer → (d : ℕ) (p q : Queue) →
+pub grows_counted : (s : Side) (moment : ℕ) (answer : Framed Decided) (mid new : LaneValue) → CountsFront answer moment mid new → (st : Step) → st ≡ step_at s answer → (d : ℕ) (p q : Queue) →
     Grows (2 * taken_in answer) d (debt mid) p q → Grows (2 * letters_in st) d (debt new) p q
-grows_counted s moment (framed.Unit f n) mid new counts st is d p q g =
-    subst (λ m. Grows (2 * m) d (debt new) p q) (sym (ap letters_in is)) (subst (λ e. Grows (2 * taken_in (framed.Unit f n)) d e p q) (sym (ap wire_debt counts.wire)) g)
+grows_counted s moment (framed.Unit u n) mid new counts st is d p q g =
+    subst (λ m. Grows (2 * m) d (debt new) p q) (sym (ap letters_in is)) (subst (λ e. Grows (2 * taken_in (framed.Unit u n)) d e p q) (sym (ap wire_debt counts.wire)) g)
 grows_counted s moment answer mid new counts st is d p q g =
     subst (λ m. Grows (2 * m) d (debt new) p q) (sym (ap letters_in is)) (subst (λ e. Grows (2 * taken_in answer) d e p q) (sym (ap debt counts)) g)
 
 -- the numbers of commands rise by one at most
-pub counts_counted : (asset : Asset) (moment : ℕ) (s : Side) (bytes : List ℕ) (old mid : State) (answer : Framed Fate) → Fronts asset moment s bytes old mid answer → (new : LaneValue) →
+pub counts_counted : (site : SiteValue) (moment : ℕ) (s : Side) (bytes : List ℕ) (old mid : State) (answer : Framed Decided) → Fronts site moment s bytes old mid answer → (new : LaneValue) →
     CountsFront answer moment mid.lane new → (st : Step) → st ≡ step_at s answer → CountsBy (letters_in st) mid.lane new
-counts_counted asset moment s bytes old mid (framed.Unit f n) front new counts st is = counts_front f st n front.some_bytes is mid.lane new counts.admitted counts.refused
-counts_counted asset moment s bytes old mid answer front new counts st is =
+counts_counted site moment s bytes old mid (framed.Unit d n) front new counts st is = counts_front d.fate st n front.some_bytes is mid.lane new counts.admitted counts.refused
+counts_counted site moment s bytes old mid answer front new counts st is =
     omega (arith, ap (λ (l : LaneValue). l.admitted) counts, ap (λ (l : LaneValue). l.refused) counts)
 
 -- no more is counted than octets are there, and no more goes on
-pub counted_most : (asset : Asset) (moment : ℕ) (s : Side) (bytes : List ℕ) (old mid : State) (answer : Framed Fate) → Fronts asset moment s bytes old mid answer → most_counted answer ≤ length bytes
-counted_most asset moment s bytes old mid (framed.Unit f n) front = omega (arith, front.some_bytes, front.begins.inside)
-counted_most asset moment s bytes old mid answer front = omega arith
+pub counted_most : (site : SiteValue) (moment : ℕ) (s : Side) (bytes : List ℕ) (old mid : State) (answer : Framed Decided) → Fronts site moment s bytes old mid answer → most_counted answer ≤ length bytes
+counted_most site moment s bytes old mid (framed.Unit d n) front = omega (arith, front.some_bytes, front.begins.inside)
+counted_most site moment s bytes old mid answer front = omega arith
 
-pub inside_counted : (asset : Asset) (moment : ℕ) (s : Side) (bytes : List ℕ) (old mid : State) (answer : Framed Fate) → Fronts asset moment s bytes old mid answer → (st : Step) → st ≡ step_at s answer →
+pub inside_counted : (site : SiteValue) (moment : ℕ) (s : Side) (bytes : List ℕ) (old mid : State) (answer : Framed Decided) → Fronts site moment s bytes old mid answer → (st : Step) → st ≡ step_at s answer →
     letters_in st ≤ length bytes
-inside_counted asset moment s bytes old mid (framed.Unit f n) front st is = omega (arith, letters_most (fate_cut f) n, ap letters_in is, front.begins.inside)
-inside_counted asset moment s bytes old mid answer front st is = omega (arith, ap letters_in is)
+inside_counted site moment s bytes old mid (framed.Unit d n) front st is = omega (arith, letters_most (fate_cut d.fate) n, ap letters_in is, front.begins.inside)
+inside_counted site moment s bytes old mid answer front st is = omega (arith, ap letters_in is)
 
--- a lane that counted what stands at the front is one of the asset still
-pub lane_counted : (asset : Asset) (moment : ℕ) (answer : Framed Fate) (mid new : LaneValue) → IsLaneOf asset mid → CountsFront answer moment mid new → IsLaneOf asset new
-lane_counted asset moment (framed.Unit f n) mid new of counts = lane_on asset f moment mid new of counts.client counts.rules counts.wire
-lane_counted asset moment answer mid new of counts = subst (IsLaneOf asset) (sym counts) of
+-- a lane that counted what stands at the front is one of the site still
+pub lane_counted : (site : SiteValue) (moment : ℕ) (answer : Framed Decided) (mid new : LaneValue) → IsLaneOf site mid → CountsFront answer moment mid new → IsLaneOf site new
+lane_counted site moment (framed.Unit d n) mid new of counts = lane_on site d.place d.fate moment mid new of counts.client counts.rules counts.wire
+lane_counted site moment answer mid new of counts = subst (IsLaneOf site) (sym counts) of
+
+-- the asset of what stands at the front has rules
+pub few_at : (site : SiteValue) (client place : ℕ) (rules : List Rules) → AreRulesOf site client rules → place < length rules → HasFewAt place rules
+few_at site client place rules of inside = record { inside = inside; few = λ own at. (of.each place own at).few }
 
 -- what is kept for a protocol tells which one it is
-pub is_dnp3 : (p : Protocol) (f : Fragments) → IsWireOf p (wire.Dnp3 f) → p ≡ protocol.Dnp3
-is_dnp3 protocol.Dnp3 f is = refl
-is_dnp3 p f is = absurd is
+pub is_dnp3 : (p : Protocol) (n : ℕ) (all : List Fragments) → IsWireOf p n (wire.Dnp3 all) → p ≡ protocol.Dnp3
+is_dnp3 protocol.Dnp3 n all is = refl
+is_dnp3 p n all is = absurd is
 
-pub is_iec104 : (p : Protocol) (numbers : NumbersValue) → IsWireOf p (wire.Iec104 numbers) → p ≡ protocol.Iec104
-is_iec104 protocol.Iec104 numbers is = refl
-is_iec104 p numbers is = absurd is
+pub is_iec104 : (p : Protocol) (n : ℕ) (numbers : NumbersValue) → IsWireOf p n (wire.Iec104 numbers) → p ≡ protocol.Iec104
+is_iec104 protocol.Iec104 n numbers is = refl
+is_iec104 p n numbers is = absurd is
 
-pub dnp3_wire : (p : Protocol) (f : Fragments) → p ≡ protocol.Dnp3 → AreFragments f → IsWireOf p (wire.Dnp3 f)
-dnp3_wire p f is are = subst (λ q. IsWireOf q (wire.Dnp3 f)) (sym is) are
+pub dnp3_wire : (p : Protocol) (n : ℕ) (all : List Fragments) → p ≡ protocol.Dnp3 → AreAllFragments n all → IsWireOf p n (wire.Dnp3 all)
+dnp3_wire p n all is are = subst (λ q. IsWireOf q n (wire.Dnp3 all)) (sym is) are
 
-pub iec104_wire : (p : Protocol) (numbers : NumbersValue) → p ≡ protocol.Iec104 → numbers.owed ≡ None → IsWireOf p (wire.Iec104 numbers)
-iec104_wire p numbers is idle = subst (λ q. IsWireOf q (wire.Iec104 numbers)) (sym is) idle
+pub are_all : (p : Protocol) (n : ℕ) (all : List Fragments) → IsWireOf p n (wire.Dnp3 all) → AreAllFragments n all
+are_all protocol.Dnp3 n all is = is
+are_all p n all is = absurd is
+
+pub iec104_wire : (p : Protocol) (n : ℕ) (numbers : NumbersValue) → p ≡ protocol.Iec104 → numbers.owed ≡ None → IsWireOf p n (wire.Iec104 numbers)
+iec104_wire p n numbers is idle = subst (λ q. IsWireOf q n (wire.Iec104 numbers)) (sym is) idle
 
 -- a lane by its parts
-abbrev pub lane_of : Endpoint → (admitted refused : ℕ) → Rules → Wire → LaneValue
+abbrev pub lane_of : Endpoint → (admitted refused : ℕ) → List Rules → Wire → LaneValue
 lane_of client admitted refused rules w = record { client = client; admitted = admitted; refused = refused; rules = rules; wire = w }
 
 -- what is said of the parts of a lane, which keeps this for its protocol, is said of the lane
-module _ (asset : Asset) (client : Endpoint) (admitted refused : ℕ) (rules : Rules) (kept before : Wire) (lane : LaneValue)
+module _ (site : SiteValue) (client : Endpoint) (admitted refused : ℕ) (rules : List Rules) (kept before : Wire) (lane : LaneValue)
     (is : lane_of client admitted refused rules kept ≡ lane) (same : kept ≡ before) where
-  pub wire_in : IsLaneOf asset lane → IsWireOf asset.protocol before
-  wire_in of = subst (IsWireOf asset.protocol) (sym (ap (λ (l : LaneValue). l.wire) is) ∙ same) of.wire
+  pub wire_in : IsLaneOf site lane → IsWireOf site.first.protocol (length (assets_of site)) before
+  wire_in of = subst (IsWireOf site.first.protocol (length (assets_of site))) (sym (ap (λ (l : LaneValue). l.wire) is) ∙ same) of.wire
 
-  pub lane_in : (after : Wire) → IsWireOf asset.protocol after → IsLaneOf asset lane → IsLaneOf asset (lane_of client admitted refused rules after)
-  lane_in after w of = record { rules = subst (λ (l : LaneValue). IsRulesOf asset l.client.address l.rules) (sym is) of.rules; wire = w }
+  pub lane_in : (after : Wire) → IsWireOf site.first.protocol (length (assets_of site)) after → IsLaneOf site lane → IsLaneOf site (lane_of client admitted refused rules after)
+  lane_in after w of = record { rules = subst (λ (l : LaneValue). AreRulesOf site l.client.address l.rules) (sym is) of.rules; wire = w }
 
   pub grows_in : (m d : ℕ) (p q : Queue) → Grows m (wire_debt before) d p q → Grows m (debt lane) d p q
   grows_in m d p q g = subst (λ e. Grows m e d p q) (sym (ap wire_debt same) ∙ ap debt is) g
 
   module _ (moment : ℕ) (s : Side) (bytes : List ℕ) (old : Outlets) where
-    pub fronts_in : (after : Wire) (new : Outlets) (answer : Framed Fate) → FrontsOf asset client rules moment s bytes before after old new answer →
-        Fronts asset moment s bytes (state lane old.to_client old.to_controller old.lines)
+    pub fronts_in : (after : Wire) (new : Outlets) (answer : Framed Decided) (given : List Rules) → given ≡ rules → FrontsOf site client given moment s bytes before after old new answer →
+        Fronts site moment s bytes (state lane old.to_client old.to_controller old.lines)
         (state (lane_of client admitted refused rules after) new.to_client new.to_controller new.lines) answer
-    fronts_in after new answer f =
+    fronts_in after new answer given given_is g =
+        let f = subst (λ rs. FrontsOf site client rs moment s bytes before after old new answer) given_is g in
         let mid = state (lane_of client admitted refused rules after) new.to_client new.to_controller new.lines in
-        subst (λ (l : LaneValue). Fronts asset moment s bytes (state l old.to_client old.to_controller old.lines) mid answer) is
-        (subst (λ (w : Wire). Fronts asset moment s bytes (lane_at client rules w admitted refused old) mid answer) (sym same) (f admitted refused))
+        subst (λ (l : LaneValue). Fronts site moment s bytes (state l old.to_client old.to_controller old.lines) mid answer) is
+        (subst (λ (w : Wire). Fronts site moment s bytes (lane_at client rules w admitted refused old) mid answer) (sym same) (f admitted refused))

@@ -1,5 +1,7 @@
 -- Each history of octets has judged items: a history goes on with any octets.
-use Rattle.cf_lane.specs.Caller.{Caller}
+use Rattle.cf_lane.specs.Caller.{Caller, own}
+use Rattle.cf_lane.specs.Parts.{bears, part}
+use Rattle.cf_lane.specs.Site.{item_place}
 use Rattle.cf_lane.specs.Rates.{Says, says_at}
 use Rattle.cf_apci.proofs.Fronts.{apdu_octets}
 use Rattle.cf_audit.specs.declared.line.CutReason.{CutReason}
@@ -25,6 +27,7 @@ use Rattle.cf_modbus.specs.Acts.{acts}
 use Rattle.cf_modbus.specs.Adu.{AduValue, SpellsAdu}
 use Rattle.cf_modbus.specs.Request.{Reads, RequestValue}
 use Rattle.cf_modbus.specs.declared.RequestRefusal.{RequestRefusal}
+use Rattle.cf_policy.specs.Site.{SiteValue, asset_of}
 use Rattle.cf_policy.specs.declared.Asset.{Asset}
 use Rattle.cf_policy.specs.declared.Protocol.{Protocol}
 use Rattle.cf_view.proofs.OctetLists.{IsOctets-append, IsOctets-take}
@@ -93,26 +96,26 @@ module _ (each : EachPduHasAnAnswer) (asset : Asset) (says : Says) where
   adu_fate side.Client a o = command_fate a o
   adu_fate side.Controller a o = (fate.Carried, refl)
 
-  unit_fate : (earlier : List Judged) (s : Side) (u : UnitValue) → IsItemOf asset.protocol (Took s u) → (f : Fate) × HasUnitFate asset says earlier s u f
-  unit_fate earlier s (Adu a) is = adu_fate s a (pdu_octets asset.protocol a is.0 is.1)
-  unit_fate earlier s (Frame x) is = (fate_of_frame asset says s earlier x (stray_of asset s x), refl)
-  unit_fate earlier s (Apdu x) is = (fate_of_apdu asset says s earlier x, refl)
+  unit_fate : (p : Protocol) (earlier : List Judged) (s : Side) (u : UnitValue) → IsItemOf p (Took s u) → (f : Fate) × HasUnitFate asset says earlier s u f
+  unit_fate p earlier s (Adu a) is = adu_fate s a (pdu_octets p a is.0 is.1)
+  unit_fate p earlier s (Frame x) is = (fate_of_frame asset says s earlier x (stray_of asset s x), refl)
+  unit_fate p earlier s (Apdu x) is = (fate_of_apdu asset says s earlier x, refl)
 
-  item_fate : (earlier : List Judged) (i : Item) → IsItemOf asset.protocol i → (f : Fate) × HasItemFate asset says earlier i f
-  item_fate earlier (Took s u) is = unit_fate earlier s u is
-  item_fate earlier (Ended s rest) is = (fate.Carried, refl)
-  item_fate earlier (Broke s because) is = (_, refl)
+  item_fate : (p : Protocol) (earlier : List Judged) (i : Item) → IsItemOf p i → (f : Fate) × HasItemFate asset says earlier i f
+  item_fate p earlier (Took s u) is = unit_fate p earlier s u is
+  item_fate p earlier (Ended s rest) is = (fate.Carried, refl)
+  item_fate p earlier (Broke s because) is = (_, refl)
 
-module _ (each : EachPduHasAnAnswer) (asset : Asset) (client : Caller) where
+module _ (each : EachPduHasAnAnswer) (site : SiteValue) (client : Caller) where
   -- items judged up to the first that cuts
   record JudgesAll (earlier : List Judged) (places : List Placed) : Type 0 where
     js : List Judged
     dropped : List Placed
     are : places ≡ map place_of js ++ dropped
     goes : DropsBehindCut js dropped
-    fates : HaveFates asset client earlier js
+    fates : HaveFates site client earlier js
 
-  judge_one : (earlier : List Judged) (x : Placed) (xs : List Placed) (f : Fate) → HasFate asset client earlier x f →
+  judge_one : (earlier : List Judged) (x : Placed) (xs : List Placed) (f : Fate) → HasFate site client earlier x f →
       ((j : Judged) → JudgesAll (earlier ++ j ∷ []) xs) → (c : Option CutReason) → fate_cut f ≡ c → JudgesAll earlier (x ∷ xs)
   judge_one earlier x xs f has rest None e =
       let j : Judged = record { moment = x.moment; item = x.item; fate = f } in
@@ -122,10 +125,11 @@ module _ (each : EachPduHasAnAnswer) (asset : Asset) (client : Caller) where
       let j : Judged = record { moment = x.moment; item = x.item; fate = f } in
       record { js = j ∷ []; dropped = xs; are = refl; goes = goes_cut (fate_cut f) c _ e; fates = (has, tt) }
 
-  judge_all : (xs : List Placed) (earlier : List Judged) → AreItemsOf asset.protocol xs → JudgesAll earlier xs
+  judge_all : (xs : List Placed) (earlier : List Judged) → AreItemsOf site.first.protocol xs → JudgesAll earlier xs
   judge_all [] earlier a = record { js = []; dropped = []; are = refl; goes = refl; fates = tt }
   judge_all (x ∷ xs) earlier a =
-      let f = item_fate each asset (says_at asset client earlier x.moment) earlier x.item a.0 in
+      let k = item_place site x.item in
+      let f = item_fate each (asset_of site k) (says_at (asset_of site k) (own k client) (part site k earlier) x.moment) site.first.protocol (bears x.item earlier (part site k earlier)) x.item a.0 in
       judge_one earlier x xs f.0 f.1 (λ j. judge_all xs (earlier ++ j ∷ []) a.1) (fate_cut f.0) refl
 
 -- ---- a side's bytes are units and a tail
@@ -187,17 +191,17 @@ dropped_cut : (js : List Judged) (ds es : List Placed) (r : CutReason) → cut_o
 dropped_cut [] ds es r e g = cc
 dropped_cut (j ∷ js) ds es r e g = cut_step (fate_cut j.fate) js (DropsBehindCut js ds) (DropsBehindCut js es) r (λ e g. dropped_cut js ds es r e g) e g
 
-module _ (each : EachPduHasAnAnswer) (asset : Asset) (client : Caller) (h : List Element) (e : Element) (js : List Judged) (a : AreJudged asset client h js)
-    (now : List Placed) (c : Completes asset.protocol h e now) (all : AreItemsOf asset.protocol now) where
-  on_by : (cut : Option CutReason) → cut_of js ≡ cut → (ks : List Judged) × AreJudged asset client (h ++ e ∷ []) ks
+module _ (each : EachPduHasAnAnswer) (site : SiteValue) (client : Caller) (h : List Element) (e : Element) (js : List Judged) (a : AreJudged site client h js)
+    (now : List Placed) (c : Completes site.first.protocol h e now) (all : AreItemsOf site.first.protocol now) where
+  on_by : (cut : Option CutReason) → cut_of js ≡ cut → (ks : List Judged) × AreJudged site client (h ++ e ∷ []) ks
   on_by None uncut =
-      let r = judge_all each asset client now js all in
-      (js ++ r.js, judged_more asset client h e js r.js now r.dropped a uncut c r.are r.goes r.fates)
+      let r = judge_all each site client now js all in
+      (js ++ r.js, judged_more site client h e js r.js now r.dropped a uncut c r.are r.goes r.fates)
   on_by (Some r) cuts = (
     js,
     record {
       items = a.items ++ now;
-      are_items = items_more asset.protocol [] h e a.items now a.are_items c;
+      are_items = items_more site.first.protocol [] h e a.items now a.are_items c;
       dropped = a.dropped ++ now;
       are_first = ap (λ xs. xs ++ now) a.are_first ∙ append_assoc (map place_of js) a.dropped now;
       goes_on = dropped_cut js a.dropped (a.dropped ++ now) r cuts a.goes_on;
@@ -206,8 +210,8 @@ module _ (each : EachPduHasAnAnswer) (asset : Asset) (client : Caller) (h : List
   )
 
 pub judgements_go_on : EachPduHasAnAnswer → JudgementsGoOn
-judgements_go_on each asset client h e js a o =
-    let p = asset.protocol in
+judgements_go_on each site client h e js a o =
+    let p = site.first.protocol in
     let t = tails_of p h [] a.items (λ s. ([], Left [], record { starts = refl; partial = nothing_unit p })) a.are_items e.side in
     let c = complete p h e t.0 t.1 t.2 o in
-    on_by each asset client h e js a c.0 c.1 (one_weight p h e c.0 c.1).1 (cut_of js) refl
+    on_by each site client h e js a c.0 c.1 (one_weight p h e c.0 c.1).1 (cut_of js) refl

@@ -1,11 +1,10 @@
 -- The weights of items, and where a history goes on.
 use Rattle.cf_lane.specs.Caller.{Caller, caller_at}
-use Rattle.cf_lane.specs.Rates.{says_at}
 use Rattle.cf_audit.specs.declared.line.CutReason.{CutReason}
 use Rattle.cf_dnplink.proofs.Frames.{user_is}
 use Rattle.cf_lane.proofs.Earlier.{in_turn-append}
 use Rattle.cf_lane.proofs.Histories.{bytes_apart, bytes_own}
-use Rattle.cf_lane.proofs.Judgements.{after_break, one_item_fate, one_items, one_units, same_judged}
+use Rattle.cf_lane.proofs.Judgements.{after_break, one_fate, one_items, one_units, same_judged}
 use Rattle.cf_lane.proofs.Sides.{same_side, side_is}
 use Rattle.cf_lane.proofs.Units.{free_unit, short_unit}
 use Rattle.cf_lane.specs.Fate.{HasFate, HaveFates}
@@ -17,7 +16,7 @@ use Rattle.cf_lane.specs.Laws.{HasOneJudgement, StreamsGoOn, letters_of}
 use Rattle.cf_lane.specs.Log.{item_lines, lines}
 use Rattle.cf_lane.specs.Output.{output, outputs}
 use Rattle.cf_lane.specs.Unit.{Adu, Apdu, AreUnits, Frame, Left, SpellsUnit, Tail, UnitValue, Wrong, unit_spelling}
-use Rattle.cf_policy.specs.declared.Asset.{Asset}
+use Rattle.cf_policy.specs.Site.{SiteValue}
 use Rattle.cf_policy.specs.declared.Protocol.{Protocol}
 use Rattle.cf_view.specs.Units.{BeginsWithUnits, IsUnitsThenRest}
 use Rattle.cf_view.specs.declared.Side.{Side}
@@ -207,21 +206,21 @@ further_by : (c : Option CutReason) (j : Judged) (js ks : List Judged) (more : L
 further_by None j js ks more P Q both a b = both a b
 further_by (Some r) j js ks more P Q both a b = ([], more, b ∙ sym (append-nil js ∙ a), refl)
 
-pub further : (asset : Asset) (client : Caller) (earlier js ks : List Judged) (ds es more : List Placed) → (map place_of js ++ ds) ++ more ≡ map place_of ks ++ es →
-    HaveFates asset client earlier js → HaveFates asset client earlier ks → DropsBehindCut js ds → DropsBehindCut ks es → Further js ks more
-further asset client earlier [] ks ds es more same x y a b =
+pub further : (site : SiteValue) (client : Caller) (earlier js ks : List Judged) (ds es more : List Placed) → (map place_of js ++ ds) ++ more ≡ map place_of ks ++ es →
+    HaveFates site client earlier js → HaveFates site client earlier ks → DropsBehindCut js ds → DropsBehindCut ks es → Further js ks more
+further site client earlier [] ks ds es more same x y a b =
     (ks, es, refl, sym same ∙ ap (λ xs. xs ++ more) a)
-further asset client earlier (j ∷ js) [] ds es more same x y a b = cc
-further asset client earlier (j ∷ js) (k ∷ ks) ds es more same x y a b =
+further site client earlier (j ∷ js) [] ds es more same x y a b = cc
+further site client earlier (j ∷ js) (k ∷ ks) ds es more same x y a b =
     let place : place_of j ≡ place_of k = cc in
     let places : (map place_of js ++ ds) ++ more ≡ map place_of ks ++ es = cc in
     let item : j.item ≡ k.item = ap (λ (p : Placed). p.item) place in
-    let fate : j.fate ≡ k.fate = one_item_fate asset (says_at asset client earlier k.moment) earlier k.item j.fate k.fate (subst (λ p. HasFate asset client earlier p j.fate) place x.0) y.0 in
+    let fate : j.fate ≡ k.fate = one_fate site client earlier (place_of k) j.fate k.fate (subst (λ p. HasFate site client earlier p j.fate) place x.0) y.0 in
     let same_one : j ≡ k = same_judged j k place fate in
-    let fates = subst (λ i. HaveFates asset client (earlier ++ i ∷ []) js) same_one x.1 in
+    let fates = subst (λ i. HaveFates site client (earlier ++ i ∷ []) js) same_one x.1 in
     let goes = subst (λ f. GoesOnAfter (fate_cut f) js (DropsBehindCut js ds)) fate a in
     let r = further_by (fate_cut k.fate) k js ks more (DropsBehindCut js ds) (DropsBehindCut ks es)
-    (λ p q. further asset client (earlier ++ k ∷ []) js ks ds es more places fates y.1 p q) goes b in
+    (λ p q. further site client (earlier ++ k ∷ []) js ks ds es more places fates y.1 p q) goes b in
     (r.0, r.1, cc (same_one, r.2), r.3)
 
 no_places : (ms : List Judged) (rest : List Placed) → map place_of ms ++ rest ≡ [] → ms ≡ []
@@ -229,25 +228,25 @@ no_places [] rest e = refl
 no_places (m ∷ ms) rest e = cc
 
 pub has_one_judgement : HasOneJudgement
-has_one_judgement asset client h js ks a b =
-    let same = one_items asset.protocol (free_unit asset.protocol) [] h a.items b.items a.are_items b.are_items in
-    let f = further asset client [] js ks a.dropped b.dropped []
+has_one_judgement site client h js ks a b =
+    let same = one_items site.first.protocol (free_unit site.first.protocol) [] h a.items b.items a.are_items b.are_items in
+    let f = further site client [] js ks a.dropped b.dropped []
     (append-nil (map place_of js ++ a.dropped) ∙ sym a.are_first ∙ same ∙ b.are_first) a.fates b.fates a.goes_on b.goes_on in
     sym (f.2 ∙ ap (λ ms. js ++ ms) (no_places f.0 f.1 f.3) ∙ append-nil js)
 
 pub streams_go_on : StreamsGoOn
-streams_go_on asset past client h more js ks a b =
-    let free = free_unit asset.protocol in
-    let split = items_split asset.protocol [] h more b.items b.are_items in
-    let same = one_items asset.protocol free [] h a.items split.0 a.are_items split.2 in
-    let f = further asset (caller_at client.address past) [] js ks a.dropped b.dropped split.1
+streams_go_on site past client h more js ks a b =
+    let free = free_unit site.first.protocol in
+    let split = items_split site.first.protocol [] h more b.items b.are_items in
+    let same = one_items site.first.protocol free [] h a.items split.0 a.are_items split.2 in
+    let f = further site (caller_at client.address past) [] js ks a.dropped b.dropped split.1
     (ap (λ xs. xs ++ split.1) (sym a.are_first ∙ same) ∙ sym split.4 ∙ b.are_first) a.fates b.fates a.goes_on b.goes_on in
     record {
       ms = f.0;
       all = f.2;
-      to_client = ap (outputs asset side.Client []) f.2 ∙ in_turn-append (output asset side.Client) [] js f.0;
-      to_controller = ap (outputs asset side.Controller []) f.2 ∙ in_turn-append (output asset side.Controller) [] js f.0;
-      in_log = ap (lines asset client []) f.2 ∙ in_turn-append (λ b j. item_lines asset client b j j.item) [] js f.0;
+      to_client = ap (outputs site side.Client []) f.2 ∙ in_turn-append (output site side.Client) [] js f.0;
+      to_controller = ap (outputs site side.Controller []) f.2 ∙ in_turn-append (output site side.Controller) [] js f.0;
+      in_log = ap (lines site client []) f.2 ∙ in_turn-append (λ b j. item_lines site client b j j.item) [] js f.0;
     }
 
 -- the items of a history are those of its protocol

@@ -1,10 +1,13 @@
 -- Laws of the items of histories.
-use Rattle.cf_lane.specs.Rates.{Says}
+use Rattle.cf_lane.specs.Caller.{Caller, own}
+use Rattle.cf_lane.specs.Parts.{bears, part}
+use Rattle.cf_lane.specs.Rates.{Says, says_at}
+use Rattle.cf_lane.specs.Site.{item_place}
 use Rattle.cf_lane.proofs.Commands.{has_one_fate}
 use Rattle.cf_lane.proofs.Histories.{bytes_of-append}
 use Rattle.cf_lane.proofs.Pieces.{units_stay}
 use Rattle.cf_lane.proofs.Units.{free_unit}
-use Rattle.cf_lane.specs.Fate.{HasItemFate, HasUnitFate}
+use Rattle.cf_lane.specs.Fate.{HasFate, HasItemFate, HasUnitFate}
 use Rattle.cf_lane.specs.History.{Element, bytes_at, bytes_in, bytes_of, is_side, letters_at}
 use Rattle.cf_lane.specs.Item.{AreItems, Broke, Completes, Item, Placed, Took, last_after, last_items, placed}
 use Rattle.cf_lane.specs.Judged.{Judged, place_of}
@@ -13,6 +16,7 @@ use Rattle.cf_lane.specs.Modbus.{HasAduFate}
 use Rattle.cf_lane.specs.Unit.{Adu, AreUnits, Left, SpellsUnit, Tail, UnitValue, Wrong, unit_break}
 use Rattle.cf_lane.specs.declared.fate.Fate.{Fate}
 use Rattle.cf_modbus.specs.Adu.{AduValue}
+use Rattle.cf_policy.specs.Site.{SiteValue, asset_of}
 use Rattle.cf_policy.specs.declared.Asset.{Asset}
 use Rattle.cf_policy.specs.declared.Protocol.{Protocol}
 use Rattle.cf_view.proofs.Units.{one_units_then_break, one_units_then_rest, rest_not_break}
@@ -172,6 +176,12 @@ one_unit_fate asset says earlier s u f g x y = x ∙ sym y
 pub one_item_fate : (asset : Asset) (says : Says) (earlier : List Judged) (i : Item) (f g : Fate) → HasItemFate asset says earlier i f → HasItemFate asset says earlier i g → f ≡ g
 one_item_fate asset says earlier (Took s u) f g x y = one_unit_fate asset says earlier s u f g x y
 one_item_fate asset says earlier i f g x y = x ∙ sym y
+
+-- an item of a site's session has one fate
+pub one_fate : (site : SiteValue) (client : Caller) (earlier : List Judged) (p : Placed) (f g : Fate) → HasFate site client earlier p f → HasFate site client earlier p g → f ≡ g
+one_fate site client earlier p f g x y =
+    let k = item_place site p.item in
+    one_item_fate (asset_of site k) (says_at (asset_of site k) (own k client) (part site k earlier) p.moment) (bears p.item earlier (part site k earlier)) p.item f g x y
 
 pub same_judged : (j k : Judged) → place_of j ≡ place_of k → j.fate ≡ k.fate → j ≡ k
 same_judged j k a b =

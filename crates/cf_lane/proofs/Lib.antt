@@ -24,7 +24,9 @@ pub mod Judgements
 mod Lasting
 mod LineFeeds
 mod Moments
+pub mod Parting
 mod Pieces
+mod Places
 mod Quiet
 mod Rated
 mod Recuts
@@ -34,7 +36,9 @@ mod ReplySizes
 mod Runs
 mod Saying
 mod Sides
+pub mod Sites
 mod Sizes
+mod Starting
 mod Taking
 pub mod Units
 mod Unrated

@@ -17,6 +17,10 @@ use Rattle.cf_lane.specs.Modbus.{adu_reply}
 use Rattle.cf_lane.specs.Output.{item_output, other, outputs}
 use Rattle.cf_lane.specs.Unit.{Adu, Apdu, AreUnits, Frame, Left, Tail, UnitValue, Wrong, frame_spelling}
 use Rattle.cf_lane.specs.declared.fate.Fate.{Fate}
+use Rattle.cf_lane.proofs.Parting.{ended_bears}
+use Rattle.cf_lane.specs.Parts.{bears, part}
+use Rattle.cf_lane.specs.Site.{item_place}
+use Rattle.cf_policy.specs.Site.{SiteValue, asset_of}
 use Rattle.cf_policy.specs.declared.Asset.{Asset}
 use Rattle.cf_policy.specs.declared.Protocol.{Protocol}
 use Rattle.cf_view.specs.declared.Side.{Side}
@@ -125,21 +129,23 @@ module _ (asset : Asset) where
   quiet_item to (Took of u) earlier j is n e = quiet_unit to of u earlier j is n e
   quiet_item to i earlier j is n e = refl
 
-  quiet : (to : Side) (earlier ms : List Judged) → AreNotOf (other to) (map place_of ms) → has_ended (other to) earlier ≡ true → outputs asset to earlier ms ≡ []
+module _ (site : SiteValue) where
+  quiet : (to : Side) (earlier ms : List Judged) → AreNotOf (other to) (map place_of ms) → has_ended (other to) earlier ≡ true → outputs site to earlier ms ≡ []
   quiet to earlier [] n e = refl
   quiet to earlier (j ∷ ms) n e =
-      let here = quiet_item to j.item earlier j refl n.0 e in
+      let k = item_place site j.item in
+      let here = quiet_item (asset_of site k) to j.item (bears j.item earlier (part site k earlier)) j refl n.0 (ended_bears site k (other to) j.item earlier ∙ e) in
       let next = quiet to (earlier ++ j ∷ []) ms n.1 (ended_stays (other to) earlier j e) in
-      ap (λ xs. xs ++ outputs asset to (earlier ++ j ∷ []) ms) here ∙ next
+      ap (λ xs. xs ++ outputs site to (earlier ++ j ∷ []) ms) here ∙ next
 
 pub quiet_behind_end : QuietBehindEnd
-quiet_behind_end asset client h more js ms to a b e none =
-    let free = free_unit asset.protocol in
-    let split = items_split asset.protocol [] h more b.items b.are_items in
-    let same = one_items asset.protocol free [] h a.items split.0 a.are_items split.2 in
-    let f = further asset client [] js (js ++ ms) a.dropped b.dropped split.1
+quiet_behind_end site client h more js ms to a b e none =
+    let free = free_unit site.first.protocol in
+    let split = items_split site.first.protocol [] h more b.items b.are_items in
+    let same = one_items site.first.protocol free [] h a.items split.0 a.are_items split.2 in
+    let f = further site client [] js (js ++ ms) a.dropped b.dropped split.1
     (ap (λ xs. xs ++ split.1) (sym a.are_first ∙ same) ∙ sym split.4 ∙ b.are_first) a.fates b.fates a.goes_on b.goes_on in
     let are : AreNotOf (other to) (map place_of f.0) = not_of_front (other to) (map place_of f.0) f.1
-    (subst (AreNotOf (other to)) (sym f.3) (items_not_of asset.protocol (other to) h more split.1 split.3 none)) in
+    (subst (AreNotOf (other to)) (sym f.3) (items_not_of site.first.protocol (other to) h more split.1 split.3 none)) in
     let later : f.0 ≡ ms = append_cancel_left js f.0 ms (sym f.2) in
-    quiet asset to js ms (subst (λ ns. AreNotOf (other to) (map place_of ns)) later are) e
+    quiet site to js ms (subst (λ ns. AreNotOf (other to) (map place_of ns)) later are) e

@@ -27,8 +27,8 @@ items_both p earlier (e ∷ h) more is ks a b =
     (a.0, a.1 ++ ks, a.2, next, ap (λ zs. zs ++ ks) a.4 ∙ append_assoc a.0 a.1 ks)
 
 pub judged_join : JudgedJoin
-judged_join asset client earlier later m s xs ys ended js a =
-    let p = asset.protocol in
+judged_join site client earlier later m s xs ys ended js a =
+    let p = site.first.protocol in
     let split = items_split p [] earlier (bytes_at m s xs ∷ letters_at m s ys ended ∷ later) a.items a.are_items in
     let joined = pieces_join p earlier later m s xs ys ended split.1 split.3 in
     let whole = items_both p [] earlier (letters_at m s (xs ++ ys) ended ∷ later) split.0 split.1 split.2 joined in
@@ -58,9 +58,9 @@ nothing_completes p free earlier m s now c =
     ∙ ap (λ t. map (placed m) (last_after c.was s false t)) (sym both.1) ∙ ap (map (placed m)) (nothing_last c.was s)
 
 pub nothing_taken : NothingTaken
-nothing_taken asset client earlier later m s js a =
-    let free = free_unit asset.protocol in
-    let p = asset.protocol in
+nothing_taken site client earlier later m s js a =
+    let free = free_unit site.first.protocol in
+    let p = site.first.protocol in
     let split = items_split p [] earlier (bytes_at m s [] ∷ later) a.items a.are_items in
     let rest = split.3 in
     let none = nothing_completes p free earlier m s rest.0 rest.2 in
@@ -83,18 +83,18 @@ rests_same p h k rests None same a =
 rests_same p h k rests (Some r) same a = tt
 
 pub end_joins : EndJoins
-end_joins asset past h rests cut first now m s piece f =
-    let free = free_unit asset.protocol in
+end_joins site past h rests cut first now m s piece f =
+    let free = free_unit site.first.protocol in
     let whole : List ℕ → List Element = λ xs. h ++ letters_at m s xs true ∷ [] in
-    let parts = subst (λ (x : List Element). AreJudged asset (caller_at now.lane.client.address past) x f.judged) (append_assoc h (bytes_at m s piece ∷ []) (end_at m s ∷ [])) f.are_judged in
-    let joined = judged_join asset (caller_at now.lane.client.address past) h [] m s piece [] true f.judged parts in
-    let bytes = λ (t : Side). same_bytes asset.protocol free h m s piece [] true t in
+    let parts = subst (λ (x : List Element). AreJudged site (caller_at now.lane.client.address past) x f.judged) (append_assoc h (bytes_at m s piece ∷ []) (end_at m s ∷ [])) f.are_judged in
+    let joined = judged_join site (caller_at now.lane.client.address past) h [] m s piece [] true f.judged parts in
+    let bytes = λ (t : Side). same_bytes site.first.protocol free h m s piece [] true t in
     record {
       judged = f.judged;
-      are_judged = subst (λ xs. AreJudged asset (caller_at now.lane.client.address past) (whole xs) f.judged) (append-nil piece) joined;
+      are_judged = subst (λ xs. AreJudged site (caller_at now.lane.client.address past) (whole xs) f.judged) (append-nil piece) joined;
       is_cut = f.is_cut;
-      are_rests = subst (λ xs. AreRests asset.protocol (whole xs) rests cut) (append-nil piece)
-          (rests_same asset.protocol ((h ++ bytes_at m s piece ∷ []) ++ end_at m s ∷ []) (whole (piece ++ [])) rests cut bytes f.are_rests);
+      are_rests = subst (λ xs. AreRests site.first.protocol (whole xs) rests cut) (append-nil piece)
+          (rests_same site.first.protocol ((h ++ bytes_at m s piece ∷ []) ++ end_at m s ∷ []) (whole (piece ++ [])) rests cut bytes f.are_rests);
       knows = f.knows;
       client_stream = f.client_stream;
       controller_stream = f.controller_stream;

@@ -1,5 +1,5 @@
 -- Laws of one unit, and of what a queue grows by.
-use Rattle.cf_lane.specs.Caller.{RateMoments, caller_at}
+use Rattle.cf_lane.specs.Caller.{RateMoments, own_at}
 use Rattle.cf_lane.proofs.Earlier.{no_debt}
 use Rattle.cf_lane.proofs.Handling.{adu_handled, push-nothing, with_lines-nothing}
 use Rattle.cf_lane.proofs.Units.{adus, begins_by}
@@ -8,19 +8,22 @@ use Rattle.cf_lane.specs.Log.{admission_lines, is_some_bytes, line_about, refusa
 use Rattle.cf_lane.specs.Judged.{Judged}
 use Rattle.cf_lane.specs.Modbus.{HasAduFate, HasCommandFate, adu_reply}
 use Rattle.cf_lane.specs.Rates.{Says, says_at}
-use Rattle.cf_lane.specs.Rings.{IsRulesOf, KnowsRules, RulesGoOn, says_by}
+use Rattle.cf_lane.specs.Parts.{part}
+use Rattle.cf_lane.specs.Rings.{AllGoOn, IsRulesOf, KnowsRules, says_by}
+use Rattle.cf_lane.specs.Site.{place_for}
+use Rattle.cf_lane.specs.declared.rules.Rules.{Rules}
 use Rattle.cf_lane.specs.declared.fate.Admission.{Admission}
 use Rattle.cf_lane.specs.declared.fate.Fate.{Fate}
-use Rattle.cf_lane.proofs.Saying.{rules_stay, says_same}
+use Rattle.cf_lane.proofs.Saying.{all_stay, says_same}
 use Rattle.cf_lane.specs.Unit.{Adu}
 use Rattle.cf_lane.specs.declared.fate.Refusal.{Refusal}
 use Rattle.cf_modbus.proofs.Framing.{own_length, own_octets}
 use Rattle.cf_modbus.specs.Adu.{AduValue, SpellsAdu, spelling}
 use Rattle.cf_outq.specs.SendQueue.{Queue, after_push}
-use Rattle.cf_policy.specs.declared.Asset.{Asset}
+use Rattle.cf_policy.specs.Site.{SiteValue, asset_of}
 use Rattle.cf_view.specs.Framing.{Begins}
 use Rattle.cf_view.specs.declared.Side.{Side}
-use Rattle.std.proofs.Common.{Bool, List, None, [], ap, arith, false, length, refl, subst, sym, true, ℕ, ◌+◌, ◌∙◌, ◌∷◌, ◌≡◌, ◌≤◌}
+use Rattle.std.proofs.Common.{Bool, List, None, Some, [], ap, arith, false, length, refl, slice_get, subst, sym, true, ℕ, ◌+◌, ◌∙◌, ◌∷◌, ◌≡◌, ◌≤◌}
 use Rattle.std.proofs.lemmas.List.{length-append, length-take}
 use Rattle.cf_lane.specs.declared.fate.Fate.TheVariants as fate
 use Rattle.cf_policy.specs.declared.Protocol.TheVariants as protocol
@@ -31,43 +34,45 @@ admitted_reply : (b : Bool) (used : Admission) (a : AduValue) → adu_reply b (f
 admitted_reply true used a = refl
 admitted_reply false used a = refl
 
-module _ (asset : Asset) (moment : ℕ) (a : AduValue) (old new : State) (client : new.lane.client ≡ old.lane.client) (wire : new.lane.wire ≡ old.lane.wire)
-    (of : IsRulesOf asset old.lane.client.address old.lane.rules) where
+module _ (site : SiteValue) (place moment : ℕ) (a : AduValue) (here : place ≡ place_for site side.Client (Adu a)) (old new : State) (client : new.lane.client ≡ old.lane.client)
+    (wire : new.lane.wire ≡ old.lane.wire) (own : Rules) (at : slice_get old.lane.rules place ≡ Some own) (of : IsRulesOf (asset_of site place) old.lane.client.address own) where
   -- what the rules in memory say
   abbrev pub says : Says
-  says = says_by asset old.lane.client.address old.lane.rules moment
+  says = says_by (asset_of site place) old.lane.client.address own moment
 
-  pub has_fate : (f : Fate) → HasCommandFate asset says a f → (past : RateMoments) (earlier : List Judged) → KnowsRules past old.lane.rules earlier →
-      HasAduFate asset (says_at asset (caller_at old.lane.client.address past) earlier moment) side.Client a f
+  pub has_fate : (f : Fate) → HasCommandFate (asset_of site place) says a f → (past : RateMoments) (earlier : List Judged) → KnowsRules site past old.lane.rules earlier →
+      HasAduFate (asset_of site place) (says_at (asset_of site place) (own_at old.lane.client.address (past place)) (part site place earlier) moment) side.Client a f
   has_fate f has past earlier know =
-      subst (λ (x : Says). HasCommandFate asset x a f) (says_same asset old.lane.client.address past old.lane.rules earlier moment of know) has
+      subst (λ (x : Says). HasCommandFate (asset_of site place) x a f)
+      (says_same (asset_of site place) old.lane.client.address (past place) own (part site place earlier) moment of (know place own at)) has
 
   -- an admitted command goes on, and nothing else does
-  pub takes_admitted : (used : Admission) → old.to_controller.ended ≡ false → HasCommandFate asset says a (fate.Admitted used) →
-      RulesGoOn (fate.Admitted used) moment old.lane.rules new.lane.rules →
+  pub takes_admitted : (used : Admission) → old.to_controller.ended ≡ false → HasCommandFate (asset_of site place) says a (fate.Admitted used) →
+      AllGoOn place (fate.Admitted used) moment old.lane.rules new.lane.rules →
       new.lane.admitted ≡ old.lane.admitted + 1 → new.lane.refused ≡ old.lane.refused →
       new.to_client ≡ old.to_client → new.to_controller ≡ after_push old.to_controller (spelling a) →
-      new.lines ≡ with_lines old.lines (admission_lines asset old.lane.client moment (spelling a) used) →
-      TakesCommand asset moment a old new
+      new.lines ≡ with_lines old.lines (admission_lines (asset_of site place) old.lane.client moment (spelling a) used) →
+      TakesCommand site moment a old new
   takes_admitted used goes has rules admitted refused c s t = record {
     fate = fate.Admitted used;
     uncut = refl;
-    handled = adu_handled asset moment side.Client a (fate.Admitted used) old new (has_fate (fate.Admitted used) has) rules client wire admitted (refused ∙ omega arith)
+    handled = adu_handled site place moment side.Client a here (fate.Admitted used) old new (has_fate (fate.Admitted used) has) rules client wire admitted (refused ∙ omega arith)
         (c ∙ sym (push-nothing old.to_client) ∙ ap (after_push old.to_client) (sym (admitted_reply old.to_client.ended used a)))
         s t (λ e. admitted_reply old.to_client.ended used a) (λ e. cc (e, goes));
   }
 
   -- a refused command has its reply, where one may still go out, and its line
-  abbrev pub takes_refused : (r : Refusal) → HasCommandFate asset says a (fate.Refused r) → new.lane.rules ≡ old.lane.rules →
+  abbrev pub takes_refused : (r : Refusal) → HasCommandFate (asset_of site place) says a (fate.Refused r) → new.lane.rules ≡ old.lane.rules →
       new.lane.admitted ≡ old.lane.admitted → new.lane.refused ≡ old.lane.refused + 1 →
       new.to_client ≡ after_push old.to_client (adu_reply old.to_client.ended (fate.Refused r) a) → new.to_controller ≡ old.to_controller →
-      new.lines ≡ with_lines old.lines (line_about asset old.lane.client moment
-      (refusal_line asset r (is_some_bytes (adu_reply old.to_client.ended (fate.Refused r) a)) (spelling a)) ∷ []) →
-      TakesCommand asset moment a old new
+      new.lines ≡ with_lines old.lines (line_about (asset_of site place) old.lane.client moment
+      (refusal_line (asset_of site place) r (is_some_bytes (adu_reply old.to_client.ended (fate.Refused r) a)) (spelling a)) ∷ []) →
+      TakesCommand site moment a old new
   takes_refused r has rules admitted refused c s t = record {
     fate = fate.Refused r;
     uncut = refl;
-    handled = adu_handled asset moment side.Client a (fate.Refused r) old new (has_fate (fate.Refused r) has) (rules_stay (fate.Refused r) moment old.lane.rules new.lane.rules refl rules) client wire (admitted ∙ omega arith) refused
+    handled = adu_handled site place moment side.Client a here (fate.Refused r) old new (has_fate (fate.Refused r) has)
+        (all_stay place (fate.Refused r) moment old.lane.rules new.lane.rules refl rules) client wire (admitted ∙ omega arith) refused
         c (s ∙ sym (push-nothing old.to_controller)) t (λ e. ap (λ b. adu_reply b (fate.Refused r) a) e) (λ e. refl);
   }
 
@@ -89,9 +94,9 @@ pub room_less : (m n : ℕ) (q : Queue) → n ≤ m → HasRoom m q → HasRoom 
 room_less m n q l r = record { room = omega (arith, r.room, l); limit = omega (arith, r.limit, l) }
 
 -- a lane of Modbus has no debt, before a unit and after it
-pub grows_modbus : (asset : Asset) → asset.protocol ≡ protocol.Modbus → (old new : LaneValue) → IsLaneOf asset old → IsLaneOf asset new → (m : ℕ) (p q : Queue) →
+pub grows_modbus : (site : SiteValue) → site.first.protocol ≡ protocol.Modbus → (old new : LaneValue) → IsLaneOf site old → IsLaneOf site new → (m : ℕ) (p q : Queue) →
     Grows m 0 0 p q → Grows m (debt old) (debt new) p q
-grows_modbus asset modbus old new a b m p q g = rw (no_debt asset old modbus a, no_debt asset new modbus b) g
+grows_modbus site modbus old new a b m p q g = rw (no_debt site old modbus a, no_debt site new modbus b) g
 
 -- the room that is left once a queue grew
 pub room_left : (m n d e : ℕ) (p q : Queue) → HasRoom (d + (m + n)) p → Grows m d e p q → HasRoom (e + n) q
@@ -104,13 +109,13 @@ module _ (a : AduValue) (xs : List ℕ) (n : ℕ) (b : Begins SpellsAdu xs a n) 
   pub adu_least : 8 ≤ n
   adu_least = omega (arith, own_length a xs n b, b.spells.at_least)
 
-module _ (asset : Asset) (modbus : asset.protocol ≡ protocol.Modbus) (moment : ℕ) (bytes : List ℕ) where
+module _ (site : SiteValue) (modbus : site.first.protocol ≡ protocol.Modbus) (moment : ℕ) (bytes : List ℕ) where
   -- a client's ADU is taken as a command
-  abbrev pub takes_client : (a : AduValue) (n : ℕ) (old new : State) → Begins SpellsAdu bytes a n → TakesCommand asset moment a old new →
-      TakesUnit asset moment side.Client bytes n None old new
+  abbrev pub takes_client : (a : AduValue) (n : ℕ) (old new : State) → Begins SpellsAdu bytes a n → TakesCommand site moment a old new →
+      TakesUnit site moment side.Client bytes n None old new
   takes_client a n old new b t = record {
     unit = Adu a;
-    begins = begins_by (adus asset.protocol modbus) bytes a n b;
+    begins = begins_by (adus site.first.protocol modbus) bytes a n b;
     some_bytes = omega (arith, adu_least a bytes n b);
     fate = t.fate;
     is_cut = t.uncut;
@@ -118,24 +123,24 @@ module _ (asset : Asset) (modbus : asset.protocol ≡ protocol.Modbus) (moment :
   }
 
   -- the same of the side that it is
-  pub takes_of_client : (s : Side) → s ≡ side.Client → (a : AduValue) (n : ℕ) (old new : State) → Begins SpellsAdu bytes a n → TakesCommand asset moment a old new →
-      TakesUnit asset moment s bytes n None old new
-  takes_of_client s is a n old new b t = subst (λ (s : Side). TakesUnit asset moment s bytes n None old new) (sym is) (takes_client a n old new b t)
+  pub takes_of_client : (s : Side) → s ≡ side.Client → (a : AduValue) (n : ℕ) (old new : State) → Begins SpellsAdu bytes a n → TakesCommand site moment a old new →
+      TakesUnit site moment s bytes n None old new
+  takes_of_client s is a n old new b t = subst (λ (s : Side). TakesUnit site moment s bytes n None old new) (sym is) (takes_client a n old new b t)
 
   -- a controller's ADU goes on
   pub takes_of_controller : (s : Side) → s ≡ side.Controller → (a : AduValue) (n : ℕ) (old new : State) → IsOpen s old.to_client old.to_controller → new.lane ≡ old.lane →
       new.to_client ≡ after_push old.to_client (spelling a) → new.to_controller ≡ old.to_controller → new.lines ≡ old.lines →
-      Begins SpellsAdu bytes a n → TakesUnit asset moment s bytes n None old new
+      Begins SpellsAdu bytes a n → TakesUnit site moment s bytes n None old new
   takes_of_controller s is a n old new goes lane c q t b =
       let unended : old.to_client.ended ≡ false = subst (λ (s : Side). IsOpen s old.to_client old.to_controller) is goes in
-      subst (λ (s : Side). TakesUnit asset moment s bytes n None old new) (sym is) (record {
+      subst (λ (s : Side). TakesUnit site moment s bytes n None old new) (sym is) (record {
         unit = Adu a;
-        begins = begins_by (adus asset.protocol modbus) bytes a n b;
+        begins = begins_by (adus site.first.protocol modbus) bytes a n b;
         some_bytes = omega (arith, adu_least a bytes n b);
         fate = fate.Carried;
         is_cut = refl;
-        handled = adu_handled asset moment side.Controller a fate.Carried old new (λ past earlier know. refl)
-            (rules_stay fate.Carried moment old.lane.rules new.lane.rules refl (ap (λ l. l.rules) lane)) (ap (λ l. l.client) lane) (ap (λ l. l.wire) lane)
+        handled = adu_handled site (place_for site side.Controller (Adu a)) moment side.Controller a refl fate.Carried old new (λ past earlier know. refl)
+            (all_stay (place_for site side.Controller (Adu a)) fate.Carried moment old.lane.rules new.lane.rules refl (ap (λ l. l.rules) lane)) (ap (λ l. l.client) lane) (ap (λ l. l.wire) lane)
             (ap (λ l. l.admitted) lane ∙ omega arith) (ap (λ l. l.refused) lane ∙ omega arith)
             c (q ∙ sym (push-nothing old.to_controller)) (t ∙ sym (with_lines-nothing old.lines)) (λ e. cc (e, unended)) (λ e. refl);
       })

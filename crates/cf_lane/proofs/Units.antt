@@ -9,7 +9,7 @@ use Rattle.cf_lane.specs.Unit.{Adu, Apdu, AreUnits, Frame, Left, SpellsUnit, Tai
 use Rattle.cf_modbus.proofs.Framing.{prefix_free}
 use Rattle.cf_modbus.proofs.Fronts.{adu_front}
 use Rattle.cf_modbus.specs.Adu.{AduValue, SpellsAdu, mbap_break}
-use Rattle.cf_policy.specs.declared.Asset.{Asset}
+use Rattle.cf_policy.specs.Site.{SiteValue}
 use Rattle.cf_policy.specs.declared.Protocol.{Protocol}
 use Rattle.cf_view.proofs.Units.{units_exist}
 use Rattle.cf_view.specs.Framing.{Begins, BreaksAt, HasFront, IsFront, IsPartial, IsPrefixFree}
@@ -147,12 +147,12 @@ module _ {U : Type 0} {Spells : U → List ℕ → Type 0} {u : U} {n : ℕ} {re
   begins_same same b = subst (λ xs. Begins Spells xs u n) same b
 
 -- what a step says of octets that are no whole unit, where its reader spoke of octets that are the same
-module _ {U : Type 0} {Spells : U → List ℕ → Type 0} {unit : U → UnitValue} {break_at : ℕ → Break} (asset : Asset) (g : IsGrammarOf Spells asset.protocol unit break_at)
+module _ {U : Type 0} {Spells : U → List ℕ → Type 0} {unit : U → UnitValue} {break_at : ℕ → Break} (site : SiteValue) (g : IsGrammarOf Spells site.first.protocol unit break_at)
     (read bytes : List ℕ) (same : read ≡ bytes) where
-  pub step_waits : IsPartial Spells read → IsPartial (SpellsUnit asset.protocol) bytes
+  pub step_waits : IsPartial Spells read → IsPartial (SpellsUnit site.first.protocol) bytes
   step_waits b = partial_by g bytes (subst (IsPartial Spells) same b)
 
-  pub step_breaks : (s : Side) (reason : Break) → (i : ℕ) × BreaksAt Spells read i × (reason ≡ break_at i) → Breaks asset s bytes (cut.Framing s reason)
+  pub step_breaks : (s : Side) (reason : Break) → (i : ℕ) × BreaksAt Spells read i × (reason ≡ break_at i) → Breaks site s bytes (cut.Framing s reason)
   step_breaks s reason b = record {
     place = b.0;
     breaks = breaks_by g bytes b.0 (subst (λ xs. BreaksAt Spells xs b.0) same b.1);

@@ -10,7 +10,7 @@ use Rattle.cf_lane.specs.Log.{lines, with_lines}
 use Rattle.cf_lane.specs.Output.{stream_to}
 use Rattle.cf_lane.specs.Unit.{SpellsUnit, UnitValue}
 use Rattle.cf_outq.specs.SendQueue.{IsQueueOf}
-use Rattle.cf_policy.specs.declared.Asset.{Asset}
+use Rattle.cf_policy.specs.Site.{SiteValue}
 use Rattle.cf_policy.specs.declared.Protocol.{Protocol}
 use Rattle.cf_view.specs.Units.{IsUnitsThenRest}
 use Rattle.cf_view.specs.declared.Endpoint.{Endpoint}
@@ -30,13 +30,13 @@ DropsBehindCut [] dropped = dropped ≡ []
 DropsBehindCut (j ∷ js) dropped = GoesOnAfter (fate_cut j.fate) js (DropsBehindCut js dropped)
 
 -- the judged items of a history: its items up to the first that cuts, each with its fate after the earlier ones
-pub record AreJudged (asset : Asset) (client : Caller) (history : List Element) (judged : List Judged) : Type 0 where
+pub record AreJudged (site : SiteValue) (client : Caller) (history : List Element) (judged : List Judged) : Type 0 where
   pub items : List Placed
-  pub are_items : AreItems asset.protocol [] history items
+  pub are_items : AreItems site.first.protocol [] history items
   pub dropped : List Placed
   pub are_first : items ≡ map place_of judged ++ dropped
   pub goes_on : DropsBehindCut judged dropped
-  pub fates : HaveFates asset client [] judged
+  pub fates : HaveFates site client [] judged
 
 -- what is left of each side: bytes that are no whole unit
 pub record Rests : Type 0 where
@@ -66,27 +66,27 @@ AreRests p history rests (Some reason) = Unit {0}
 
 -- lane, queues and log stand for a history: the queues have the two streams, the log has the lines after what it had
 -- first, and the cut is that of the history. Earlier sessions used what is given as before
-pub record Follows (asset : Asset) (before : RateMoments) (history : List Element) (rests : Rests) (cut : Option CutReason)
+pub record Follows (site : SiteValue) (before : RateMoments) (history : List Element) (rests : Rests) (cut : Option CutReason)
     (first : Option (List (List ℕ))) (now : State) : Type 0 where
   pub judged : List Judged
-  pub are_judged : AreJudged asset (caller_at now.lane.client.address before) history judged
+  pub are_judged : AreJudged site (caller_at now.lane.client.address before) history judged
   pub is_cut : cut_of judged ≡ cut
-  pub are_rests : AreRests asset.protocol history rests cut
-  pub knows : Knows asset before now judged
-  pub client_stream : IsQueueOf now.to_client (stream_to asset side.Client judged)
-  pub controller_stream : IsQueueOf now.to_controller (stream_to asset side.Controller judged)
-  pub of_lines : now.lines ≡ with_lines first (lines asset now.lane.client [] judged)
+  pub are_rests : AreRests site.first.protocol history rests cut
+  pub knows : Knows site before now judged
+  pub client_stream : IsQueueOf now.to_client (stream_to site side.Client judged)
+  pub controller_stream : IsQueueOf now.to_controller (stream_to site side.Controller judged)
+  pub of_lines : now.lines ≡ with_lines first (lines site now.lane.client [] judged)
 
 -- a state over another log
 abbrev pub over : Option (List (List ℕ)) → State → State
 over log s = record s { lines = log }
 
 -- a log got lines by which a history goes on, which stands over lines of its own: the log may have lines of others besides
-pub record AddsTo (asset : Asset) (before : RateMoments) (history : List Element) (rests : Rests) (cut : Option CutReason)
+pub record AddsTo (site : SiteValue) (before : RateMoments) (history : List Element) (rests : Rests) (cut : Option CutReason)
     (first own old : Option (List (List ℕ))) (now : State) : Type 0 where
   pub more : List (List ℕ)
   pub added : now.lines ≡ with_lines old more
-  pub follows : Follows asset before history rests cut first (over (with_lines own more) now)
+  pub follows : Follows site before history rests cut first (over (with_lines own more) now)
 
 -- an End may stand after bytes in one element where the bytes cut: it is then no item
 abbrev pub IsEndBehindCut : (ended : Bool) → Option CutReason → Type 0
@@ -96,47 +96,47 @@ IsEndBehindCut true (Some reason) = Unit {0}
 
 -- a log has, after what it had first, the first lines of a history's items, and the octets after its last line are a beginning
 -- of the lines that follow
-pub record Began (asset : Asset) (before : RateMoments) (client : Endpoint) (history : List Element) (first log : Option (List (List ℕ)))
+pub record Began (site : SiteValue) (before : RateMoments) (client : Endpoint) (history : List Element) (first log : Option (List (List ℕ)))
     (part : List ℕ) : Type 0 where
   pub judged : List Judged
-  pub are_judged : AreJudged asset (caller_at client.address before) history judged
+  pub are_judged : AreJudged site (caller_at client.address before) history judged
   pub count : ℕ
-  pub of_lines : log ≡ with_lines first (take count (lines asset client [] judged))
+  pub of_lines : log ≡ with_lines first (take count (lines site client [] judged))
   pub some : ℕ
-  pub of_part : part ≡ take some (concat (drop count (lines asset client [] judged)))
+  pub of_part : part ≡ take some (concat (drop count (lines site client [] judged)))
 
 -- a piece was handled up to a unit whose line failed: the log has the first lines of the history up to there
-pub record BeganWithin (asset : Asset) (before : RateMoments) (client : Endpoint) (history : List Element) (moment : ℕ) (s : Side)
+pub record BeganWithin (site : SiteValue) (before : RateMoments) (client : Endpoint) (history : List Element) (moment : ℕ) (s : Side)
     (piece : List ℕ) (first log : Option (List (List ℕ))) (part : List ℕ) : Type 0 where
   pub handled : List ℕ
   pub rest : List ℕ
   pub piece_is : piece ≡ handled ++ rest
-  pub began : Began asset before client (history ++ bytes_at moment s handled ∷ []) first log part
+  pub began : Began site before client (history ++ bytes_at moment s handled ∷ []) first log part
 
 -- the failure of a call in each history that was followed
-abbrev pub FailsWithin : Asset → ℕ → Side → List ℕ → State → (log : Option (List (List ℕ))) → (part : List ℕ) → Type 0
-FailsWithin asset moment s bytes old log part =
+abbrev pub FailsWithin : SiteValue → ℕ → Side → List ℕ → State → (log : Option (List (List ℕ))) → (part : List ℕ) → Type 0
+FailsWithin site moment s bytes old log part =
     (before : RateMoments) (h : List Element) (rests : Rests) (first : Option (List (List ℕ))) (piece : List ℕ) →
-    bytes ≡ rest_of s rests ++ piece → Follows asset before h rests None first old →
-    BeganWithin asset before old.lane.client h moment s piece first log part
+    bytes ≡ rest_of s rests ++ piece → Follows site before h rests None first old →
+    BeganWithin site before old.lane.client h moment s piece first log part
 
 -- a log has the lines by which such a history goes on up to a line that failed, and a part of what follows
-pub record BeganApart (asset : Asset) (before : RateMoments) (client : Endpoint) (history : List Element)
+pub record BeganApart (site : SiteValue) (before : RateMoments) (client : Endpoint) (history : List Element)
     (first own old log : Option (List (List ℕ))) (part : List ℕ) : Type 0 where
   pub more : List (List ℕ)
   pub added : log ≡ with_lines old more
-  pub began : Began asset before client history first (with_lines own more) part
+  pub began : Began site before client history first (with_lines own more) part
 
-pub record BeganApartWithin (asset : Asset) (before : RateMoments) (client : Endpoint) (history : List Element) (moment : ℕ) (s : Side)
+pub record BeganApartWithin (site : SiteValue) (before : RateMoments) (client : Endpoint) (history : List Element) (moment : ℕ) (s : Side)
     (piece : List ℕ) (first own old log : Option (List (List ℕ))) (part : List ℕ) : Type 0 where
   pub more : List (List ℕ)
   pub added : log ≡ with_lines old more
-  pub began : BeganWithin asset before client history moment s piece first (with_lines own more) part
+  pub began : BeganWithin site before client history moment s piece first (with_lines own more) part
 
 -- the failure of a call in each history that was followed over lines of its own
-abbrev pub FailsApart : Asset → ℕ → Side → List ℕ → State → (log : Option (List (List ℕ))) → (part : List ℕ) → Type 0
-FailsApart asset moment s bytes old log part =
+abbrev pub FailsApart : SiteValue → ℕ → Side → List ℕ → State → (log : Option (List (List ℕ))) → (part : List ℕ) → Type 0
+FailsApart site moment s bytes old log part =
     (before : RateMoments) (h : List Element) (rests : Rests) (first own : Option (List (List ℕ))) (piece : List ℕ) →
     bytes ≡ rest_of s rests ++ piece →
-    Follows asset before h rests None first (over own old) →
-    BeganApartWithin asset before old.lane.client h moment s piece first own old.lines log part
+    Follows site before h rests None first (over own old) →
+    BeganApartWithin site before old.lane.client h moment s piece first own old.lines log part

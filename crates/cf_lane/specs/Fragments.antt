@@ -7,10 +7,10 @@ use Rattle.cf_dnptrans.specs.Segments.{count_of}
 use Rattle.cf_dnptrans.specs.Transport.{answer_to}
 use Rattle.cf_dnptrans.specs.declared.assembly.SegmentAnswer.{SegmentAnswer}
 use Rattle.cf_lane.specs.Dnp3.{fate_of_frame, fate_of_segment, frame_fragment, frame_octets, frame_output, frames_at, stray_of}
-use Rattle.cf_lane.specs.Handled.{MayHaveMore, judged}
+use Rattle.cf_lane.specs.Handled.{MayHaveMore, Outlets, judged}
 use Rattle.cf_lane.specs.Item.{Took}
 use Rattle.cf_lane.specs.Judged.{Judged, fate_cut, has_ended}
-use Rattle.cf_lane.specs.Kept.{KnowsFragments, of_side, owed_octets}
+use Rattle.cf_lane.specs.Kept.{KnowsFragments, of_side}
 use Rattle.cf_lane.specs.Log.{is_some_bytes, unit_lines, with_lines}
 use Rattle.cf_lane.specs.Output.{other}
 use Rattle.cf_lane.specs.Unit.{Frame}
@@ -21,16 +21,13 @@ use Rattle.cf_policy.specs.declared.Asset.{Asset}
 use Rattle.cf_view.specs.declared.Endpoint.{Endpoint}
 use Rattle.cf_view.specs.declared.Side.{Side}
 use Rattle.std.specs.List.{flat_map, sum_by}
-use Rattle.std.specs.Prelude.{Bool, List, None, Option, Some, [], length, true, ℕ, ◌%◌, ◌++◌, ◌+◌, ◌/◌, ◌∷◌, ◌≡◌}
+use Rattle.std.specs.Prelude.{Bool, List, None, Option, Some, [], length, set, slice_get, true, ℕ, ◌%◌, ◌++◌, ◌+◌, ◌/◌, ◌∷◌, ◌≡◌}
 use Rattle.cf_dnptrans.specs.declared.assembly.SegmentAnswer.TheVariants as answers
 use Rattle.cf_view.specs.declared.Side.TheVariants as side
 
 -- the most octets that a fragment of so many octets has once it is cut anew
 abbrev pub recut_most : ℕ → ℕ
 recut_most n = n + n / 4 + 16
-
-abbrev pub owed_by : Fragments → ℕ
-owed_by f = owed_octets f.client + owed_octets f.controller
 
 -- what a frame reads and writes: the fragments, the queues and the log
 pub record Parts : Type 0 where
@@ -140,3 +137,20 @@ pub record MissesFrame (asset : Asset) (says : Says) (client : Endpoint) (moment
   pub new : Parts
   pub takes : TakesFrame asset says client moment s x fate old new
   pub line : MayHaveMore takes.more old.lines log part
+
+-- a frame was taken with this fate at the fragments of the asset of a place, and those of the other assets stay
+pub record TakesFrameAt (asset : Asset) (says : Says) (client : Endpoint) (moment : ℕ) (s : Side) (x : FrameValue) (f : Fate) (place : ℕ)
+    (before after : List Fragments) (old new : Outlets) : Type 0 where
+  pub was : Fragments
+  pub now : Fragments
+  pub at : slice_get before place ≡ Some was
+  pub set_is : after ≡ set before place now
+  pub takes : TakesFrame asset says client moment s x f (parts was old.to_client old.to_controller old.lines)
+      (parts now new.to_client new.to_controller new.lines)
+
+-- a frame was taken there but for its line, of which the log may have a part or all
+pub record MissesFrameAt (asset : Asset) (says : Says) (client : Endpoint) (moment : ℕ) (s : Side) (x : FrameValue) (place : ℕ)
+    (before : List Fragments) (old : Outlets) (log : Option (List (List ℕ))) (part : List ℕ) : Type 0 where
+  pub was : Fragments
+  pub at : slice_get before place ≡ Some was
+  pub misses : MissesFrame asset says client moment s x (parts was old.to_client old.to_controller old.lines) log part

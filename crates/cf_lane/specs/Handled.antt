@@ -10,20 +10,22 @@ use Rattle.cf_lane.specs.Log.{lines, with_lines}
 use Rattle.cf_lane.specs.Output.{outputs}
 use Rattle.cf_lane.specs.Unit.{Adu, SpellsUnit, UnitValue, unit_break}
 use Rattle.cf_lane.specs.declared.fate.Fate.{Fate}
+use Rattle.cf_lane.specs.declared.lane.Decided.{Decided}
 use Rattle.cf_lane.specs.declared.lane.Step.{Step}
 use Rattle.cf_lane.specs.declared.wire.Wire.{Wire}
 use Rattle.cf_modbus.specs.Adu.{AduValue}
 use Rattle.cf_outq.specs.SendQueue.{Queue, after_end, after_push, queue_size}
 use Rattle.cf_outside.specs.Desk.{DeskValue, KeepsDesk}
-use Rattle.cf_lane.specs.Rings.{IsRulesOf, KnowsRules, RulesGoOn}
+use Rattle.cf_lane.specs.Rings.{AllGoOn, AreRulesOf, HasFewAt, KnowsRules}
 use Rattle.cf_lane.specs.declared.rules.Rules.{Rules}
-use Rattle.cf_policy.specs.declared.Asset.{Asset}
+use Rattle.cf_policy.specs.Site.{SiteValue, assets_of}
+use Rattle.cf_policy.specs.declared.Protocol.{Protocol}
 use Rattle.cf_view.specs.Framing.{Begins, BreaksAt, IsPartial}
 use Rattle.cf_view.specs.declared.Endpoint.{Endpoint}
 use Rattle.cf_view.specs.declared.base.Framed.{Framed}
 use Rattle.cf_view.specs.declared.Side.{Side}
 use Rattle.std.specs.List.{concat}
-use Rattle.std.specs.Prelude.{List, None, Option, Some, [], count_by, false, length, take, true, ℕ, ◌++◌, ◌+◌, ◌<◌, ◌^◌, ◌∷◌, ◌≡◌, ◌≤◌, ◌⊎◌}
+use Rattle.std.specs.Prelude.{List, None, Option, Some, [], count_by, false, length, take, true, ℕ, ◌*◌, ◌++◌, ◌+◌, ◌<◌, ◌^◌, ◌∷◌, ◌≡◌, ◌≤◌, ◌⊎◌}
 use Rattle.cf_audit.specs.declared.line.CutReason.TheVariants as cut
 use Rattle.cf_view.specs.declared.base.Framed.TheVariants as framed
 use Rattle.cf_policy.specs.declared.Protocol.TheVariants as protocol
@@ -35,8 +37,8 @@ pub record LaneValue : Type 0 where
   pub client : Endpoint
   pub admitted : ℕ
   pub refused : ℕ
-  -- the rules of the asset, for the client
-  pub rules : Rules
+  -- the rules of each asset of its site, for the client
+  pub rules : List Rules
   pub wire : Wire
 
 -- a lane with its two queues and the log
@@ -49,64 +51,64 @@ pub record State : Type 0 where
 abbrev pub state : LaneValue → Queue → Queue → Option (List (List ℕ)) → State
 state lane to_client to_controller lines = record { lane = lane; to_client = to_client; to_controller = to_controller; lines = lines }
 
--- the lane is one of the asset: its rules and what it keeps for the protocol are the asset's
-pub record IsLaneOf (asset : Asset) (lane : LaneValue) : Type 0 where
-  pub rules : IsRulesOf asset lane.client.address lane.rules
-  pub wire : IsWireOf asset.protocol lane.wire
+-- the lane is one of the site: its rules and what it keeps for the protocol are the site's
+pub record IsLaneOf (site : SiteValue) (lane : LaneValue) : Type 0 where
+  pub rules : AreRulesOf site lane.client.address lane.rules
+  pub wire : IsWireOf site.first.protocol (length (assets_of site)) lane.wire
 
 -- what the lane and its queues know of earlier items: the numbers are counts, a queue has ended where the other side has, and
 -- what was used of the rules with a rate is known, and what the lane keeps for its protocol stands for them until one cuts
-pub record Knows (asset : Asset) (before : RateMoments) (s : State) (earlier : List Judged) : Type 0 where
+pub record Knows (site : SiteValue) (before : RateMoments) (s : State) (earlier : List Judged) : Type 0 where
   pub admitted : s.lane.admitted ≡ count_by (λ j. is_admitted j.fate) earlier
   pub refused : s.lane.refused ≡ count_by (λ j. is_refused j.fate) earlier
   pub client_ended : s.to_client.ended ≡ has_ended side.Controller earlier
   pub controller_ended : s.to_controller.ended ≡ has_ended side.Client earlier
-  pub rules : KnowsRules before s.lane.rules earlier
-  pub wire : cut_of earlier ≡ None → KnowsWire asset s.lane.wire earlier
+  pub rules : KnowsRules site before s.lane.rules earlier
+  pub wire : cut_of earlier ≡ None → KnowsWire site s.lane.wire earlier
 
 -- what judged items do after the earlier ones
-pub record Does (asset : Asset) (before : RateMoments) (earlier js : List Judged) (old new : State) : Type 0 where
-  pub knows : Knows asset before new (earlier ++ js)
-  pub fates : HaveFates asset (caller_at old.lane.client.address before) earlier js
-  pub of_client : new.to_client ≡ after_push old.to_client (outputs asset side.Client earlier js)
-  pub of_controller : new.to_controller ≡ after_push old.to_controller (outputs asset side.Controller earlier js)
-  pub of_lines : new.lines ≡ with_lines old.lines (lines asset old.lane.client earlier js)
+pub record Does (site : SiteValue) (before : RateMoments) (earlier js : List Judged) (old new : State) : Type 0 where
+  pub knows : Knows site before new (earlier ++ js)
+  pub fates : HaveFates site (caller_at old.lane.client.address before) earlier js
+  pub of_client : new.to_client ≡ after_push old.to_client (outputs site side.Client earlier js)
+  pub of_controller : new.to_controller ≡ after_push old.to_controller (outputs site side.Controller earlier js)
+  pub of_lines : new.lines ≡ with_lines old.lines (lines site old.lane.client earlier js)
   -- nothing follows an End
-  pub client_quiet : old.to_client.ended ≡ true → outputs asset side.Client earlier js ≡ []
-  pub controller_quiet : old.to_controller.ended ≡ true → outputs asset side.Controller earlier js ≡ []
+  pub client_quiet : old.to_client.ended ≡ true → outputs site side.Client earlier js ≡ []
+  pub controller_quiet : old.to_controller.ended ≡ true → outputs site side.Controller earlier js ≡ []
 
 -- items that were handled, whatever earlier sessions used and whatever came before them that does not cut
-pub record Handled (asset : Asset) (js : List Judged) (old new : State) : Type 0 where
+pub record Handled (site : SiteValue) (js : List Judged) (old new : State) : Type 0 where
   pub client : new.lane.client ≡ old.lane.client
-  pub does : (before : RateMoments) (earlier : List Judged) → cut_of earlier ≡ None → Knows asset before old earlier
-      → Does asset before earlier js old new
+  pub does : (before : RateMoments) (earlier : List Judged) → cut_of earlier ≡ None → Knows site before old earlier
+      → Does site before earlier js old new
 
 abbrev pub judged : ℕ → Item → Fate → Judged
 judged moment item f = record { moment = moment; item = item; fate = f }
 
 -- one unit at the front was handled
-pub record TakesUnit (asset : Asset) (moment : ℕ) (s : Side) (bytes : List ℕ) (used : ℕ) (cut : Option CutReason) (old new : State) : Type 0
+pub record TakesUnit (site : SiteValue) (moment : ℕ) (s : Side) (bytes : List ℕ) (used : ℕ) (cut : Option CutReason) (old new : State) : Type 0
   where
     pub unit : UnitValue
-    pub begins : Begins (SpellsUnit asset.protocol) bytes unit used
+    pub begins : Begins (SpellsUnit site.first.protocol) bytes unit used
     pub some_bytes : 0 < used
     pub fate : Fate
     pub is_cut : fate_cut fate ≡ cut
-    pub handled : Handled asset (judged moment (Took s unit) fate ∷ []) old new
+    pub handled : Handled site (judged moment (Took s unit) fate ∷ []) old new
 
 -- an octet at the front is one that no unit has there
-pub record Breaks (asset : Asset) (s : Side) (bytes : List ℕ) (reason : CutReason) : Type 0 where
+pub record Breaks (site : SiteValue) (s : Side) (bytes : List ℕ) (reason : CutReason) : Type 0 where
   pub place : ℕ
-  pub breaks : BreaksAt (SpellsUnit asset.protocol) bytes place
-  pub is_reason : reason ≡ cut.Framing s (unit_break asset.protocol place)
+  pub breaks : BreaksAt (SpellsUnit site.first.protocol) bytes place
+  pub is_reason : reason ≡ cut.Framing s (unit_break site.first.protocol place)
 
 -- what a step answers: a unit, none yet, or a cut, which comes by an octet, or by a unit of IEC 104
-abbrev pub Steps : Asset → ℕ → Side → List ℕ → State → State → Step → Type 0
-Steps asset moment s bytes old new (step.Took used) = TakesUnit asset moment s bytes used None old new
-Steps asset moment s bytes old new step.More = IsPartial (SpellsUnit asset.protocol) bytes × (new ≡ old)
-Steps asset moment s bytes old new (step.Cut reason) =
-    (Breaks asset s bytes reason × (new ≡ old))
-    ⊎ ((asset.protocol ≡ protocol.Iec104) × ((used : ℕ) × TakesUnit asset moment s bytes used (Some reason) old new))
+abbrev pub Steps : SiteValue → ℕ → Side → List ℕ → State → State → Step → Type 0
+Steps site moment s bytes old new (step.Took used) = TakesUnit site moment s bytes used None old new
+Steps site moment s bytes old new step.More = IsPartial (SpellsUnit site.first.protocol) bytes × (new ≡ old)
+Steps site moment s bytes old new (step.Cut reason) =
+    (Breaks site s bytes reason × (new ≡ old))
+    ⊎ ((site.first.protocol ≡ protocol.Iec104) × ((used : ℕ) × TakesUnit site moment s bytes used (Some reason) old new))
 
 -- the octets that unfinished DNP3 fragments may still put out; a lane of another protocol has none
 abbrev pub debt : LaneValue → ℕ
@@ -129,21 +131,21 @@ cut_in (step.Cut reason) = Some reason
 cut_in st = None
 
 -- a client's command was taken by its fate
-pub record TakesCommand (asset : Asset) (moment : ℕ) (a : AduValue) (old new : State) : Type 0 where
+pub record TakesCommand (site : SiteValue) (moment : ℕ) (a : AduValue) (old new : State) : Type 0 where
   pub fate : Fate
   pub uncut : fate_cut fate ≡ None
-  pub handled : Handled asset (judged moment (Took side.Client (Adu a)) fate ∷ []) old new
+  pub handled : Handled site (judged moment (Took side.Client (Adu a)) fate ∷ []) old new
 
 -- the numbers rose by one command at most for so many letters
 abbrev pub CountsBy : ℕ → LaneValue → LaneValue → Type 0
 CountsBy most old new = new.admitted + new.refused ≤ old.admitted + old.refused + most
 
--- a lane counts an item of this fate at a moment: its numbers and its rules go on
-pub record Counts (f : Fate) (moment : ℕ) (old new : LaneValue) : Type 0 where
+-- a lane counts an item of the asset of a place, of this fate, at a moment: its numbers and its rules go on
+pub record Counts (place : ℕ) (f : Fate) (moment : ℕ) (old new : LaneValue) : Type 0 where
   pub client : new.client ≡ old.client
   pub admitted : new.admitted ≡ old.admitted + one_if (is_admitted f)
   pub refused : new.refused ≡ old.refused + one_if (is_refused f)
-  pub rules : RulesGoOn f moment old.rules new.rules
+  pub rules : AllGoOn place f moment old.rules new.rules
   pub wire : new.wire ≡ old.wire
 
 -- what a unit of so many octets led to
@@ -151,43 +153,50 @@ abbrev pub step_by : Option CutReason → ℕ → Step
 step_by None used = step.Took used
 step_by (Some reason) used = step.Cut reason
 
--- a unit at the front was taken with this fate: it is handled once the lane has counted it
-pub record TakesUncounted (asset : Asset) (moment : ℕ) (s : Side) (bytes : List ℕ) (used : ℕ) (f : Fate) (old mid : State) : Type 0 where
-  pub unit : UnitValue
-  pub begins : Begins (SpellsUnit asset.protocol) bytes unit used
-  pub some_bytes : 0 < used
-  -- a unit cuts by its numbers alone
-  pub cuts : (reason : CutReason) → fate_cut f ≡ Some reason → asset.protocol ≡ protocol.Iec104
-  pub handled : (lane : LaneValue) → Counts f moment mid.lane lane →
-      Handled asset (judged moment (Took s unit) f ∷ []) old (state lane mid.to_client mid.to_controller mid.lines)
+-- a unit at the front was taken with this fate, by the asset of a place: it is handled once the lane has counted it
+pub record TakesUncounted (site : SiteValue) (moment : ℕ) (s : Side) (bytes : List ℕ) (used place : ℕ) (f : Fate) (old mid : State) : Type 0
+  where
+    pub unit : UnitValue
+    pub begins : Begins (SpellsUnit site.first.protocol) bytes unit used
+    pub some_bytes : 0 < used
+    -- a unit cuts by its numbers alone
+    pub cuts : (reason : CutReason) → fate_cut f ≡ Some reason → site.first.protocol ≡ protocol.Iec104
+    pub handled : (lane : LaneValue) → Counts place f moment mid.lane lane →
+        Handled site (judged moment (Took s unit) f ∷ []) old (state lane mid.to_client mid.to_controller mid.lines)
 
 -- what stands at the front of a side's bytes: a unit that was taken, none yet, or an octet that no unit has there
-abbrev pub Fronts : Asset → ℕ → Side → List ℕ → (old mid : State) → Framed Fate → Type 0
-Fronts asset moment s bytes old mid (framed.Unit f used) = TakesUncounted asset moment s bytes used f old mid
-Fronts asset moment s bytes old mid framed.More = IsPartial (SpellsUnit asset.protocol) bytes × (mid ≡ old)
-Fronts asset moment s bytes old mid (framed.Broken reason) = Breaks asset s bytes (cut.Framing s reason) × (mid ≡ old)
+abbrev pub Fronts : SiteValue → ℕ → Side → List ℕ → (old mid : State) → Framed Decided → Type 0
+Fronts site moment s bytes old mid (framed.Unit d used) = TakesUncounted site moment s bytes used d.place d.fate old mid
+Fronts site moment s bytes old mid framed.More = IsPartial (SpellsUnit site.first.protocol) bytes × (mid ≡ old)
+Fronts site moment s bytes old mid (framed.Broken reason) = Breaks site s bytes (cut.Framing s reason) × (mid ≡ old)
 
 -- what the front led to
-abbrev pub step_at : Side → Framed Fate → Step
-step_at s (framed.Unit f used) = step_by (fate_cut f) used
+abbrev pub step_at : Side → Framed Decided → Step
+step_at s (framed.Unit d used) = step_by (fate_cut d.fate) used
 step_at s framed.More = step.More
 step_at s (framed.Broken reason) = step.Cut (cut.Framing s reason)
 
 -- a lane counts what stands at the front
-abbrev pub CountsFront : Framed Fate → ℕ → (old new : LaneValue) → Type 0
-CountsFront (framed.Unit f used) moment old new = Counts f moment old new
+abbrev pub CountsFront : Framed Decided → ℕ → (old new : LaneValue) → Type 0
+CountsFront (framed.Unit d used) moment old new = Counts d.place d.fate moment old new
 CountsFront framed.More moment old new = new ≡ old
 CountsFront (framed.Broken reason) moment old new = new ≡ old
 
+-- the asset of what stands at the front has rules
+abbrev pub FewAtFront : Framed Decided → List Rules → Type 0
+FewAtFront (framed.Unit d used) all = HasFewAt d.place all
+FewAtFront framed.More all = Unit {0}
+FewAtFront (framed.Broken reason) all = Unit {0}
+
 -- the commands that may be counted at the front, at most
-abbrev pub most_counted : Framed Fate → ℕ
-most_counted (framed.Unit f used) = 1
+abbrev pub most_counted : Framed Decided → ℕ
+most_counted (framed.Unit d used) = 1
 most_counted framed.More = 0
 most_counted (framed.Broken reason) = 0
 
 -- the number of octets of the front that go on
-abbrev pub taken_in : Framed Fate → ℕ
-taken_in (framed.Unit f used) = letters_in (step_by (fate_cut f) used)
+abbrev pub taken_in : Framed Decided → ℕ
+taken_in (framed.Unit d used) = letters_in (step_by (fate_cut d.fate) used)
 taken_in framed.More = 0
 taken_in (framed.Broken reason) = 0
 
@@ -201,15 +210,16 @@ abbrev pub outlets : Queue → Queue → Option (List (List ℕ)) → Outlets
 outlets to_client to_controller lines = record { to_client = to_client; to_controller = to_controller; lines = lines }
 
 -- a lane of this client with these rules, which keeps this for its protocol and counted so many commands
-abbrev pub lane_at : Endpoint → Rules → Wire → (admitted refused : ℕ) → Outlets → State
+abbrev pub lane_at : Endpoint → List Rules → Wire → (admitted refused : ℕ) → Outlets → State
 lane_at client rules wire admitted refused out =
     state (record { client = client; admitted = admitted; refused = refused; rules = rules; wire = wire }) out.to_client out.to_controller
     out.lines
 
 -- what stands at the front, for a lane that counted any number of commands
-abbrev pub FrontsOf : Asset → Endpoint → Rules → ℕ → Side → List ℕ → (before after : Wire) → (old new : Outlets) → Framed Fate → Type 0
-FrontsOf asset client rules moment s bytes before after old new answer =
-    (admitted refused : ℕ) → Fronts asset moment s bytes (lane_at client rules before admitted refused old)
+abbrev pub FrontsOf : SiteValue → Endpoint → List Rules → ℕ → Side → List ℕ → (before after : Wire) → (old new : Outlets)
+    → Framed Decided → Type 0
+FrontsOf site client rules moment s bytes before after old new answer =
+    (admitted refused : ℕ) → Fronts site moment s bytes (lane_at client rules before admitted refused old)
     (lane_at client rules after admitted refused new) answer
 
 -- the queue to the other side is open, so that the side's bytes may go on
@@ -217,9 +227,15 @@ abbrev pub IsOpen : Side → (to_client to_controller : Queue) → Type 0
 IsOpen side.Client to_client to_controller = to_controller.ended ≡ false
 IsOpen side.Controller to_client to_controller = to_client.ended ≡ false
 
--- the octets that unfinished fragments may still put out, at most
-abbrev pub debt_limit : ℕ
-debt_limit = 5300
+-- the octets that unfinished fragments of so many assets may still put out, at most: 5,300 for the two of one asset of DNP3
+abbrev pub debt_by : Protocol → (count : ℕ) → ℕ
+debt_by protocol.Modbus count = 0
+debt_by protocol.Dnp3 count = 5300 * count
+debt_by protocol.Iec104 count = 0
+
+-- those of the assets of a site
+abbrev pub debt_limit : SiteValue → ℕ
+debt_limit site = debt_by site.first.protocol (length (assets_of site))
 
 -- what is left of a side because it is no whole unit has fewer octets
 abbrev pub rest_limit : ℕ
@@ -261,40 +277,40 @@ pub record WritesLog (old new : DeskValue) : Type 0 where
   pub keeps : KeepsDesk old new
 
 -- an item has these lines, whatever came before it that does not cut
-abbrev pub HasLines : Asset → State → Judged → List (List ℕ) → Type 0
-HasLines asset old j more = (before : RateMoments) (earlier : List Judged) → cut_of earlier ≡ None → Knows asset before old earlier
-    → lines asset old.lane.client earlier (j ∷ []) ≡ more
+abbrev pub HasLines : SiteValue → State → Judged → List (List ℕ) → Type 0
+HasLines site old j more = (before : RateMoments) (earlier : List Judged) → cut_of earlier ≡ None → Knows site before old earlier
+    → lines site old.lane.client earlier (j ∷ []) ≡ more
 
 -- a unit has this fate, whatever came before it that does not cut
-abbrev pub IsFated : Asset → ℕ → State → Side → UnitValue → Fate → Type 0
-IsFated asset moment old s unit f = (before : RateMoments) (earlier : List Judged) → cut_of earlier ≡ None → Knows asset before old earlier
-    → HasFate asset (caller_at old.lane.client.address before) earlier (placed moment (Took s unit)) f
+abbrev pub IsFated : SiteValue → ℕ → State → Side → UnitValue → Fate → Type 0
+IsFated site moment old s unit f = (before : RateMoments) (earlier : List Judged) → cut_of earlier ≡ None → Knows site before old earlier
+    → HasFate site (caller_at old.lane.client.address before) earlier (placed moment (Took s unit)) f
 
 -- a command was judged, and the log may have a part of its line or all of it
-pub record MissesCommand (asset : Asset) (moment : ℕ) (a : AduValue) (old : State) (log : Option (List (List ℕ))) (part : List ℕ) : Type 0
+pub record MissesCommand (site : SiteValue) (moment : ℕ) (a : AduValue) (old : State) (log : Option (List (List ℕ))) (part : List ℕ) : Type 0
   where
     pub fate : Fate
     pub uncut : fate_cut fate ≡ None
-    pub has : IsFated asset moment old side.Client (Adu a) fate
+    pub has : IsFated site moment old side.Client (Adu a) fate
     pub more : List (List ℕ)
-    pub are_more : HasLines asset old (judged moment (Took side.Client (Adu a)) fate) more
+    pub are_more : HasLines site old (judged moment (Took side.Client (Adu a)) fate) more
     pub line : MayHaveMore more old.lines log part
 
 -- a unit was judged, and the log may have a part of its line or all of it
-pub record Misses (asset : Asset) (moment : ℕ) (s : Side) (bytes : List ℕ) (old : State) (log : Option (List (List ℕ))) (part : List ℕ) :
+pub record Misses (site : SiteValue) (moment : ℕ) (s : Side) (bytes : List ℕ) (old : State) (log : Option (List (List ℕ))) (part : List ℕ) :
     Type 0 where
   pub used : ℕ
   pub unit : UnitValue
-  pub begins : Begins (SpellsUnit asset.protocol) bytes unit used
+  pub begins : Begins (SpellsUnit site.first.protocol) bytes unit used
   pub fate : Fate
   pub uncut : fate_cut fate ≡ None
-  pub has : IsFated asset moment old s unit fate
+  pub has : IsFated site moment old s unit fate
   pub more : List (List ℕ)
-  pub are_more : HasLines asset old (judged moment (Took s unit) fate) more
+  pub are_more : HasLines site old (judged moment (Took s unit) fate) more
   pub line : MayHaveMore more old.lines log part
 
 -- the failure of a call of a lane that counted any number of commands
-abbrev pub MissesOf : Asset → Endpoint → Rules → ℕ → Side → List ℕ → (before : Wire) → (old : Outlets) → (log : Option (List (List ℕ)))
+abbrev pub MissesOf : SiteValue → Endpoint → List Rules → ℕ → Side → List ℕ → (before : Wire) → (old : Outlets) → (log : Option (List (List ℕ)))
     → (part : List ℕ) → Type 0
-MissesOf asset client rules moment s bytes before old log part =
-    (admitted refused : ℕ) → Misses asset moment s bytes (lane_at client rules before admitted refused old) log part
+MissesOf site client rules moment s bytes before old log part =
+    (admitted refused : ℕ) → Misses site moment s bytes (lane_at client rules before admitted refused old) log part

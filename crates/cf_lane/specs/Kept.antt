@@ -3,13 +3,16 @@ use Rattle.cf_dnptrans.specs.AssemblyValue.{AssemblyValue, IsAssemblyOf}
 use Rattle.cf_lane.specs.Dnp3.{segments_into, segments_of}
 use Rattle.cf_lane.specs.Judged.{Judged}
 use Rattle.cf_lane.specs.Numbers.{events_of}
+use Rattle.cf_lane.specs.Parts.{part}
 use Rattle.cf_lane.specs.declared.wire.Fragments.{Fragments}
 use Rattle.cf_lane.specs.declared.wire.Wire.{Wire}
+use Rattle.cf_policy.specs.Site.{SiteValue, asset_of}
 use Rattle.cf_policy.specs.declared.Asset.{Asset}
 use Rattle.cf_policy.specs.declared.Protocol.{Protocol}
 use Rattle.cf_renumber.specs.Numbers.{IsNumbersOf}
 use Rattle.cf_view.specs.declared.Side.{Side}
-use Rattle.std.specs.Prelude.{List, None, if◌then◌else◌, length, ℕ, ◌%◌, ◌*◌, ◌+◌, ◌/◌, ◌<◌, ◌≡◌}
+use Rattle.std.specs.List.{sum_by}
+use Rattle.std.specs.Prelude.{List, [], None, Some, if◌then◌else◌, length, slice_get, ℕ, ◌%◌, ◌*◌, ◌++◌, ◌+◌, ◌/◌, ◌<◌, ◌∷◌, ◌≡◌}
 use Rattle.cf_policy.specs.declared.Protocol.TheVariants as protocol
 use Rattle.cf_view.specs.declared.Side.TheVariants as side
 use Rattle.cf_lane.specs.declared.wire.Wire.TheVariants as wire
@@ -21,11 +24,16 @@ pub record KnowsFragments (asset : Asset) (f : Fragments) (earlier : List Judged
   pub to_client : f.to_client ≡ segments_into asset side.Client earlier % 64
   pub to_controller : f.to_controller ≡ segments_into asset side.Controller earlier % 64
 
+-- the fragments of each asset of a site stand for the items that concern it
+abbrev pub KnowAllFragments : SiteValue → List Fragments → List Judged → Type 0
+KnowAllFragments site all earlier =
+    (k : ℕ) (f : Fragments) → slice_get all k ≡ Some f → KnowsFragments (asset_of site k) f (part site k earlier)
+
 -- what is kept stands for the earlier items: one case a protocol
-abbrev pub KnowsWire : Asset → Wire → List Judged → Type 0
-KnowsWire asset wire.Modbus earlier = Unit {0}
-KnowsWire asset (wire.Dnp3 f) earlier = KnowsFragments asset f earlier
-KnowsWire asset (wire.Iec104 numbers) earlier = IsNumbersOf numbers (events_of earlier)
+abbrev pub KnowsWire : SiteValue → Wire → List Judged → Type 0
+KnowsWire site wire.Modbus earlier = Unit {0}
+KnowsWire site (wire.Dnp3 all) earlier = KnowAllFragments site all earlier
+KnowsWire site (wire.Iec104 numbers) earlier = IsNumbersOf numbers (events_of earlier)
 
 -- the fragment of a side
 abbrev pub of_side : Side → Fragments → AssemblyValue
@@ -39,18 +47,50 @@ pub record AreFragments (f : Fragments) : Type 0 where
   pub to_client : f.to_client < 64
   pub to_controller : f.to_controller < 64
 
--- what is kept is what the protocol needs, and no frame of a client waits to be judged
-abbrev pub IsWireOf : Protocol → Wire → Type 0
-IsWireOf protocol.Modbus wire.Modbus = Unit {0}
-IsWireOf protocol.Dnp3 (wire.Dnp3 f) = AreFragments f
-IsWireOf protocol.Iec104 (wire.Iec104 numbers) = numbers.owed ≡ None
-IsWireOf _ _ = ⊥
+-- those of a side are put together from these segments, of each asset
+abbrev pub StandOf : Side → List Fragments → (segments : ℕ → List (List ℕ)) → Type 0
+StandOf s all segments = (k : ℕ) (f : Fragments) → slice_get all k ≡ Some f → IsAssemblyOf (of_side s f) (segments k)
+
+-- fragments of which nothing has come
+pub record IsNewFragments (f : Fragments) : Type 0 where
+  pub client : IsAssemblyOf f.client []
+  pub controller : IsAssemblyOf f.controller []
+  pub to_client : f.to_client ≡ 0
+  pub to_controller : f.to_controller ≡ 0
+
+-- the same of so many assets
+pub record AreNewFragments (count : ℕ) (all : List Fragments) : Type 0 where
+  pub one_each : length all ≡ count
+  pub each : (k : ℕ) (f : Fragments) → slice_get all k ≡ Some f → IsNewFragments f
+
+-- fragments of which nothing has come stand behind others
+pub record AddsNewFragments (old new : List Fragments) : Type 0 where
+  pub fragments : Fragments
+  pub added : new ≡ old ++ fragments ∷ []
+  pub nothing : IsNewFragments fragments
+
+-- fragments of so many assets
+pub record AreAllFragments (count : ℕ) (all : List Fragments) : Type 0 where
+  pub one_each : length all ≡ count
+  pub each : (k : ℕ) (f : Fragments) → slice_get all k ≡ Some f → AreFragments f
+
+-- what is kept is what the protocol needs for so many assets, and no frame of a client waits to be judged
+abbrev pub IsWireOf : Protocol → (count : ℕ) → Wire → Type 0
+IsWireOf protocol.Modbus count wire.Modbus = Unit {0}
+IsWireOf protocol.Dnp3 count (wire.Dnp3 all) = AreAllFragments count all
+IsWireOf protocol.Iec104 count (wire.Iec104 numbers) = numbers.owed ≡ None
+IsWireOf _ count _ = ⊥
 
 -- the most octets that a fragment that is begun adds to the frames that it goes on in: 292 octets carry 249
 abbrev pub owed_octets : AssemblyValue → ℕ
 owed_octets a = if a.begun then 5 * length a.octets / 4 else 0
 
+-- those of an asset's two fragments
+abbrev pub owed_by : Fragments → ℕ
+owed_by f = owed_octets f.client + owed_octets f.controller
+
+-- those of all assets
 abbrev pub wire_debt : Wire → ℕ
 wire_debt wire.Modbus = 0
-wire_debt (wire.Dnp3 f) = owed_octets f.client + owed_octets f.controller
+wire_debt (wire.Dnp3 all) = sum_by owed_by all
 wire_debt (wire.Iec104 numbers) = 0

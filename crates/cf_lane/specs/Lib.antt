@@ -18,6 +18,7 @@ pub mod Modbus
 pub mod Numbers
 pub mod Output
 pub mod Over
+pub mod Parts
 pub mod Passes
 pub mod Rates
 pub mod Renumbered
@@ -25,4 +26,7 @@ pub mod Ring
 pub mod Rings
 pub mod Rows
 pub mod Run
+pub mod Site
+pub mod SiteLaws
+pub mod SiteRates
 pub mod Unit

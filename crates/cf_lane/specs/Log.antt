@@ -9,18 +9,21 @@ use Rattle.cf_lane.specs.Iec104.{apdu_octets}
 use Rattle.cf_lane.specs.Item.{Broke, Ended, Item, Took}
 use Rattle.cf_lane.specs.Judged.{Judged, in_turn}
 use Rattle.cf_lane.specs.Modbus.{adu_octets}
-use Rattle.cf_lane.specs.Output.{output}
+use Rattle.cf_lane.specs.Output.{output_by}
+use Rattle.cf_lane.specs.Parts.{bears, part}
+use Rattle.cf_lane.specs.Site.{place_for, places_of}
 use Rattle.cf_lane.specs.Unit.{Adu, Apdu, Frame, UnitValue}
 use Rattle.cf_lane.specs.declared.fate.Fate.{Fate}
 use Rattle.cf_lane.specs.declared.fate.Admission.{Admission}
 use Rattle.cf_lane.specs.declared.fate.Refusal.{Refusal}
 use Rattle.cf_lane.specs.declared.fate.Shown.{Shown}
 use Rattle.cf_policy.specs.Names.{is_name_byte, name_of}
+use Rattle.cf_policy.specs.Site.{SiteValue, asset_of}
 use Rattle.cf_policy.specs.declared.Asset.{Asset}
 use Rattle.cf_policy.specs.declared.Protocol.{Protocol}
 use Rattle.cf_view.specs.declared.Endpoint.{Endpoint}
 use Rattle.cf_view.specs.declared.Side.{Side}
-use Rattle.std.specs.List.{list_all}
+use Rattle.std.specs.List.{list_all, list_any}
 use Rattle.std.specs.Prelude.{Bool, List, None, Option, Some, [], false, option_map, suc, true, zero, ℕ, ◌++◌, ◌∷◌, ◌≡◌}
 use Rattle.cf_lane.specs.declared.fate.Fate.TheVariants as fate
 use Rattle.cf_policy.specs.declared.Decider.TheVariants as decider
@@ -69,11 +72,12 @@ unit_lines asset client moment replied s octets (fate.Admitted admitted) = admis
 unit_lines asset client moment replied s octets fate.Lengthens = []
 unit_lines asset client moment replied s octets (fate.Cuts because) = []
 
--- more of a side is left unfinished than bytes that are no whole unit: one case a protocol
-abbrev pub has_unfinished : Asset → Protocol → Side → List Judged → Bool
-has_unfinished asset protocol.Modbus s earlier = false
-has_unfinished asset protocol.Dnp3 s earlier = is_fragment_unfinished asset s earlier
-has_unfinished asset protocol.Iec104 s earlier = false
+-- more of a side is left unfinished than bytes that are no whole unit, of any asset by what concerns it: one case a protocol
+abbrev pub has_unfinished : SiteValue → Protocol → Side → List Judged → Bool
+has_unfinished site protocol.Modbus s earlier = false
+has_unfinished site protocol.Dnp3 s earlier =
+    list_any (λ k. is_fragment_unfinished (asset_of site k) s (part site k earlier)) (places_of site)
+has_unfinished site protocol.Iec104 s earlier = false
 
 -- a side ended; a line tells where bytes or a fragment are left
 abbrev pub end_lines : Asset → Endpoint → ℕ → Side → (unfinished : Bool) → (rest : ℕ) → List (List ℕ)
@@ -81,16 +85,23 @@ end_lines asset client moment s false zero = []
 end_lines asset client moment s true zero = line_about asset client moment (Partial s 0) ∷ []
 end_lines asset client moment s unfinished (suc n) = line_about asset client moment (Partial s (suc n)) ∷ []
 
--- the lines of an item: of a unit by its fate, of an End where octets are left over, of a break none
-abbrev pub item_lines : Asset → Endpoint → List Judged → Judged → Item → List (List ℕ)
-item_lines asset client earlier j (Took s unit) =
-    unit_lines asset client j.moment (is_some_bytes (output asset side.Client earlier j)) s (command_octets asset earlier s unit) j.fate
-item_lines asset client earlier j (Ended s rest) = end_lines asset client j.moment s (has_unfinished asset asset.protocol s earlier) rest
-item_lines asset client earlier j (Broke s because) = []
+-- the lines of a unit under the name of the asset of a place
+abbrev pub lines_by : SiteValue → (k : ℕ) → Endpoint → List Judged → Judged → Side → UnitValue → List (List ℕ)
+lines_by site k client earlier j s unit =
+    unit_lines (asset_of site k) client j.moment (is_some_bytes (output_by site k side.Client earlier j)) s
+    (command_octets (asset_of site k) (bears (Took s unit) earlier (part site k earlier)) s unit) j.fate
+
+-- the lines of an item: of a unit by its fate, under the name of the asset that it is for; of an End where octets are left over, under
+-- that of the first; of a break none
+abbrev pub item_lines : SiteValue → Endpoint → List Judged → Judged → Item → List (List ℕ)
+item_lines site client earlier j (Took s unit) = lines_by site (place_for site s unit) client earlier j s unit
+item_lines site client earlier j (Ended s rest) =
+    end_lines site.first client j.moment s (has_unfinished site site.first.protocol s earlier) rest
+item_lines site client earlier j (Broke s because) = []
 
 -- the lines of items, each with its moment; that of a cut is its caller's
-abbrev pub lines : Asset → Endpoint → List Judged → List Judged → List (List ℕ)
-lines asset client earlier js = in_turn (λ before j. item_lines asset client before j j.item) earlier js
+abbrev pub lines : SiteValue → Endpoint → List Judged → List Judged → List (List ℕ)
+lines site client earlier js = in_turn (λ before j. item_lines site client before j j.item) earlier js
 
 -- a log with more lines, where it is told
 abbrev pub with_lines : Option (List (List ℕ)) → List (List ℕ) → Option (List (List ℕ))

@@ -15,8 +15,11 @@ use Rattle.cf_lane.specs.Unit.{Adu, Apdu, Frame, apdu_spelling, frame_spelling}
 use Rattle.cf_modbus.specs.Adu.{AduValue, spelling}
 use Rattle.cf_modbus.specs.Request.{Reads, RequestValue}
 use Rattle.cf_policy.specs.Laws.{IsAllowed}
-use Rattle.cf_lane.specs.Caller.{Caller}
+use Rattle.cf_lane.specs.Caller.{Caller, own}
+use Rattle.cf_lane.specs.Parts.{bears, part}
 use Rattle.cf_lane.specs.Rates.{Says, says_at}
+use Rattle.cf_lane.specs.Site.{item_place}
+use Rattle.cf_policy.specs.Site.{SiteValue, asset_of}
 use Rattle.cf_policy.specs.declared.Asset.{Asset}
 use Rattle.cf_renumber.specs.Counts.{admitted_stamp, client_translated, owed_ack}
 use Rattle.cf_view.specs.declared.Act.{Act}
@@ -118,8 +121,14 @@ ItemGoes asset says earlier (Took side.Controller u) Rest out = Leaves [] Rest o
 ItemGoes asset says earlier (Ended s n) Rest out = Leaves [] Rest out
 ItemGoes asset says earlier (Broke s b) Rest out = Leaves [] Rest out
 
--- what items put there one after the other, after the earlier ones
-abbrev pub Passes : Asset → Caller → (earlier js : List Judged) → List ℕ → Type 0
-Passes asset client earlier [] out = out ≡ []
-Passes asset client earlier (j ∷ js) out = ItemGoes asset (says_at asset client earlier j.moment) earlier j.item
-    (Passes asset client (earlier ++ j ∷ []) js) out
+-- what an item puts there by the asset of a place, after the earlier items that bear on it: only that asset's rules, and what its own
+-- commands used of them, decide whether it goes
+abbrev pub GoesBy : SiteValue → (k : ℕ) → Caller → List Judged → Judged → (List ℕ → Type 0) → List ℕ → Type 0
+GoesBy site k client earlier j Rest out =
+    ItemGoes (asset_of site k) (says_at (asset_of site k) (own k client) (part site k earlier) j.moment)
+    (bears j.item earlier (part site k earlier)) j.item Rest out
+
+-- what items put there one after the other, after the earlier ones, each by the asset that it is for
+abbrev pub Passes : SiteValue → Caller → (earlier js : List Judged) → List ℕ → Type 0
+Passes site client earlier [] out = out ≡ []
+Passes site client earlier (j ∷ js) out = GoesBy site (item_place site j.item) client earlier j (Passes site client (earlier ++ j ∷ []) js) out

@@ -1,5 +1,5 @@
 -- Beside the proof: worked exchanges, evaluated, a check of the definitions alone: `RowsHold`.
-use Rattle.cf_lane.specs.Caller.{newcomer}
+use Rattle.cf_lane.specs.Caller.{newcomer, own}
 use Rattle.cf_lane.specs.Rates.{says_at}
 use Rattle.cf_apci.specs.Apdu.{Ack, ApduValue, Control, Info}
 use Rattle.cf_dnplink.specs.Crc.{crc_of}
@@ -9,11 +9,17 @@ use Rattle.cf_lane.specs.Handled.{state}
 use Rattle.cf_lane.specs.Iec104.{fate_of_apdu}
 use Rattle.cf_lane.specs.Item.{Broke, Ended, Took}
 use Rattle.cf_lane.specs.Judged.{Judged, cut_of}
-use Rattle.cf_lane.specs.Log.{lines}
+use Rattle.cf_audit.specs.Line.{Refuse, Stray}
+use Rattle.cf_lane.specs.Log.{line_about, lines}
 use Rattle.cf_lane.specs.Output.{outputs, stream_to}
 use Rattle.cf_lane.specs.Unit.{Adu, Apdu, Frame, UnitValue}
 use Rattle.cf_lane.specs.declared.fate.Fate.{Fate}
 use Rattle.cf_modbus.specs.Adu.{AduValue}
+use Rattle.cf_lane.specs.Parts.{part}
+use Rattle.cf_lane.specs.Site.{place_for}
+use Rattle.cf_policy.specs.Site.{SiteValue, alone, asset_of}
+use Rattle.cf_policy.specs.declared.Protocol.{Protocol}
+use Rattle.cf_policy.specs.declared.Rule.{Rule}
 use Rattle.cf_policy.specs.declared.Asset.{Asset}
 use Rattle.cf_policy.specs.declared.Span.{Span}
 use Rattle.cf_view.specs.Octets.{u16_le_octets}
@@ -23,6 +29,7 @@ use Rattle.std.specs.Prelude.{List, None, Some, [], codes, drop, false, pos, rep
 use Rattle.cf_policy.specs.declared.Action.TheVariants as action
 use Rattle.cf_view.specs.declared.Break.TheVariants as break
 use Rattle.cf_audit.specs.declared.line.CutReason.TheVariants as cut
+use Rattle.cf_audit.specs.declared.line.Why.TheVariants as why
 use Rattle.cf_policy.specs.declared.Decider.TheVariants as decider
 use Rattle.cf_lane.specs.declared.fate.Fate.TheVariants as fate
 use Rattle.cf_policy.specs.declared.Protocol.TheVariants as protocol
@@ -66,8 +73,8 @@ dnp3_asset = record {
 
 abbrev pub unit_fate : Asset → List Judged → Side → UnitValue → Fate
 unit_fate asset earlier s (Adu a) = fate.Carried
-unit_fate asset earlier s (Frame x) = fate_of_frame asset (says_at asset (newcomer 0) earlier 0) s earlier x (stray_of asset s x)
-unit_fate asset earlier s (Apdu a) = fate_of_apdu asset (says_at asset (newcomer 0) earlier 0) s earlier a
+unit_fate asset earlier s (Frame x) = fate_of_frame asset (says_at asset (own 0 (newcomer 0)) earlier 0) s earlier x (stray_of asset s x)
+unit_fate asset earlier s (Apdu a) = fate_of_apdu asset (says_at asset (own 0 (newcomer 0)) earlier 0) s earlier a
 
 abbrev pub judge_all : Asset → List Judged → List (Side × UnitValue) → List Judged
 judge_all asset earlier [] = []
@@ -173,37 +180,132 @@ broken_behind_a_write = from_client (write_of 40 100) (fate.Admitted (record { u
 abbrev pub stored : Endpoint
 stored = record { address = 167772165; port = 0 }
 
+-- ---- two assets behind one address and port
+
+-- the fate of a unit by the asset that it is for, and units judged one after the other
+abbrev pub site_fate : SiteValue → (k : ℕ) → List Judged → Side → UnitValue → Fate
+site_fate site k earlier s (Adu a) = fate.Carried
+site_fate site k earlier s (Frame x) =
+    fate_of_frame (asset_of site k) (says_at (asset_of site k) (own k (newcomer 0)) (part site k earlier) 0) s (part site k earlier) x
+    (stray_of (asset_of site k) s x)
+site_fate site k earlier s (Apdu a) =
+    fate_of_apdu (asset_of site k) (says_at (asset_of site k) (own k (newcomer 0)) (part site k earlier) 0) s earlier a
+
+abbrev pub judge_site : SiteValue → List Judged → List (Side × UnitValue) → List Judged
+judge_site site earlier [] = []
+judge_site site earlier (u ∷ us) =
+    let j : Judged = record { moment = 0; item = Took u.0 u.1; fate = site_fate site (place_for site u.0 u.1) earlier u.0 u.1 } in
+    j ∷ judge_site site (earlier ++ j ∷ []) us
+
+-- an asset of a protocol with a station, and a rule that allows what it states
+abbrev pub asset_with : Protocol → List ℕ → (station master : ℕ) → List Rule → Asset
+asset_with p name station master rules = record {
+  name = name;
+  endpoint = record { address = 0; port = 20000 };
+  protocol = p;
+  station = station;
+  master = master;
+  rules = rules;
+}
+
+abbrev pub allowing : List ℕ → (code : ℕ) → (groups points : List Span) → Rule
+allowing name code groups points = record {
+  name = name;
+  action = action.Allow;
+  clients = [];
+  codes = one code ∷ [];
+  groups = groups;
+  points = points;
+  values = [];
+  rate = None;
+  log = false;
+}
+
+-- two outstations of one master: the one may be polled for class 1 alone, the other not at all
+abbrev pub outstations : SiteValue
+outstations = record {
+  first = asset_with protocol.Dnp3 (codes "rtu-a") 10 1 (allowing (codes "poll") 1 (one 15362 ∷ []) [] ∷ []);
+  others = asset_with protocol.Dnp3 (codes "rtu-b") 11 1 [] ∷ [];
+}
+
+-- a first segment for the one, a whole request for the other, the last segment for the one, and a request for a third
+abbrev pub interleaved : List Judged
+interleaved = judge_site outstations []
+    ((side.Client, Frame (frame_with 0xc4 10 1 (0x40 ∷ 0xc0 ∷ 0x01 ∷ [])))
+    ∷ (side.Client, Frame (frame_with 0xc4 11 1 (0xc0 ∷ 0xc1 ∷ 0x01 ∷ 0x3c ∷ 0x02 ∷ 0x06 ∷ [])))
+    ∷ (side.Client, Frame (frame_with 0xc4 10 1 (0x81 ∷ 0x3c ∷ 0x02 ∷ 0x06 ∷ [])))
+    ∷ (side.Client, Frame (frame_with 0xc4 12 1 (0xc0 ∷ 0xc2 ∷ 0x01 ∷ 0x3c ∷ 0x02 ∷ 0x06 ∷ []))) ∷ [])
+
+-- two stations of one concentrator: the one may be switched, the other interrogated
+abbrev pub stations : SiteValue
+stations = record {
+  first = asset_with protocol.Iec104 (codes "sub-a") 1 0 (allowing (codes "switch") 45 (one 6 ∷ []) (one 1000 ∷ []) ∷ []);
+  others = asset_with protocol.Iec104 (codes "sub-b") 2 0 (allowing (codes "ask") 100 [] [] ∷ []) ∷ [];
+}
+
+-- a single command of a station
+abbrev pub switch_of : (station : ℕ) → List ℕ
+switch_of station = 0x2d ∷ 1 ∷ 6 ∷ 0 ∷ station ∷ 0 ∷ 0xe8 ∷ 3 ∷ 0 ∷ 1 ∷ []
+
+-- a switch for the one, a question for the other, a switch for the other, and one for a third
+abbrev pub by_stations : List Judged
+by_stations = judge_site stations [] (by_client (Control 7) ∷ by_client (Info 0 0 (switch_of 1))
+    ∷ by_client (Info 1 0 (0x64 ∷ 1 ∷ 6 ∷ 0 ∷ 2 ∷ 0 ∷ 0 ∷ 0 ∷ 0 ∷ 0x14 ∷ [])) ∷ by_client (Info 2 0 (switch_of 2))
+    ∷ by_client (Info 3 0 (switch_of 3)) ∷ [])
+
 pub record RowsHold : Type 0 where
   pub crc : u16_le_octets (crc_of (0x31 ∷ 0x32 ∷ 0x33 ∷ 0x34 ∷ 0x35 ∷ 0x36 ∷ 0x37 ∷ 0x38 ∷ 0x39 ∷ [])) ≡ 0x82 ∷ 0xea ∷ []
-  pub refused_then_admitted_controller : outputs iec104_asset side.Controller [] refused_then_admitted ≡ start
+  pub refused_then_admitted_controller : outputs (alone iec104_asset) side.Controller [] refused_then_admitted ≡ start
       ++ (0x68 ∷ 0x0e ∷ 0 ∷ 0 ∷ 0 ∷ 0 ∷ []) ++ asked 0xe8 1
-  pub refused_then_admitted_client : outputs iec104_asset side.Client [] refused_then_admitted ≡ (0x68 ∷ 0x0e ∷ 0 ∷ 0 ∷ 2 ∷ 0 ∷ []) ++ 0x2d
+  pub refused_then_admitted_client : outputs (alone iec104_asset) side.Client [] refused_then_admitted ≡ (0x68 ∷ 0x0e ∷ 0 ∷ 0 ∷ 2 ∷ 0 ∷ []) ++ 0x2d
       ∷ 1 ∷ 0x47 ∷ 0 ∷ 1 ∷ 0 ∷ 0xe9 ∷ 3 ∷ 0 ∷ 0x81 ∷ []
-  pub refused_behind_data_controller : outputs iec104_asset side.Controller [] refused_behind_data ≡ start ++ 0x68 ∷ 4 ∷ 1 ∷ 0 ∷ 6 ∷ 0 ∷ []
-  pub refused_behind_data_mirror : take 6 (drop 48 (outputs iec104_asset side.Client [] refused_behind_data)) ≡ 0x68 ∷ 0x0e ∷ 6 ∷ 0 ∷ 2 ∷ 0
+  pub refused_behind_data_controller : outputs (alone iec104_asset) side.Controller [] refused_behind_data ≡ start ++ 0x68 ∷ 4 ∷ 1 ∷ 0 ∷ 6 ∷ 0 ∷ []
+  pub refused_behind_data_mirror : take 6 (drop 48 (outputs (alone iec104_asset) side.Client [] refused_behind_data)) ≡ 0x68 ∷ 0x0e ∷ 6 ∷ 0 ∷ 2 ∷ 0
       ∷ []
   pub wrong_send_cut : cut_of wrong_send ≡ Some (cut.WrongSend side.Client 0 1)
-  pub acks_of_a_refusal_controller : outputs iec104_asset side.Controller [] acks_of_a_refusal ≡ start ++ (0x68 ∷ 4 ∷ 1 ∷ 0 ∷ 2 ∷ 0 ∷ [])
+  pub acks_of_a_refusal_controller : outputs (alone iec104_asset) side.Controller [] acks_of_a_refusal ≡ start ++ (0x68 ∷ 4 ∷ 1 ∷ 0 ∷ 2 ∷ 0 ∷ [])
       ++ 0x68 ∷ 4 ∷ 1 ∷ 0 ∷ 2 ∷ 0 ∷ []
-  pub acks_of_a_refusal_mirror : take 6 (drop 16 (outputs iec104_asset side.Client [] acks_of_a_refusal)) ≡ 0x68 ∷ 0x0e ∷ 2 ∷ 0 ∷ 2 ∷ 0 ∷ []
-  pub other_station_client : outputs iec104_asset side.Client [] other_station ≡ (0x68 ∷ 0x0e ∷ 0 ∷ 0 ∷ 2 ∷ 0 ∷ []) ++ 0x2d ∷ 1 ∷ 0x47 ∷ 0
+  pub acks_of_a_refusal_mirror : take 6 (drop 16 (outputs (alone iec104_asset) side.Client [] acks_of_a_refusal)) ≡ 0x68 ∷ 0x0e ∷ 2 ∷ 0 ∷ 2 ∷ 0 ∷ []
+  pub other_station_client : outputs (alone iec104_asset) side.Client [] other_station ≡ (0x68 ∷ 0x0e ∷ 0 ∷ 0 ∷ 2 ∷ 0 ∷ []) ++ 0x2d ∷ 1 ∷ 0x47 ∷ 0
       ∷ 2 ∷ 0 ∷ 0xe8 ∷ 3 ∷ 0 ∷ 1 ∷ []
-  pub refused_in_a_fragment_reply : slice_index (outputs dnp3_asset side.Client [] refused_in_a_fragment) 10 ≡ 0xc0
-  pub refused_in_a_fragment_first : slice_index (drop 17 (outputs dnp3_asset side.Client [] refused_in_a_fragment)) 10 ≡ 0x41
-  pub refused_in_a_fragment_second : slice_index (drop (17 + 292) (outputs dnp3_asset side.Client [] refused_in_a_fragment)) 10 ≡ 0x02
-  pub refused_in_a_fragment_third : slice_index (drop (17 + 584) (outputs dnp3_asset side.Client [] refused_in_a_fragment)) 10 ≡ 0x83
-  pub refused_direct_operate_controller : outputs dnp3_asset side.Controller [] refused_direct_operate ≡ []
+  pub refused_in_a_fragment_reply : slice_index (outputs (alone dnp3_asset) side.Client [] refused_in_a_fragment) 10 ≡ 0xc0
+  pub refused_in_a_fragment_first : slice_index (drop 17 (outputs (alone dnp3_asset) side.Client [] refused_in_a_fragment)) 10 ≡ 0x41
+  pub refused_in_a_fragment_second : slice_index (drop (17 + 292) (outputs (alone dnp3_asset) side.Client [] refused_in_a_fragment)) 10 ≡ 0x02
+  pub refused_in_a_fragment_third : slice_index (drop (17 + 584) (outputs (alone dnp3_asset) side.Client [] refused_in_a_fragment)) 10 ≡ 0x83
+  pub refused_direct_operate_controller : outputs (alone dnp3_asset) side.Controller [] refused_direct_operate ≡ []
   pub refused_direct_operate_client :
-      outputs dnp3_asset side.Client [] refused_direct_operate
+      outputs (alone dnp3_asset) side.Client [] refused_direct_operate
       ≡ 0x05 ∷ 0x64 ∷ 0x1a ∷ 0x44 ∷ 0x01 ∷ 0x00 ∷ 0x0a ∷ 0x00 ∷ 0xaf ∷ 0x5d ∷ 0xc0 ∷ 0xc3 ∷ 0x81 ∷ 0x00 ∷ 0x00 ∷ 0x0c ∷ 0x01 ∷ 0x17 ∷ 0x01
       ∷ 0x05 ∷ 0x03 ∷ 0x01 ∷ 0x64 ∷ 0x00 ∷ 0x00 ∷ 0x00 ∷ 0xbc ∷ 0x51 ∷ 0x64 ∷ 0x00 ∷ 0x00 ∷ 0x00 ∷ 0x09 ∷ 0xd7 ∷ 0x92 ∷ []
-  pub other_master_none : outputs dnp3_asset side.Client [] other_master ++ outputs dnp3_asset side.Controller [] other_master ≡ []
-  pub a_write_refused_then_one_admitted_controller : outputs modbus_asset side.Controller [] a_write_refused_then_one_admitted ≡ 0 ∷ 1 ∷ 0
+  pub other_master_none : outputs (alone dnp3_asset) side.Client [] other_master ++ outputs (alone dnp3_asset) side.Controller [] other_master ≡ []
+  pub a_write_refused_then_one_admitted_controller : outputs (alone modbus_asset) side.Controller [] a_write_refused_then_one_admitted ≡ 0 ∷ 1 ∷ 0
       ∷ 0 ∷ 0 ∷ 6 ∷ 1 ∷ 6 ∷ 0 ∷ 40 ∷ 0 ∷ 100 ∷ []
-  pub a_write_refused_then_one_admitted_client : outputs modbus_asset side.Client [] a_write_refused_then_one_admitted ≡ 0 ∷ 1 ∷ 0 ∷ 0 ∷ 0
+  pub a_write_refused_then_one_admitted_client : outputs (alone modbus_asset) side.Client [] a_write_refused_then_one_admitted ≡ 0 ∷ 1 ∷ 0 ∷ 0 ∷ 0
       ∷ 3 ∷ 1 ∷ 0x86 ∷ 2 ∷ []
-  pub refused_behind_the_end_client : stream_to modbus_asset side.Client refused_behind_the_end ≡ record { bytes = []; ended = true }
+  pub refused_behind_the_end_client : stream_to (alone modbus_asset) side.Client refused_behind_the_end ≡ record { bytes = []; ended = true }
   pub broken_behind_a_write_cut : cut_of broken_behind_a_write ≡ Some (cut.Framing side.Client break.Protocol)
-  pub broken_behind_a_write_controller : outputs modbus_asset side.Controller [] broken_behind_a_write ≡ 0 ∷ 1 ∷ 0 ∷ 0 ∷ 0 ∷ 6 ∷ 1 ∷ 6 ∷ 0
+  pub broken_behind_a_write_controller : outputs (alone modbus_asset) side.Controller [] broken_behind_a_write ≡ 0 ∷ 1 ∷ 0 ∷ 0 ∷ 0 ∷ 6 ∷ 1 ∷ 6 ∷ 0
       ∷ 40 ∷ 0 ∷ 100 ∷ []
-  pub broken_behind_a_write_log : lines modbus_asset stored [] broken_behind_a_write ≡ []
+  pub broken_behind_a_write_log : lines (alone modbus_asset) stored [] broken_behind_a_write ≡ []
+  pub interleaved_controller : outputs outstations side.Controller [] interleaved ≡ 0x05 ∷ 0x64 ∷ 0x0b ∷ 0xc4 ∷ 0x0a ∷ 0x00 ∷ 0x01 ∷ 0x00 ∷ 0xac
+      ∷ 0xd1 ∷ 0xc0 ∷ 0xc0 ∷ 0x01 ∷ 0x3c ∷ 0x02 ∷ 0x06 ∷ 0x54 ∷ 0xe0 ∷ []
+  pub interleaved_client : outputs outstations side.Client [] interleaved ≡ 0x05 ∷ 0x64 ∷ 0x0a ∷ 0x44 ∷ 0x01 ∷ 0x00 ∷ 0x0b ∷ 0x00 ∷ 0x20 ∷ 0x8e
+      ∷ 0xc0 ∷ 0xc1 ∷ 0x81 ∷ 0x00 ∷ 0x01 ∷ 0x2a ∷ 0x1c ∷ []
+  pub interleaved_log :
+      lines outstations stored [] interleaved
+      ≡ line_about (asset_of outstations 1) stored 0
+      (Refuse (codes "default") reason.Function (record { code = 1; group = 15362; point = 0; value = None }) true
+      (0xc1 ∷ 0x01 ∷ 0x3c ∷ 0x02 ∷ 0x06 ∷ []))
+      ∷ line_about (asset_of outstations 0) stored 0 (Stray side.Client why.Address) ∷ []
+  pub by_stations_controller : outputs stations side.Controller [] by_stations ≡ start ++ ((0x68 ∷ 0x0e ∷ 0 ∷ 0 ∷ 0 ∷ 0 ∷ []) ++ switch_of 1)
+      ++ 0x68 ∷ 0x0e ∷ 2 ∷ 0 ∷ 0 ∷ 0 ∷ 0x64 ∷ 1 ∷ 6 ∷ 0 ∷ 2 ∷ 0 ∷ 0 ∷ 0 ∷ 0 ∷ 0x14 ∷ []
+  pub by_stations_client : outputs stations side.Client [] by_stations ≡ (0x68 ∷ 0x0e ∷ 0 ∷ 0 ∷ 0 ∷ 0 ∷ 0x2d ∷ 1 ∷ 0x47 ∷ 0 ∷ 2 ∷ 0 ∷ 0xe8 ∷ 3
+      ∷ 0 ∷ 1 ∷ []) ++ 0x68 ∷ 0x0e ∷ 2 ∷ 0 ∷ 0 ∷ 0 ∷ 0x2d ∷ 1 ∷ 0x47 ∷ 0 ∷ 3 ∷ 0 ∷ 0xe8 ∷ 3 ∷ 0 ∷ 1 ∷ []
+  pub by_stations_log :
+      lines stations stored [] by_stations
+      ≡ line_about (asset_of stations 1) stored 0
+      (Refuse (codes "default") reason.Function (record { code = 45; group = 6; point = 1000; value = Some (pos 1) }) true
+      ((0x68 ∷ 0x0e ∷ 4 ∷ 0 ∷ 0 ∷ 0 ∷ []) ++ switch_of 2))
+      ∷ line_about (asset_of stations 0) stored 0
+      (Refuse (codes "station") reason.Station (record { code = 45; group = 0; point = 3; value = None }) true
+      ((0x68 ∷ 0x0e ∷ 6 ∷ 0 ∷ 0 ∷ 0 ∷ []) ++ switch_of 3)) ∷ []

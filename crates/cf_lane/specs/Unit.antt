@@ -25,7 +25,10 @@ pub data UnitValue : Type 0 where
   Frame : FrameValue → UnitValue
   Apdu : ApduValue → UnitValue
 
--- a frame and an APDU as units
+-- an ADU, a frame and an APDU as units
+abbrev pub adu_unit : AduValue → UnitValue
+adu_unit a = Adu a
+
 abbrev pub frame_unit : FrameValue → UnitValue
 frame_unit f = Frame f
 

@@ -3,9 +3,10 @@ ghost use Rattle.std.specs.Prelude.{◌≡◌, ◌*◌, None, true, IfOk, OnOk, 
 ghost use Rattle.cf_apci.specs.Apdu.{Fits, apdu_value, spelling};
 ghost use Rattle.cf_outside.specs.Faults.{HasCause};
 ghost use Rattle.cf_outside.specs.Desk.{DeskValue};
-ghost use Rattle.cf_lane.specs.Rings.{IsRulesOf, says_by};
+ghost use Rattle.cf_lane.specs.Rings.{AreRulesOf, IsRulesOf, says_by};
+ghost use Rattle.cf_policy.specs.Site.{IsSiteWithin};
 ghost use Rattle.cf_policy.specs.Within.{IsAssetWithin};
-ghost use Rattle.cf_lane.specs.Handled.{FrontsOf, Grows, HasRoom, IsOpen, MissesOf, WritesLog, outlets, taken_in};
+ghost use Rattle.cf_lane.specs.Handled.{FewAtFront, FrontsOf, Grows, HasRoom, IsOpen, MissesOf, WritesLog, outlets, taken_in};
 ghost use Rattle.cf_lane.specs.Renumbered.{MissesApdu, TakesApdu, numbered, unless_cut};
 
 mod carry;
@@ -16,13 +17,14 @@ mod push;
 use crate::fate::Fate;
 use crate::iec104::carry::{carry_ack, carry_control, carry_info};
 use crate::iec104::command::take_command;
-use crate::lane::after;
-use crate::rules::Rules;
+use crate::lane::{Decided, after};
+use crate::rules::{Rules, rules_at};
+use crate::site::place_for_apdu;
 use crate::wire::Wire;
 use cf_apci::{Apdu, next_apdu};
 use cf_outq::Outq;
 use cf_outside::Desk;
-use cf_policy::{Asset, Protocol};
+use cf_policy::{Asset, Protocol, Site};
 use cf_renumber::Numbers;
 use cf_view::{Endpoint, Framed, Side, View, WriteFault};
 pub use judge::kind_of;
@@ -103,12 +105,12 @@ fn take_apdu<D: Desk>(
     }
 }
 
-/// Takes the APDU at the front of a side's bytes by its fate.
+/// Takes the APDU at the front of a side's bytes by its fate, by the asset that it is for.
 #[inline(never)]
 pub(crate) fn take_apdu_at_front<D: Desk>(
     numbers: &mut Numbers,
-    asset: &Asset,
-    rules: &Rules,
+    site: &Site<'_>,
+    rules: &[Rules],
     client: &Endpoint,
     moment: u64,
     side: Side,
@@ -116,22 +118,23 @@ pub(crate) fn take_apdu_at_front<D: Desk>(
     to_client: &mut Outq,
     to_controller: &mut Outq,
     desk: &mut D,
-) -> Result<Framed<Fate>, WriteFault>
-    requires iec104 { asset.now.protocol ≡ Protocol.Iec104 }
+) -> Result<Framed<Decided>, WriteFault>
+    requires iec104 { site.now.first.protocol ≡ Protocol.Iec104 }
     requires idle { numbers.old.owed ≡ None }
-    requires rules { IsRulesOf asset.now client.now.address rules.now }
-    requires within { IsAssetWithin asset.now }
+    requires rules { AreRulesOf site.now client.now.address rules.now }
+    requires within { IsSiteWithin site.now }
     requires whole { DeskValue.whole (D.value desk.old) ≡ true }
     requires open { IsOpen side to_client.old to_controller.old }
     requires client_room { HasRoom (2 * length bytes.now.bytes) to_client.old }
     requires controller_room { HasRoom (2 * length bytes.now.bytes) to_controller.old }
-    ensures fronts { IfOk result (λ a. FrontsOf asset.now client.now rules.now moment side bytes.now.bytes (Wire.Iec104 numbers.old)
+    ensures fronts { IfOk result (λ a. FrontsOf site.now client.now rules.now moment side bytes.now.bytes (Wire.Iec104 numbers.old)
         (Wire.Iec104 numbers.new)
         (outlets to_client.old to_controller.old (DeskValue.lines (D.value desk.old)))
         (outlets to_client.new to_controller.new (DeskValue.lines (D.value desk.new))) a) }
-    ensures misses { OnErr result (MissesOf asset.now client.now rules.now moment side bytes.now.bytes (Wire.Iec104 numbers.old)
+    ensures misses { OnErr result (MissesOf site.now client.now rules.now moment side bytes.now.bytes (Wire.Iec104 numbers.old)
         (outlets to_client.old to_controller.old (DeskValue.lines (D.value desk.old)))
         (DeskValue.lines (D.value desk.new)) (DeskValue.line_part (D.value desk.new))) }
+    ensures few { IfOk result (λ a. FewAtFront a rules.now) }
     ensures idle { OnOk result (numbers.new.owed ≡ None) }
     ensures client_grows { IfOk result (λ a. Grows (2 * taken_in a) 0 0 to_client.old to_client.new) }
     ensures controller_grows { IfOk result (λ a. Grows (2 * taken_in a) 0 0 to_controller.old to_controller.new) }
@@ -143,10 +146,11 @@ pub(crate) fn take_apdu_at_front<D: Desk>(
         Framed::More => Ok(Framed::More),
         Framed::Broken(reason) => Ok(Framed::Broken(reason)),
         Framed::Unit { unit, used } => {
+            let place = place_for_apdu(site, side, &unit);
             let fate = take_apdu(
                 numbers,
-                asset,
-                rules,
+                site.asset(place),
+                rules_at(rules, place),
                 client,
                 moment,
                 side,
@@ -156,7 +160,10 @@ pub(crate) fn take_apdu_at_front<D: Desk>(
                 to_controller,
                 desk,
             )?;
-            Ok(Framed::Unit { unit: fate, used })
+            Ok(Framed::Unit {
+                unit: Decided { place, fate },
+                used,
+            })
         }
     }
 }

@@ -7,20 +7,21 @@ ghost use Rattle.std.specs.Prelude.{IfSome, IsErr, List, length, drop};
 ghost use Rattle.cf_outq.specs.SendQueue.{Queue, IsQueueOf, after_push};
 ghost use Rattle.cf_outside.specs.Faults.{HasCause};
 ghost use Rattle.cf_outside.specs.Desk.{DeskValue};
-ghost use Rattle.cf_policy.specs.Within.{IsAssetWithin, most_rated};
+ghost use Rattle.cf_policy.specs.Site.{IsSiteWithin, SiteValue};
+ghost use Rattle.cf_policy.specs.Within.{most_rated};
 ghost use Rattle.cf_stream.specs.Stream.{no_letters};
 ghost use Rattle.cf_view.specs.Octets.{IsOctets};
 ghost use Rattle.cf_lane.specs.Follows.{AddsTo, Began, BeganApart, FailsApart, Follows, FailsWithin, IsEndBehindCut, Rests, rest_of};
 ghost use Rattle.cf_lane.specs.Follows.{with_rest, no_rests};
 ghost use Rattle.cf_lane.specs.Handled.{CountsFront, IsLaneOf, LaneValue, Steps, Misses, Grows, CountsBy, HasRoom, IsOpen, MayEnd};
-ghost use Rattle.cf_lane.specs.Handled.{EndsOther, WritesLog, cut_in, debt, letters_in, most_counted, state, step_at, step_by, debt_limit};
+ghost use Rattle.cf_lane.specs.Handled.{EndsOther, FewAtFront, WritesLog, cut_in, debt, letters_in, most_counted, state, step_at, step_by, debt_limit};
 ghost use Rattle.cf_lane.specs.Handled.{rest_limit};
 ghost use Rattle.cf_lane.specs.History.{Element, letters_at, end_at};
 ghost use Rattle.cf_lane.specs.Judged.{Judged, fate_cut, is_admitted, is_refused, one_if};
-ghost use Rattle.cf_lane.specs.Rings.{AreRingsOf, IsLeft, KnowRings, KnowsRules, RulesGoOn};
+ghost use Rattle.cf_lane.specs.Rings.{AllGoOn, AreRingsOf, HasFewAt, IsLeft, KnowRings, KnowsRules};
 ghost use Rattle.cf_lane.specs.Caller.{RateMoments};
-ghost use Rattle.cf_lane.specs.Rates.{used_at};
-ghost use Rattle.cf_policy.specs.declared.Asset.{Asset};
+ghost use Rattle.cf_lane.specs.SiteRates.{used_at};
+ghost use Rattle.cf_lane.specs.declared.lane.Decided.{Decided};
 ghost use Rattle.cf_lane.specs.Kept.{KnowsWire};
 ghost use Rattle.cf_lane.specs.Log.{has_unfinished};
 
@@ -28,12 +29,12 @@ use crate::fate::{Admission, Fate};
 use crate::iec104::take_apdu_at_front;
 use crate::log::log_end;
 use crate::rings::Rings;
-use crate::rules::Rules;
+use crate::rules::{Rules, note_at, rules_of};
 use crate::wire::Wire;
 use cf_audit::CutReason;
 use cf_outq::Outq;
 use cf_outside::Desk;
-use cf_policy::Asset;
+use cf_policy::Site;
 use cf_view::{Endpoint, Framed, NoMemory, Side, View, WriteFault};
 use std::alloc::Global;
 use std::marker::Model;
@@ -48,8 +49,8 @@ pub struct Lane {
     pub(crate) admitted: u64,
     /// How many commands were refused.
     pub(crate) refused: u64,
-    /// The asset's rules for the client, and the moments at which those with a rate were used.
-    pub(crate) rules: Rules,
+    /// The rules of each asset of its site for the client, and the moments at which those with a rate were used.
+    pub(crate) rules: Vec<Rules>,
     /// What the protocol needs of earlier units: fragments of DNP3, numbers of IEC 60870-5-104.
     pub(crate) wire: Wire,
 }
@@ -59,7 +60,7 @@ impl Model for Lane {
 
     ghost Value = { LaneValue };
 
-    ghost view = { λ l. record { client = l.client; admitted = l.admitted; refused = l.refused; rules = l.rules; wire = l.wire } };
+    ghost view = { λ l. record { client = l.client; admitted = l.admitted; refused = l.refused; rules = l.rules.items; wire = l.wire } };
 }
 
 /// What a lane made of bytes.
@@ -69,6 +70,13 @@ pub struct Fed {
     pub used: usize,
     /// Why the session is cut, if it is.
     pub cut: Option<CutReason>,
+}
+
+/// What becomes of a unit, and the place in its site of the asset that it is for.
+#[derive(Clone, Copy)]
+pub(crate) struct Decided {
+    pub(crate) place: usize,
+    pub(crate) fate: Fate,
 }
 
 /// What the unit at the front of a side's bytes led to.
@@ -83,27 +91,27 @@ pub(crate) enum Step {
 }
 
 impl Lane {
-    /// A lane of a session between this client and the asset, after what its earlier sessions left. Each later call is handed the
-    /// same asset. All its memory is taken here, and none afterwards.
+    /// A lane of a session between this client and the assets of a site, after what its earlier sessions left. Each later call is
+    /// handed the same site. All its memory is taken here, and none afterwards.
     ///
     /// `NoMemory`: it could not be had.
     pub fn new(
         alloc: Global,
-        asset: &Asset,
+        site: &Site<'_>,
         client: Endpoint,
         left: Option<Rings>,
     ) -> Result<Lane, NoMemory>
-        requires within { IsAssetWithin asset.now }
-        requires left { IfSome left (AreRingsOf asset.now) }
+        requires within { IsSiteWithin site.now }
+        requires left { IfSome left (AreRingsOf site.now) }
         ensures client { IfOk result (λ lane. LaneValue.client lane ≡ client) }
         ensures counts { IfOk result (λ lane. (LaneValue.admitted lane ≡ 0) × (LaneValue.refused lane ≡ 0) × (debt lane ≡ 0)) }
-        ensures of_asset { IfOk result (λ lane. IsLaneOf asset.now lane) }
+        ensures of_site { IfOk result (λ lane. IsLaneOf site.now lane) }
         ensures follows { IfOk result (λ lane. (before : RateMoments) (to_client to_controller : Queue) (first : Option (List (List ℕ)))
             → IsLeft left before → IsQueueOf to_client no_letters → IsQueueOf to_controller no_letters
-            → Follows asset.now before [] no_rests None first (state lane to_client to_controller first)) }
+            → Follows site.now before [] no_rests None first (state lane to_client to_controller first)) }
     {
-        let rules = Rules::new(alloc, asset, client.address, left)?;
-        let wire = Wire::new(alloc, &asset.protocol)?;
+        let rules = rules_of(alloc, site, client.address, left)?;
+        let wire = Wire::new(alloc, site)?;
         Ok(Lane {
             client,
             admitted: 0,
@@ -118,7 +126,7 @@ impl Lane {
     /// unfinished fragments may still put out. The line of a cut is the caller's to write.
     pub fn feed<D: Desk>(
         &mut self,
-        asset: &Asset,
+        site: &Site<'_>,
         moment: u64,
         side: Side,
         bytes: View<'_>,
@@ -126,8 +134,8 @@ impl Lane {
         to_controller: &mut Outq,
         desk: &mut D,
     ) -> Result<Fed, WriteFault>
-        requires of_asset { IsLaneOf asset.now self.old }
-        requires within { IsAssetWithin asset.now }
+        requires of_site { IsLaneOf site.now self.old }
+        requires within { IsSiteWithin site.now }
         requires whole { DeskValue.whole (D.value desk.old) ≡ true }
         requires open { IsOpen side to_client.old to_controller.old }
         requires client_room { HasRoom (debt self.old + 2 * length bytes.bytes) to_client.old }
@@ -138,32 +146,32 @@ impl Lane {
             (piece : List ℕ) (ended : Bool)
             → IsEndBehindCut ended fed.cut
             → bytes.entry.bytes ≡ rest_of side rests ++ piece
-            → Follows asset.now before h rests None first
+            → Follows site.now before h rests None first
             (state self.old to_client.old to_controller.old (DeskValue.lines (D.value desk.old)))
-            → Follows asset.now before (h ++ letters_at moment side piece ended ∷ [])
+            → Follows site.now before (h ++ letters_at moment side piece ended ∷ [])
             (with_rest side rests (drop fed.used bytes.entry.bytes)) fed.cut first
             (state self.new to_client.new to_controller.new (DeskValue.lines (D.value desk.new)))) }
         ensures apart { IfOk result (λ fed. (before : RateMoments) (h : List Element) (rests : Rests) (first own : Option (List (List ℕ)))
             (piece : List ℕ) (ended : Bool)
             → IsEndBehindCut ended fed.cut
             → bytes.entry.bytes ≡ rest_of side rests ++ piece
-            → Follows asset.now before h rests None first (state self.old to_client.old to_controller.old own)
-            → AddsTo asset.now before (h ++ letters_at moment side piece ended ∷ [])
+            → Follows site.now before h rests None first (state self.old to_client.old to_controller.old own)
+            → AddsTo site.now before (h ++ letters_at moment side piece ended ∷ [])
             (with_rest side rests (drop fed.used bytes.entry.bytes)) fed.cut first own (DeskValue.lines (D.value desk.old))
             (state self.new to_client.new to_controller.new (DeskValue.lines (D.value desk.new)))) }
-        ensures fails { OnErr result (FailsWithin asset.now moment side bytes.entry.bytes
+        ensures fails { OnErr result (FailsWithin site.now moment side bytes.entry.bytes
             (state self.old to_client.old to_controller.old (DeskValue.lines (D.value desk.old)))
             (DeskValue.lines (D.value desk.new)) (DeskValue.line_part (D.value desk.new))) }
-        ensures fails_apart { OnErr result (FailsApart asset.now moment side bytes.entry.bytes
+        ensures fails_apart { OnErr result (FailsApart site.now moment side bytes.entry.bytes
             (state self.old to_client.old to_controller.old (DeskValue.lines (D.value desk.old)))
             (DeskValue.lines (D.value desk.new)) (DeskValue.line_part (D.value desk.new))) }
-        ensures of_asset { OnOk result (IsLaneOf asset.now self.new) }
+        ensures of_site { OnOk result (IsLaneOf site.now self.new) }
         ensures client { OnOk result (LaneValue.client self.new ≡ LaneValue.client self.old) }
         ensures left { IfOk result (λ fed. fed.cut ≡ None → length (drop fed.used bytes.entry.bytes) < rest_limit) }
         ensures client_grows { IfOk result (λ fed. Grows (2 * fed.used) (debt self.old) (debt self.new) to_client.old to_client.new) }
         ensures controller_grows { IfOk result (λ fed. Grows (2 * fed.used) (debt self.old) (debt self.new) to_controller.old
             to_controller.new) }
-        ensures debt { OnOk result (debt self.new ≤ debt_limit) }
+        ensures debt { OnOk result (debt self.new ≤ debt_limit site.now) }
         ensures counts { IfOk result (λ fed. CountsBy fed.used self.old self.new) }
         ensures whole { OnOk result (DeskValue.whole (D.value desk.new) ≡ true) }
         ensures log { WritesLog (D.value desk.old) (D.value desk.new) }
@@ -172,7 +180,7 @@ impl Lane {
         let mut used = 0;
         'units: loop {
             let step = self.step(
-                asset,
+                site,
                 moment,
                 side,
                 &after(&bytes, used),
@@ -196,7 +204,7 @@ impl Lane {
     /// fragment is unfinished, and End is passed on.
     pub fn ended<D: Desk>(
         &mut self,
-        asset: &Asset,
+        site: &Site<'_>,
         moment: u64,
         side: Side,
         rest: u64,
@@ -204,32 +212,32 @@ impl Lane {
         to_controller: &mut Outq,
         desk: &mut D,
     ) -> Result<(), WriteFault>
-        requires of_asset { IsLaneOf asset.now self.old }
-        requires within { IsAssetWithin asset.now }
+        requires of_site { IsLaneOf site.now self.old }
+        requires within { IsSiteWithin site.now }
         requires whole { DeskValue.whole (D.value desk.old) ≡ true }
         requires open { IsOpen side to_client.old to_controller.old }
         requires limit { MayEnd side to_client.old to_controller.old }
         ensures history { OnOk result ((before : RateMoments) (h : List Element) (rests : Rests) (first : Option (List (List ℕ)))
             → rest ≡ length (rest_of side rests)
-            → Follows asset.now before h rests None first
+            → Follows site.now before h rests None first
             (state self.old to_client.old to_controller.old (DeskValue.lines (D.value desk.old)))
-            → Follows asset.now before (h ++ end_at moment side ∷ []) rests None first
+            → Follows site.now before (h ++ end_at moment side ∷ []) rests None first
             (state self.new to_client.new to_controller.new (DeskValue.lines (D.value desk.new)))) }
         ensures apart { OnOk result ((before : RateMoments) (h : List Element) (rests : Rests) (first own : Option (List (List ℕ)))
             → rest ≡ length (rest_of side rests)
-            → Follows asset.now before h rests None first (state self.old to_client.old to_controller.old own)
-            → AddsTo asset.now before (h ++ end_at moment side ∷ []) rests None first own
+            → Follows site.now before h rests None first (state self.old to_client.old to_controller.old own)
+            → AddsTo site.now before (h ++ end_at moment side ∷ []) rests None first own
             (DeskValue.lines (D.value desk.old)) (state self.new to_client.new to_controller.new (DeskValue.lines (D.value desk.new)))) }
         ensures fails { OnErr result ((before : RateMoments) (h : List Element) (rests : Rests) (first : Option (List (List ℕ)))
             → rest ≡ length (rest_of side rests)
-            → Follows asset.now before h rests None first
+            → Follows site.now before h rests None first
             (state self.old to_client.old to_controller.old (DeskValue.lines (D.value desk.old)))
-            → Began asset.now before self.old.client (h ++ end_at moment side ∷ []) first
+            → Began site.now before self.old.client (h ++ end_at moment side ∷ []) first
             (DeskValue.lines (D.value desk.new)) (DeskValue.line_part (D.value desk.new))) }
         ensures fails_apart { OnErr result ((before : RateMoments) (h : List Element) (rests : Rests) (first own : Option (List (List ℕ)))
             → rest ≡ length (rest_of side rests)
-            → Follows asset.now before h rests None first (state self.old to_client.old to_controller.old own)
-            → BeganApart asset.now before self.old.client (h ++ end_at moment side ∷ []) first own (DeskValue.lines (D.value desk.old))
+            → Follows site.now before h rests None first (state self.old to_client.old to_controller.old own)
+            → BeganApart site.now before self.old.client (h ++ end_at moment side ∷ []) first own (DeskValue.lines (D.value desk.old))
             (DeskValue.lines (D.value desk.new)) (DeskValue.line_part (D.value desk.new))) }
         ensures queues { OnOk result (EndsOther side to_client.old to_controller.old to_client.new to_controller.new) }
         ensures lane { self.new ≡ self.old }
@@ -238,20 +246,26 @@ impl Lane {
         ensures cause { HasCause (DeskValue.faults (D.value desk.old)) (DeskValue.faults (D.value desk.new)) (IsErr result) }
     {
         let unfinished = self.has_unfinished(side);
-        log_end(asset, &self.client, moment, side, unfinished, rest, desk)?;
+        log_end(
+            site.first(),
+            &self.client,
+            moment,
+            side,
+            unfinished,
+            rest,
+            desk,
+        )?;
         end_other(side, to_client, to_controller);
         Ok(())
     }
 
     /// The rings that the session leaves, as it ends, to a later one of its client.
     pub fn into_rings(self) -> Rings
-        ensures of_asset { (asset : Asset) → IsLaneOf asset self → AreRingsOf asset result }
-        ensures know { (before : RateMoments) (judged : List Judged) → KnowsRules before (LaneValue.rules self) judged
-            → KnowRings result (used_at before judged) }
+        ensures of_site { (site : SiteValue) → IsLaneOf site self → AreRingsOf site result }
+        ensures know { (site : SiteValue) (before : RateMoments) (judged : List Judged) → KnowsRules site before (LaneValue.rules self) judged
+            → KnowRings result (used_at site before judged) }
     {
-        Rings {
-            rings: self.rules.rings,
-        }
+        Rings { rules: self.rules }
     }
 
     /// How many commands were admitted.
@@ -273,7 +287,7 @@ impl Lane {
     #[inline(always)]
     fn step<D: Desk>(
         &mut self,
-        asset: &Asset,
+        site: &Site<'_>,
         moment: u64,
         side: Side,
         bytes: &View<'_>,
@@ -281,20 +295,20 @@ impl Lane {
         to_controller: &mut Outq,
         desk: &mut D,
     ) -> Result<Step, WriteFault>
-        requires of_asset { IsLaneOf asset.now self.old }
-        requires within { IsAssetWithin asset.now }
+        requires of_site { IsLaneOf site.now self.old }
+        requires within { IsSiteWithin site.now }
         requires whole { DeskValue.whole (D.value desk.old) ≡ true }
         requires open { IsOpen side to_client.old to_controller.old }
         requires client_room { HasRoom (debt self.old + 2 * length bytes.now.bytes) to_client.old }
         requires controller_room { HasRoom (debt self.old + 2 * length bytes.now.bytes) to_controller.old }
         requires counts { self.old.admitted + self.old.refused + length bytes.now.bytes < 2 ^ 64 }
-        ensures steps { IfOk result (λ s. Steps asset.now moment side bytes.now.bytes
+        ensures steps { IfOk result (λ s. Steps site.now moment side bytes.now.bytes
             (state self.old to_client.old to_controller.old (DeskValue.lines (D.value desk.old)))
             (state self.new to_client.new to_controller.new (DeskValue.lines (D.value desk.new))) s) }
-        ensures misses { OnErr result (Misses asset.now moment side bytes.now.bytes
+        ensures misses { OnErr result (Misses site.now moment side bytes.now.bytes
             (state self.old to_client.old to_controller.old (DeskValue.lines (D.value desk.old)))
             (DeskValue.lines (D.value desk.new)) (DeskValue.line_part (D.value desk.new))) }
-        ensures of_asset { OnOk result (IsLaneOf asset.now self.new) }
+        ensures of_site { OnOk result (IsLaneOf site.now self.new) }
         ensures client_grows { IfOk result (λ s. Grows (2 * letters_in s) (debt self.old) (debt self.new) to_client.old to_client.new) }
         ensures controller_grows { IfOk result (λ s. Grows (2 * letters_in s) (debt self.old) (debt self.new) to_controller.old
             to_controller.new) }
@@ -306,10 +320,10 @@ impl Lane {
     {
         match &self.wire {
             Wire::Modbus => {
-                self.step_modbus(asset, moment, side, bytes, to_client, to_controller, desk)
+                self.step_modbus(site, moment, side, bytes, to_client, to_controller, desk)
             }
             Wire::Dnp3(_) | Wire::Iec104(_) => {
-                self.step_by_call(asset, moment, side, bytes, to_client, to_controller, desk)
+                self.step_by_call(site, moment, side, bytes, to_client, to_controller, desk)
             }
         }
     }
@@ -318,7 +332,7 @@ impl Lane {
     #[inline(never)]
     fn step_by_call<D: Desk>(
         &mut self,
-        asset: &Asset,
+        site: &Site<'_>,
         moment: u64,
         side: Side,
         bytes: &View<'_>,
@@ -327,20 +341,20 @@ impl Lane {
         desk: &mut D,
     ) -> Result<Step, WriteFault>
         requires by_call { self.old.wire ≢ Wire.Modbus }
-        requires of_asset { IsLaneOf asset.now self.old }
-        requires within { IsAssetWithin asset.now }
+        requires of_site { IsLaneOf site.now self.old }
+        requires within { IsSiteWithin site.now }
         requires whole { DeskValue.whole (D.value desk.old) ≡ true }
         requires open { IsOpen side to_client.old to_controller.old }
         requires client_room { HasRoom (debt self.old + 2 * length bytes.now.bytes) to_client.old }
         requires controller_room { HasRoom (debt self.old + 2 * length bytes.now.bytes) to_controller.old }
         requires counts { self.old.admitted + self.old.refused + length bytes.now.bytes < 2 ^ 64 }
-        ensures steps { IfOk result (λ s. Steps asset.now moment side bytes.now.bytes
+        ensures steps { IfOk result (λ s. Steps site.now moment side bytes.now.bytes
             (state self.old to_client.old to_controller.old (DeskValue.lines (D.value desk.old)))
             (state self.new to_client.new to_controller.new (DeskValue.lines (D.value desk.new))) s) }
-        ensures misses { OnErr result (Misses asset.now moment side bytes.now.bytes
+        ensures misses { OnErr result (Misses site.now moment side bytes.now.bytes
             (state self.old to_client.old to_controller.old (DeskValue.lines (D.value desk.old)))
             (DeskValue.lines (D.value desk.new)) (DeskValue.line_part (D.value desk.new))) }
-        ensures of_asset { OnOk result (IsLaneOf asset.now self.new) }
+        ensures of_site { OnOk result (IsLaneOf site.now self.new) }
         ensures client_grows { IfOk result (λ s. Grows (2 * letters_in s) (debt self.old) (debt self.new) to_client.old to_client.new) }
         ensures controller_grows { IfOk result (λ s. Grows (2 * letters_in s) (debt self.old) (debt self.new) to_controller.old
             to_controller.new) }
@@ -354,8 +368,8 @@ impl Lane {
             Wire::Modbus => unreachable!(),
             Wire::Dnp3(fragments) => {
                 let front = fragments.take_frame_at_front(
-                    asset,
-                    &self.rules,
+                    site,
+                    self.rules.as_slice(),
                     &self.client,
                     moment,
                     side,
@@ -369,8 +383,8 @@ impl Lane {
             Wire::Iec104(numbers) => {
                 let front = take_apdu_at_front(
                     numbers,
-                    asset,
-                    &self.rules,
+                    site,
+                    self.rules.as_slice(),
                     &self.client,
                     moment,
                     side,
@@ -386,51 +400,51 @@ impl Lane {
 
     /// What stands at the front of a side's bytes led to, where it was taken and is yet to be counted.
     #[inline(never)]
-    fn count_front(&mut self, front: &Framed<Fate>, moment: u64, side: Side) -> Step
+    fn count_front(&mut self, front: &Framed<Decided>, moment: u64, side: Side) -> Step
         requires counts { self.old.admitted + self.old.refused + most_counted front.now < 2 ^ 64 }
-        requires few { length self.old.rules.rings.items ≤ most_rated }
+        requires few { FewAtFront front.now self.old.rules }
         ensures counts { CountsFront front.now moment self.old self.new }
         ensures step { result ≡ step_at side front.now }
     {
         match front {
             Framed::More => Step::More,
             Framed::Broken(reason) => Step::Cut(CutReason::Framing(side, *reason)),
-            Framed::Unit { unit: fate, used } => {
-                self.count(fate, moment);
-                step_of(fate, *used)
+            Framed::Unit { unit, used } => {
+                self.count(unit, moment);
+                step_of(&unit.fate, *used)
             }
         }
     }
 
-    /// Counts an item by its fate.
-    fn count(&mut self, fate: &Fate, moment: u64)
+    /// Counts an item by its fate, at the rules of its asset.
+    fn count(&mut self, decided: &Decided, moment: u64)
         requires counts { self.old.admitted + self.old.refused + 1 < 2 ^ 64 }
-        requires few { length self.old.rules.rings.items ≤ most_rated }
+        requires few { HasFewAt decided.now.place self.old.rules }
         ensures client { self.new.client ≡ self.old.client }
-        ensures admitted { self.new.admitted ≡ self.old.admitted + one_if (is_admitted fate.now) }
-        ensures refused { self.new.refused ≡ self.old.refused + one_if (is_refused fate.now) }
-        ensures rules { RulesGoOn fate.now moment self.old.rules self.new.rules }
+        ensures admitted { self.new.admitted ≡ self.old.admitted + one_if (is_admitted decided.now.fate) }
+        ensures refused { self.new.refused ≡ self.old.refused + one_if (is_refused decided.now.fate) }
+        ensures rules { AllGoOn decided.now.place decided.now.fate moment self.old.rules self.new.rules }
         ensures wire { self.new.wire ≡ self.old.wire }
     {
-        match fate {
-            Fate::Admitted(admission) => self.admit(admission, moment),
+        match &decided.fate {
+            Fate::Admitted(admission) => self.admit(decided.place, admission, moment),
             Fate::Refused(_) => self.refuse(),
             Fate::Carried | Fate::Stray(_) | Fate::Lengthens | Fate::Cuts(_) => {}
         }
     }
 
-    /// Counts an admitted command, and notes the moment at the rules that it used.
-    pub(crate) fn admit(&mut self, admission: &Admission, moment: u64)
+    /// Counts an admitted command, and notes the moment at the rules that it used, of the asset of a place.
+    pub(crate) fn admit(&mut self, place: usize, admission: &Admission, moment: u64)
         requires counts { self.old.admitted + 1 < 2 ^ 64 }
-        requires few { length self.old.rules.rings.items ≤ most_rated }
+        requires few { HasFewAt place self.old.rules }
         ensures client { self.new.client ≡ self.old.client }
         ensures admitted { self.new.admitted ≡ self.old.admitted + 1 }
         ensures refused { self.new.refused ≡ self.old.refused }
-        ensures rules { RulesGoOn (Fate.Admitted admission.now) moment self.old.rules self.new.rules }
+        ensures rules { AllGoOn place (Fate.Admitted admission.now) moment self.old.rules self.new.rules }
         ensures wire { self.new.wire ≡ self.old.wire }
     {
         self.admitted += 1;
-        self.rules.note(admission, moment);
+        note_at(self.rules.as_mut_slice(), place, admission, moment);
     }
 
     /// Counts a refused command.
@@ -441,14 +455,14 @@ impl Lane {
         self.refused += 1;
     }
 
-    /// Whether a fragment of a side is unfinished.
+    /// Whether a fragment of a side is unfinished, of any asset.
     fn has_unfinished(&self, side: Side) -> bool
-        ensures { (asset : Asset) (earlier : List Judged) → IsLaneOf asset self.now → KnowsWire asset self.now.wire earlier
-            → result ≡ has_unfinished asset asset.protocol side earlier }
+        ensures { (site : SiteValue) (earlier : List Judged) → IsLaneOf site self.now → KnowsWire site self.now.wire earlier
+            → result ≡ has_unfinished site site.first.protocol side earlier }
     {
         match &self.wire {
             Wire::Modbus | Wire::Iec104(_) => false,
-            Wire::Dnp3(fragments) => fragments.of(side).unfinished(),
+            Wire::Dnp3(fragments) => fragments.unfinished(side),
         }
     }
 }

@@ -1,6 +1,8 @@
 //! Laws of the items of histories: each is the contract of a function that does nothing.
 ghost use Rattle.cf_lane.specs.Laws.{EndJoins, GrowsLittle, HasOneJudgement, JudgedJoin, JudgementsGoOn, LanePassesAllowed, NothingTaken};
 ghost use Rattle.cf_lane.specs.Laws.{PiecesJoin, QuietBehindEnd, RatesHold, RatesLast, StreamsGoOn, UnitsArePrefixFree};
+ghost use Rattle.cf_lane.specs.SiteLaws.{NobodysAduIsRefused, NobodysAsduIsRefused, NobodysFrameIsStray, OneAssetEnds, OneAssetFates};
+ghost use Rattle.cf_lane.specs.SiteLaws.{OneAssetLines, OneAssetOutputs, PartsAsdus, PartsFates, PartsOutputs};
 
 use cf_modbus::each_pdu_has_an_answer;
 
@@ -27,7 +29,8 @@ pub fn pieces_join()
     ensures free { UnitsArePrefixFree }
 {}
 
-/// Between two places of a history each stream grows by at most twice the letters taken, and 8,192.
+/// Between two places of a history each stream grows by at most twice the letters taken, 2,892, and what unfinished fragments may
+/// still put out: 5,300 for each asset of DNP3, and so 8,192 with one.
 pub fn grows_little()
     ensures { GrowsLittle }
 {}
@@ -39,14 +42,15 @@ pub fn streams_go_on()
     ensures quiet { QuietBehindEnd }
 {}
 
-/// Of the commands of a history exactly those whose station is the asset's, whose form is read and each of whose acts is
-/// allowed go to the controller, in their spelling and at their place; beside them go the confirmations and link status
+/// Of the commands of a history exactly those whose station is that of an asset, whose form is read and each of whose acts is
+/// allowed by that asset's rules go to the controller, in their spelling and at their place; beside them go the confirmations and link status
 /// frames of DNP3, and the S and U frames of IEC 60870-5-104.
 pub fn lane_passes_allowed()
     ensures { LanePassesAllowed }
 {}
 
-/// No rule lets more commands of a session through than its rate, at any moment, those of earlier sessions of its client counted.
+/// No rule of an asset lets more commands of a session through than its rate, at any moment, those of earlier sessions of its
+/// client counted; commands to another asset of the site do not count.
 pub fn rates_hold()
     ensures { RatesHold }
 {}
@@ -54,4 +58,28 @@ pub fn rates_hold()
 /// No rule lets more commands of all sessions of a client through than its rate, where one session comes after the other.
 pub fn rates_last()
     ensures { RatesLast }
+{}
+
+/// What becomes of the units for one asset of a site, and what they put out, is what it would be in a session of that asset alone
+/// that has these units, for Modbus and DNP3; of IEC 60870-5-104 so is the fate of an ASDU, where its numbers do not cut. So each law
+/// of a session of one asset is one of each asset of a site.
+pub fn parts_are_sessions()
+    ensures fates { PartsFates }
+    ensures outputs { PartsOutputs }
+    ensures asdus { PartsAsdus }
+{}
+
+/// A unit that is for no asset is refused by its station, or is a stray frame.
+pub fn nobodys_is_refused()
+    ensures adu { NobodysAduIsRefused }
+    ensures frame { NobodysFrameIsStray }
+    ensures asdu { NobodysAsduIsRefused }
+{}
+
+/// A site of one asset has the fates, the streams and the lines that this asset gives its units, in all three protocols.
+pub fn one_asset_is_as_before()
+    ensures fates { OneAssetFates }
+    ensures outputs { OneAssetOutputs }
+    ensures lines { OneAssetLines }
+    ensures ends { OneAssetEnds }
 {}

@@ -4,7 +4,7 @@ ghost use Rattle.cf_modbus.specs.Adu.{adu_value, spelling};
 ghost use Rattle.cf_outq.specs.SendQueue.{after_push};
 ghost use Rattle.cf_outside.specs.Faults.{HasCause};
 ghost use Rattle.cf_outside.specs.Desk.{DeskValue};
-ghost use Rattle.cf_policy.specs.Within.{IsAssetWithin};
+ghost use Rattle.cf_policy.specs.Site.{IsSiteWithin};
 ghost use Rattle.cf_lane.specs.Handled.{IsLaneOf, Steps, Misses, TakesCommand, MissesCommand, Grows, CountsBy, HasRoom, IsOpen, WritesLog};
 ghost use Rattle.cf_lane.specs.Handled.{debt, letters_in, state};
 ghost use Rattle.cf_lane.specs.Log.{is_some_bytes};
@@ -13,11 +13,13 @@ ghost use Rattle.cf_lane.specs.Modbus.{adu_reply};
 use crate::fate::{Fate, Judgement, Refusal, judge};
 use crate::lane::{Lane, Step, push_octets};
 use crate::log::{log_admission, log_refusal};
+use crate::rules::rules_at;
+use crate::site::place_for_adu;
 use cf_audit::CutReason;
 use cf_modbus::{Adu, exception_octets, next_adu};
 use cf_outq::Outq;
 use cf_outside::Desk;
-use cf_policy::{Asset, Protocol};
+use cf_policy::{Protocol, Site};
 use cf_view::{Framed, Side, View, WriteFault};
 
 impl Lane {
@@ -25,7 +27,7 @@ impl Lane {
     #[inline(always)]
     pub(crate) fn step_modbus<D: Desk>(
         &mut self,
-        asset: &Asset,
+        site: &Site<'_>,
         moment: u64,
         side: Side,
         bytes: &View<'_>,
@@ -33,21 +35,21 @@ impl Lane {
         to_controller: &mut Outq,
         desk: &mut D,
     ) -> Result<Step, WriteFault>
-        requires modbus { asset.now.protocol ≡ Protocol.Modbus }
-        requires of_asset { IsLaneOf asset.now self.old }
-        requires within { IsAssetWithin asset.now }
+        requires modbus { site.now.first.protocol ≡ Protocol.Modbus }
+        requires of_site { IsLaneOf site.now self.old }
+        requires within { IsSiteWithin site.now }
         requires whole { DeskValue.whole (D.value desk.old) ≡ true }
         requires open { IsOpen side to_client.old to_controller.old }
         requires client_room { HasRoom (debt self.old + 2 * length bytes.now.bytes) to_client.old }
         requires controller_room { HasRoom (debt self.old + 2 * length bytes.now.bytes) to_controller.old }
         requires counts { self.old.admitted + self.old.refused + length bytes.now.bytes < 2 ^ 64 }
-        ensures steps { IfOk result (λ s. Steps asset.now moment side bytes.now.bytes
+        ensures steps { IfOk result (λ s. Steps site.now moment side bytes.now.bytes
             (state self.old to_client.old to_controller.old (DeskValue.lines (D.value desk.old)))
             (state self.new to_client.new to_controller.new (DeskValue.lines (D.value desk.new))) s) }
-        ensures misses { OnErr result (Misses asset.now moment side bytes.now.bytes
+        ensures misses { OnErr result (Misses site.now moment side bytes.now.bytes
             (state self.old to_client.old to_controller.old (DeskValue.lines (D.value desk.old)))
             (DeskValue.lines (D.value desk.new)) (DeskValue.line_part (D.value desk.new))) }
-        ensures of_asset { OnOk result (IsLaneOf asset.now self.new) }
+        ensures of_site { OnOk result (IsLaneOf site.now self.new) }
         ensures client_grows { IfOk result (λ s. Grows (2 * letters_in s) (debt self.old) (debt self.new) to_client.old to_client.new) }
         ensures controller_grows { IfOk result (λ s. Grows (2 * letters_in s) (debt self.old) (debt self.new) to_controller.old
             to_controller.new) }
@@ -63,15 +65,7 @@ impl Lane {
             Framed::Unit { unit, used } => match side {
                 Side::Client => {
                     let octets = bytes.sub(0, used);
-                    self.take_command(
-                        asset,
-                        moment,
-                        &unit,
-                        octets,
-                        to_client,
-                        to_controller,
-                        desk,
-                    )?;
+                    self.take_command(site, moment, &unit, octets, to_client, to_controller, desk)?;
                     Ok(Step::Took(used))
                 }
                 Side::Controller => {
@@ -86,7 +80,7 @@ impl Lane {
     #[inline(always)]
     fn take_command<D: Desk>(
         &mut self,
-        asset: &Asset,
+        site: &Site<'_>,
         moment: u64,
         adu: &Adu<'_>,
         octets: View<'_>,
@@ -94,8 +88,8 @@ impl Lane {
         to_controller: &mut Outq,
         desk: &mut D,
     ) -> Result<(), WriteFault>
-        requires of_asset { IsLaneOf asset.now self.old }
-        requires within { IsAssetWithin asset.now }
+        requires of_site { IsLaneOf site.now self.old }
+        requires within { IsSiteWithin site.now }
         requires whole { DeskValue.whole (D.value desk.old) ≡ true }
         requires at_least { 1 ≤ length adu.now.pdu.bytes }
         requires at_most { length adu.now.pdu.bytes ≤ 253 }
@@ -104,13 +98,13 @@ impl Lane {
         requires client_room { HasRoom (length (spelling (adu_value adu.now)) + 8) to_client.old }
         requires controller_room { HasRoom (length (spelling (adu_value adu.now))) to_controller.old }
         requires counts { self.old.admitted + self.old.refused + 1 < 2 ^ 64 }
-        ensures takes { OnOk result (TakesCommand asset.now moment (adu_value adu.now)
+        ensures takes { OnOk result (TakesCommand site.now moment (adu_value adu.now)
             (state self.old to_client.old to_controller.old (DeskValue.lines (D.value desk.old)))
             (state self.new to_client.new to_controller.new (DeskValue.lines (D.value desk.new)))) }
-        ensures misses { OnErr result (MissesCommand asset.now moment (adu_value adu.now)
+        ensures misses { OnErr result (MissesCommand site.now moment (adu_value adu.now)
             (state self.old to_client.old to_controller.old (DeskValue.lines (D.value desk.old)))
             (DeskValue.lines (D.value desk.new)) (DeskValue.line_part (D.value desk.new))) }
-        ensures of_asset { OnOk result (IsLaneOf asset.now self.new) }
+        ensures of_site { OnOk result (IsLaneOf site.now self.new) }
         ensures client_grows { OnOk result (Grows 9 0 0 to_client.old to_client.new) }
         ensures controller_grows { OnOk result (Grows (length (spelling (adu_value adu.now))) 0 0 to_controller.old to_controller.new) }
         ensures counts { OnOk result (CountsBy 1 self.old self.new) }
@@ -118,10 +112,13 @@ impl Lane {
         ensures log { WritesLog (D.value desk.old) (D.value desk.new) }
         ensures cause { HasCause (DeskValue.faults (D.value desk.old)) (DeskValue.faults (D.value desk.new)) (IsErr result) }
     {
-        match &judge(asset, &self.rules, moment, adu) {
+        let place = place_for_adu(site, Side::Client, adu);
+        let asset = site.asset(place);
+        let rules = rules_at(self.rules.as_slice(), place);
+        match &judge(asset, rules, moment, adu) {
             Judgement::Admitted(admission) => {
                 push_octets(&octets, to_controller);
-                self.admit(admission, moment);
+                self.admit(place, admission, moment);
                 log_admission(asset, &self.client, moment, admission, octets, desk)?;
                 Ok(())
             }

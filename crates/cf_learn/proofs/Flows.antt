@@ -26,16 +26,16 @@ module _ (asset : Asset) (place : ℕ) where
   module _ (flows : List FlowValue) (f : FlowValue) (client : ℕ) (act : Act) where
     -- what a flow more shows
     earlier_flow : IsSeen asset place flows client act → IsSeen asset place (flows ++ f ∷ []) client act
-    earlier_flow s = record { flow = s.flow; here = Contains-append_left flows (f ∷ []) s.flow s.here; to_asset = s.to_asset; of_client = s.of_client; shown = s.shown }
+    earlier_flow s = record { flow = s.flow; here = Contains-append_left flows (f ∷ []) s.flow s.here; to_site = s.to_site; of_client = s.of_client; shown = s.shown }
 
     this_flow : f.asset ≡ place → f.client.address ≡ client → IsShown asset f.bytes act → IsSeen asset place (flows ++ f ∷ []) client act
-    this_flow to of shown = record { flow = f; here = Contains-append_right flows (f ∷ []) f (first f []); to_asset = to; of_client = of; shown = shown }
+    this_flow to of shown = record { flow = f; here = Contains-append_right flows (f ∷ []) f (first f []); to_site = to; of_client = of; shown = shown }
 
     either_flow : IsSeen asset place (flows ++ f ∷ []) client act → IsSeen asset place flows client act ⊎ ((f.asset ≡ place) × (f.client.address ≡ client) × IsShown asset f.bytes act)
     either_flow s = ⊎_elim
-        (λ early. inl (record { flow = s.flow; here = early; to_asset = s.to_asset; of_client = s.of_client; shown = s.shown }))
+        (λ early. inl (record { flow = s.flow; here = early; to_site = s.to_site; of_client = s.of_client; shown = s.shown }))
         (λ late. let is = only f s.flow late in
-        inr (ap (λ g. g.asset) is ∙ s.to_asset, ap (λ g. g.client.address) is ∙ s.of_client, subst (λ g. IsShown asset g.bytes act) (sym is) s.shown))
+        inr (ap (λ g. g.asset) is ∙ s.to_site, ap (λ g. g.client.address) is ∙ s.of_client, subst (λ g. IsShown asset g.bytes act) (sym is) s.shown))
         (Contains-append_cases flows (f ∷ []) s.flow s.here)
 
   pub seen_other : (flows : List FlowValue) (f : FlowValue) (seen : List Seen) → (f.asset ≡ place → ⊥) → AreSeen asset place flows seen → AreSeen asset place (flows ++ f ∷ []) seen

@@ -7,5 +7,6 @@ mod Gathered
 mod Greatest
 mod Learned
 mod Numbered
+mod OwnUnits
 mod Same
 mod Within

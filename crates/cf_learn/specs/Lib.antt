@@ -1,5 +1,6 @@
 pub mod Assets
 pub mod Greatest
+pub mod OwnUnits
 pub mod Reading
 pub mod Rules
 pub mod Seen

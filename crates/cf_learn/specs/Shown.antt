@@ -1,7 +1,8 @@
 -- What flows show of an asset: IsSeen. The commands are those that the readers of the protocols read, with the asset's station; the
--- frames, segments and fragments of DNP3 are put together as the filter does it. Read from the end.
+-- frames, segments and fragments of DNP3 are put together as the filter does it, those to each asset for themselves. Read from the end.
 use Rattle.std.specs.Prelude.{◌≡◌, ◌≢◌, ℕ, Bool, ◌&&◌, List, [], ◌∷◌, ◌++◌, map, Ok, Contains}
 use Rattle.std.specs.List.{flat_map}
+use Rattle.std.specs.Option.{option_map_or}
 use Rattle.cf_apci.specs.Apdu.{Ack, Control, Info}
 use Rattle.cf_asdu.specs.Asdu.{AsduValue}
 use Rattle.cf_asdu.specs.Asdu as asdus
@@ -17,6 +18,7 @@ use Rattle.cf_modbus.specs.Adu.{AduValue}
 use Rattle.cf_modbus.specs.Request.{RequestValue}
 use Rattle.cf_modbus.specs.Request as requests
 use Rattle.cf_modbus.specs.Acts as request_acts
+use Rattle.cf_policy.specs.AtEndpoint.{asset_place}
 use Rattle.cf_policy.specs.declared.Asset.{Asset}
 use Rattle.cf_view.specs.declared.Act.{Act}
 use Rattle.cf_view.specs.declared.Side.TheVariants as side
@@ -66,10 +68,14 @@ pub record IsShown (asset : Asset) (bytes : List ℕ) (act : Act) : Type 0 where
   pub are : AreUnits asset.protocol bytes units tail
   pub have : HaveAct asset (messages asset units) act
 
--- a flow of the client to the asset at this place shows the act
+-- the place by which a flow names the site of an asset: that of the first of a policy's assets with its address and port
+abbrev pub site_place : List Asset → Asset → ℕ
+site_place assets asset = option_map_or (λ place. place) (asset_place assets asset.endpoint) 0
+
+-- a flow of the client to the site at this place shows the act of the asset
 pub record IsSeen (asset : Asset) (place : ℕ) (flows : List FlowValue) (client : ℕ) (act : Act) : Type 0 where
   pub flow : FlowValue
   pub here : Contains flows flow
-  pub to_asset : flow.asset ≡ place
+  pub to_site : flow.asset ≡ place
   pub of_client : flow.client.address ≡ client
   pub shown : IsShown asset flow.bytes act

@@ -1,12 +1,15 @@
 //! The assets of a policy with the rules that allow what flows show of each.
-ghost use Rattle.std.specs.Prelude.{◌≡◌, map, Err, IfOk, IfErr};
+ghost use Rattle.std.specs.Prelude.{◌≡◌, ◌<◌, ◌^◌, length, map, Err, IfOk, IfErr, IfSome};
 ghost use Rattle.cf_learn.specs.Assets.{AreLearned, IsLearnedAsset, LearnsTooMany, StopsAt, with_rules};
+ghost use Rattle.cf_learn.specs.Shown.{site_place};
+ghost use Rattle.cf_policy.specs.AtEndpoint.{asset_place};
 ghost use Rattle.cf_policy.specs.Within.{AreAssetsWithin, IsAssetWithin};
 ghost use Rattle.cf_watch.specs.FlowValue.{flow_value};
 
 use crate::learning::{RulesFault, learned_rules};
 use crate::reading::seen_in;
 use cf_policy::{Asset, Items, Name, Policy, Rule};
+use cf_view::{Endpoint, same_endpoint};
 use cf_watch::Flow;
 use std::alloc::Global;
 
@@ -19,18 +22,19 @@ pub enum LearnFault {
     Many(u32),
 }
 
-/// The assets of a policy, whose own rules are not looked at, each with rules that allow exactly what the flows show of it: the acts
-/// of the commands with its station and a right form, up to where the bytes of a flow break or end. An asset of which they show
-/// nothing has no rules. The policy is one that was read. This project's own.
+/// The assets of a policy, whose own rules are not looked at, each with rules that allow exactly what the flows to its site show of it:
+/// the acts of the commands with its station and a right form, up to where the bytes of a flow break or end. An asset of which they
+/// show nothing has no rules. The policy is one that was read. This project's own.
 pub fn learn(alloc: Global, policy: &Policy, flows: &[Flow]) -> Result<Policy, LearnFault>
     requires within { AreAssetsWithin policy.now.assets }
-    ensures learned { IfOk result (λ learned. AreLearned (map flow_value flows.now) 0 policy.now.assets learned.assets) }
+    ensures learned { IfOk result (λ learned. AreLearned (map flow_value flows.now) policy.now.assets policy.now.assets learned.assets) }
     ensures within { IfOk result (λ learned. AreAssetsWithin learned.assets) }
     ensures stops { IfErr result (StopsAt (map flow_value flows.now) policy.now.assets) }
 {
     let mut learned = Vec::new(alloc);
     for (place, asset) in policy.assets.as_slice().iter().enumerate() {
-        match learned_asset(alloc, asset, place as u32, flows) {
+        let site = site_place(policy.assets.as_slice(), asset);
+        match learned_asset(alloc, asset, site, flows) {
             Ok(one) => {
                 if learned.push(one).is_err() {
                     return Err(LearnFault::NoMemory);
@@ -45,7 +49,28 @@ pub fn learn(alloc: Global, policy: &Policy, flows: &[Flow]) -> Result<Policy, L
     })
 }
 
-/// The asset at a place with the rules that allow what the flows show of it.
+/// The place by which a flow names the site of an asset: that of the first of a policy's assets with its address and port.
+pub fn site_place(assets: &[Asset], asset: &Asset) -> u32
+    requires few { length assets.now < 2 ^ 32 }
+    ensures { result ≡ site_place assets.now asset.now }
+{
+    match first_at(assets, &asset.endpoint) {
+        Some(place) => place as u32,
+        None => 0,
+    }
+}
+
+/// The place of the first asset that has the endpoint.
+fn first_at(assets: &[Asset], endpoint: &Endpoint) -> Option<usize>
+    ensures place { result ≡ asset_place assets.now endpoint.now }
+    ensures inside { IfSome result (λ place. place < length assets.now) }
+{
+    assets
+        .iter()
+        .position(|asset| same_endpoint(&asset.endpoint, endpoint))
+}
+
+/// The asset with the rules that allow what the flows to the site at this place show of it.
 pub fn learned_asset(
     alloc: Global,
     asset: &Asset,

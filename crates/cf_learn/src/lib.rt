@@ -3,13 +3,15 @@
 
 mod assets;
 mod gathering;
+mod laws;
 mod learning;
 mod limit;
 mod reading;
 mod runs;
 mod seen;
 
-pub use assets::{LearnFault, learn, learned_asset};
+pub use assets::{LearnFault, learn, learned_asset, site_place};
+pub use laws::shows_own_units;
 pub use learning::{RulesFault, learned_rules};
 pub use reading::{push_front, seen_in};
 pub use seen::{Kind, Seen};

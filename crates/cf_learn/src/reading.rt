@@ -32,7 +32,7 @@ use cf_view::{Act, Framed, Side, View};
 use cf_watch::Flow;
 use std::alloc::{AllocError, Global};
 
-/// What the flows show of the asset at this place, in order and each act once, however often they show it.
+/// What the flows to the site at this place show of an asset of it, in order and each act once, however often they show it.
 pub fn seen_in(
     alloc: Global,
     asset: &Asset,

@@ -7,3 +7,6 @@ mod Fronts
 mod PointTable
 mod ByTable
 mod Runs
+mod Sites
+pub mod FromPlaces
+pub mod SiteLaws

@@ -1,5 +1,5 @@
--- The asset at an endpoint, `asset_at`: the first one of a list.
-use Rattle.std.specs.Prelude.{ℕ, Bool, List, find, position, Option}
+-- The asset at an endpoint, `asset_at`: the first one of a list; and how many have it, `count_at`.
+use Rattle.std.specs.Prelude.{ℕ, Bool, List, count_by, find, position, Option}
 use Rattle.std.specs.List.{list_any}
 use Rattle.cf_policy.specs.declared.policy.Asset.{Asset}
 use Rattle.cf_view.specs.Endpoints.{same_endpoint}
@@ -16,3 +16,7 @@ has_asset_at assets endpoint = list_any (λ a. same_endpoint a.endpoint endpoint
 -- the place of the asset at an endpoint
 abbrev pub asset_place : List Asset → Endpoint → Option ℕ
 asset_place assets endpoint = position (λ a. same_endpoint a.endpoint endpoint) assets
+
+-- the number of assets that have the endpoint
+abbrev pub count_at : List Asset → Endpoint → ℕ
+count_at assets endpoint = count_by (λ a. same_endpoint a.endpoint endpoint) assets

@@ -5,5 +5,7 @@ pub mod Logged
 pub mod Names
 pub mod PointTable
 pub mod Run
+pub mod Site
+pub mod SiteLaws
 pub mod Verdict
 pub mod Within

@@ -1,5 +1,5 @@
 -- What a policy keeps that was read from a text: IsWithin.
-use Rattle.std.specs.Prelude.{◌≡◌, ◌≢◌, ℕ, ◌^◌, ◌<◌, ◌≤◌, ℤ, pos, ◌≤ℤ◌, true, false, List, length, All, AllPairs, Option, Some, None}
+use Rattle.std.specs.Prelude.{◌≡◌, ◌≢◌, ℕ, ◌^◌, ◌<◌, ◌≤◌, ℤ, pos, ◌≤ℤ◌, true, false, List, get_or, length, All, AllPairs, Option, Some, None}
 use Rattle.std.specs.Prelude.{is_some, count_by, Bool}
 use Rattle.cf_policy.specs.declared.policy.Action.{Action}
 use Rattle.cf_policy.specs.declared.policy.Action.TheVariants.{Allow, Refuse}
@@ -12,8 +12,9 @@ use Rattle.cf_policy.specs.declared.policy.Protocol.{Protocol}
 use Rattle.cf_policy.specs.declared.policy.Protocol.TheVariants.{Modbus, Dnp3, Iec104}
 use Rattle.cf_policy.specs.declared.limits.TheConstants.{HIGHEST_ADDRESS, HIGHEST_CODE, HIGHEST_COMMON_ADDRESS, HIGHEST_GROUP}
 use Rattle.cf_policy.specs.declared.limits.TheConstants.{HIGHEST_LINK_ADDRESS, HIGHEST_MOST, HIGHEST_POINT, HIGHEST_UNIT, HIGHEST_VALUE}
-use Rattle.cf_policy.specs.declared.limits.TheConstants.{LONGEST_NAME, LONGEST_RATE, LOWEST_VALUE, MOST_ASSETS, MOST_RATED, MOST_RULES}
-use Rattle.cf_policy.specs.declared.limits.TheConstants.{MOST_SPANS}
+use Rattle.cf_policy.specs.declared.limits.TheConstants.{LONGEST_NAME, LONGEST_RATE, LOWEST_VALUE, MOST_ASSETS, MOST_AT_SITE, MOST_DNP3_AT_SITE}
+use Rattle.cf_policy.specs.declared.limits.TheConstants.{MOST_RATED, MOST_RULES, MOST_SPANS}
+use Rattle.cf_policy.specs.AtEndpoint.{count_at}
 use Rattle.cf_policy.specs.Names.{is_name, is_reserved}
 
 -- the limits, as the code has them, for the definitions of other crates
@@ -85,6 +86,12 @@ highest_master Modbus = 0
 highest_master Dnp3 = HIGHEST_LINK_ADDRESS
 highest_master Iec104 = 0
 
+-- the assets of a protocol that have one endpoint at most
+abbrev pub most_at_site : Protocol → ℕ
+most_at_site Modbus = MOST_AT_SITE
+most_at_site Dnp3 = MOST_DNP3_AT_SITE
+most_at_site Iec104 = MOST_AT_SITE
+
 -- both ends are in the range, and the first is not above the second
 pub record IsSpanWithin (low high : ℤ) (s : Span) : Type 0 where
   pub above : low ≤ℤ s.low
@@ -151,12 +158,24 @@ pub record IsAssetWithin (a : Asset) : Type 0 where
   pub master : a.master ≤ highest_master a.protocol
   pub rules : AreRulesWithin a.rules
 
--- the assets of a policy: not too many, each in form, with names and endpoints that differ
+-- two assets that have one endpoint have one protocol, and stations that differ
+abbrev pub MayShare : Asset → Asset → Type 0
+MayShare a b = a.endpoint ≡ b.endpoint → (a.protocol ≡ b.protocol) × (a.station ≢ b.station)
+
+-- assets that have one endpoint stand one behind the other
+abbrev pub StandTogether : List Asset → Type 0
+StandTogether assets =
+    (i j k : ℕ) (d : Asset) → i < j → j < k → k < length assets
+    → (get_or assets i d).endpoint ≡ (get_or assets k d).endpoint → (get_or assets j d).endpoint ≡ (get_or assets k d).endpoint
+
+-- the assets of a policy: not too many, each in form, with names that differ; those of one endpoint are a site, and not too many either
 pub record AreAssetsWithin (assets : List Asset) : Type 0 where
   pub count : length assets ≤ most_assets
   pub each : All IsAssetWithin assets
   pub names : AllPairs (λ a b. a.name ≢ b.name) assets
-  pub endpoints : AllPairs (λ a b. a.endpoint ≢ b.endpoint) assets
+  pub shared : AllPairs MayShare assets
+  pub together : StandTogether assets
+  pub few : All (λ a. count_at assets a.endpoint ≤ most_at_site a.protocol) assets
 
 abbrev pub IsWithin : Policy → Type 0
 IsWithin p = AreAssetsWithin p.assets

@@ -32,3 +32,7 @@ pub const HIGHEST_MOST: u32 = 64;
 pub const LONGEST_RATE: u32 = 86_400;
 /// The most rules of an asset that have a rate.
 pub const MOST_RATED: usize = 16;
+/// The most assets behind one address and port: as many as there are unit loads on a serial line (TIA-485-A).
+pub const MOST_AT_SITE: usize = 32;
+/// The most assets of DNP3 behind one address and port, each of which may have two fragments that are not whole yet.
+pub const MOST_DNP3_AT_SITE: usize = 8;

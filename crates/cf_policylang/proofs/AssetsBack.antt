@@ -1,9 +1,7 @@
 -- Assets that were written are read as they were.
-use Rattle.std.proofs.Common.{◌≡◌, ◌≢◌, ◌∙◌, ℕ, ◌^◌, ◌<◌, ◌≤◌, ◌==◌, nat_le, pos, true, false, List, [], ◌∷◌, ◌++◌, length, get_or, Option, Some, None, Ok, ap, subst, refl, arith, bytes_eq, AllPairs}
+use Rattle.std.proofs.Common.{◌≡◌, ◌≢◌, ◌∙◌, ℕ, ◌^◌, ◌<◌, ◌≤◌, nat_le, pos, true, false, List, [], ◌∷◌, ◌++◌, length, Option, Some, None, Ok, ap, subst, refl, arith, bytes_eq, AllPairs}
 use Rattle.std.specs.List.{All, list_any}
-use Rattle.std.proofs.lemmas.Bool.{and_parts, eqb-true, false_from_ne_true}
 use Rattle.std.proofs.lemmas.Bool.Decides.{nat_tests}
-use Rattle.std.proofs.lemmas.List.Folds.{list_any_none}
 use Rattle.toml.specs.Data.{Data, string, integer, Members, no_members}
 use Rattle.cf_view.specs.declared.base.Endpoint.{Endpoint}
 use Rattle.cf_view.specs.Text.{dotted}
@@ -13,8 +11,8 @@ use Rattle.cf_policy.specs.declared.policy.Protocol.TheVariants.{Modbus, Dnp3, I
 use Rattle.cf_policy.specs.declared.policy.Span.{Span}
 use Rattle.cf_policy.specs.Names.{is_name}
 use Rattle.cf_policy.specs.Within.{AreAssetsWithin, IsAssetWithin, highest_master, highest_station, lowest_station}
-use Rattle.cf_policylang.specs.Assets.{asset, asset_address, asset_keys, asset_name, assets_from, endpoint, is_endpoint_taken, master, number_at, protocol}
-use Rattle.cf_view.specs.Endpoints.{same_endpoint}
+use Rattle.cf_policylang.specs.Assets.{asset, asset_address, asset_keys, asset_name, assets_from, endpoint, master, number_at, protocol, stated_protocol, station}
+use Rattle.cf_policylang.specs.Sites.{is_endpoint_barred}
 use Rattle.cf_policylang.specs.declared.refusal.Cause.TheVariants as cause
 use Rattle.cf_policylang.specs.declared.refusal.Key.{Key}
 use Rattle.cf_policylang.specs.declared.refusal.Key.TheVariants as key
@@ -25,11 +23,12 @@ use Rattle.cf_policylang.specs.Spelling.{asset_table, asset_tables, protocol_tex
 use Rattle.cf_policylang.specs.Tested.{at_asset, at_document, or_refused}
 use Rattle.cf_policylang.proofs.AddressesBack.{address_read}
 use Rattle.cf_policylang.proofs.ListsBack.{and_then_ok, list_step, some_list, tables_read}
-use Rattle.cf_policylang.proofs.Middles.{middle, none_before, pairs_before}
+use Rattle.cf_policylang.proofs.Middles.{middle, none_before}
 use Rattle.cf_policylang.proofs.PointsBack.{NamesSets, naming}
 use Rattle.cf_policylang.specs.declared.sets.Edition.{Edition}
 use Rattle.cf_policylang.proofs.RulesBack.{HasKnownKeys, rules_read}
 use Rattle.cf_policylang.proofs.SetsBack.{name_read}
+use Rattle.cf_policylang.proofs.SitesBack.{MayFollow}
 use Rattle.cf_policylang.proofs.Stated.{Given, built, has_no_other, put, stated_at}
 
 -- ---- the fields of an asset
@@ -48,17 +47,28 @@ number_at_read k low high p ms n e some most =
 asset_address_read : (p : Place) (ms : Members) (n : ℕ) → stated key.Address ms ≡ Some (string (dotted n)) → n < 2 ^ 32 → asset_address p ms ≡ Ok n
 asset_address_read p ms n e h = rw e (ap (or_refused cause.BadAddress key.Address p) (address_read n h))
 
-endpoint_read : (p : Place) (seen : List Asset) (ms : Members) (own : Endpoint) → own.address < 2 ^ 32 → 1 ≤ own.port → own.port < 2 ^ 16
-    → stated key.Address ms ≡ Some (string (dotted own.address)) → stated key.Port ms ≡ Some (integer (pos own.port)) → is_endpoint_taken seen own ≡ false
-    → endpoint p seen ms ≡ Ok own
-endpoint_read p seen ms own fit some below a n free =
+endpoint_read : (e : Edition) (p : Place) (seen : List Asset) (ms : Members) (own : Endpoint) → own.address < 2 ^ 32 → 1 ≤ own.port → own.port < 2 ^ 16
+    → stated key.Address ms ≡ Some (string (dotted own.address)) → stated key.Port ms ≡ Some (integer (pos own.port)) → is_endpoint_barred e seen own ≡ false
+    → endpoint e p seen ms ≡ Ok own
+endpoint_read e p seen ms own fit some below a n free =
     and_then_ok (asset_address p ms) _ own.address (Ok own) (asset_address_read p ms own.address a fit)
     (and_then_ok (number_at key.Port 1 65535 p ms) _ own.port (Ok own) (number_at_read key.Port 1 65535 p ms own.port n some (omega arith)) (rw free refl))
 
-protocol_read : (p : Place) (ms : Members) (own : Protocol) → stated key.Protocol ms ≡ Some (string (protocol_text own)) → protocol p ms ≡ Ok own
-protocol_read p ms Modbus e = rw e refl
-protocol_read p ms Dnp3 e = rw e refl
-protocol_read p ms Iec104 e = rw e refl
+stated_protocol_read : (p : Place) (ms : Members) (own : Protocol) → stated key.Protocol ms ≡ Some (string (protocol_text own)) → stated_protocol p ms ≡ Ok own
+stated_protocol_read p ms Modbus e = rw e refl
+stated_protocol_read p ms Dnp3 e = rw e refl
+stated_protocol_read p ms Iec104 e = rw e refl
+
+protocol_read : (e : Edition) (p : Place) (seen : List Asset) (a : Asset) (ms : Members) → MayFollow e seen a → stated key.Protocol ms ≡ Some (string (protocol_text a.protocol))
+    → protocol p seen a.endpoint ms ≡ Ok a.protocol
+protocol_read e p seen a ms follows is =
+    and_then_ok (stated_protocol p ms) _ a.protocol (Ok a.protocol) (stated_protocol_read p ms a.protocol is) (rw (follows.protocol, follows.room) refl)
+
+station_read : (e : Edition) (p : Place) (seen : List Asset) (a : Asset) (ms : Members) → MayFollow e seen a → stated key.Station ms ≡ Some (integer (pos a.station))
+    → lowest_station a.protocol ≤ a.station → a.station ≤ highest_station a.protocol → station a.protocol p seen a.endpoint ms ≡ Ok a.station
+station_read e p seen a ms follows is some most =
+    and_then_ok (number_at key.Station (lowest_station a.protocol) (highest_station a.protocol) p ms) _ a.station (Ok a.station)
+    (number_at_read key.Station (lowest_station a.protocol) (highest_station a.protocol) p ms a.station is some most) (rw follows.station refl)
 
 abbrev pub master_given : Protocol → ℕ → Option Data
 master_given Modbus n = None
@@ -96,8 +106,8 @@ HasKnownRules e ls a = All (HasKnownKeys e ls) a.rules
 
 module _ (e : Edition) (marks : NamesSets e) (ls : List (List Span)) (few : length ls ≤ 64) where
   asset_read : (n : ℕ) (seen : List Asset) (a : Asset) → HasKnownRules e ls a → IsAssetWithin a → list_any (λ b. bytes_eq b.name a.name) seen ≡ false
-      → is_endpoint_taken seen a.endpoint ≡ false → asset (naming e ls) n seen (asset_table ls a) ≡ Ok a
-  asset_read n seen a rules_known h free apart =
+      → MayFollow e seen a → asset (naming e ls) n seen (asset_table ls a) ≡ Ok a
+  asset_read n seen a rules_known h free follows =
       let p : Place = at_asset n in
       let gs : List Given = asset_given ls a in
       let ms : Members = built gs in
@@ -105,35 +115,23 @@ module _ (e : Edition) (marks : NamesSets e) (ls : List (List Span)) (few : leng
       ap (asset (naming e ls) n seen) (asset_built ls a)
       ∙ rw known
       (and_then_ok (asset_name p seen ms) _ a.name (Ok a) (asset_name_read p seen ms a.name (stated_at key.Name gs refl) h.name free)
-      (and_then_ok (endpoint p seen ms) _ a.endpoint (Ok a)
-      (endpoint_read p seen ms a.endpoint h.address h.some_port h.port (stated_at key.Address gs refl) (stated_at key.Port gs refl) apart)
-      (and_then_ok (protocol p ms) _ a.protocol (Ok a) (protocol_read p ms a.protocol (stated_at key.Protocol gs refl))
-      (and_then_ok (number_at key.Station (lowest_station a.protocol) (highest_station a.protocol) p ms) _ a.station (Ok a)
-      (number_at_read key.Station (lowest_station a.protocol) (highest_station a.protocol) p ms a.station (stated_at key.Station gs refl) h.station_above h.station_below)
+      (and_then_ok (endpoint e p seen ms) _ a.endpoint (Ok a)
+      (endpoint_read e p seen ms a.endpoint h.address h.some_port h.port (stated_at key.Address gs refl) (stated_at key.Port gs refl) follows.port)
+      (and_then_ok (protocol p seen a.endpoint ms) _ a.protocol (Ok a) (protocol_read e p seen a ms follows (stated_at key.Protocol gs refl))
+      (and_then_ok (station a.protocol p seen a.endpoint ms) _ a.station (Ok a)
+      (station_read e p seen a ms follows (stated_at key.Station gs refl) h.station_above h.station_below)
       (and_then_ok (master a.protocol p ms) _ a.master (Ok a) (master_read a.protocol p ms a.master (stated_at key.Master gs refl) h.master)
       (and_then_ok (rules (naming e ls) a.protocol n ms) _ a.rules (Ok a) (rules_read e marks ls few a.protocol n ms a.rules rules_known h.rules (stated_at key.Rule gs refl)) refl))))))
 
   -- ---- the assets of a document
 
-  endpoint_is : (d f : Endpoint) → same_endpoint d f ≡ true → d ≡ f
-  endpoint_is d f same =
-      let parts = and_parts (d.address == f.address) (d.port == f.port) same in
-      let address : d.address ≡ f.address = eqb-true d.address f.address parts.0 in
-      let port : d.port ≡ f.port = eqb-true d.port f.port parts.1 in
-      ap (λ n. record { address = n; port = d.port }) address ∙ ap (λ n. record { address = f.address; port = n }) port
-
-  endpoint_free : (before : List Asset) (a : Asset) (after : List Asset) → AllPairs (λ b c. b.endpoint ≢ c.endpoint) (before ++ (a ∷ after))
-      → is_endpoint_taken before a.endpoint ≡ false
-  endpoint_free before a after h =
-      list_any_none (λ (b : Asset). same_endpoint b.endpoint a.endpoint) before
-      (λ i d inside. false_from_ne_true (same_endpoint (get_or before i d).endpoint a.endpoint)
-      (λ same. pairs_before (λ (b c : Asset). b.endpoint ≢ c.endpoint) before a after h i d inside (endpoint_is (get_or before i d).endpoint a.endpoint same)))
-
-  pub assets_read : (own : List Asset) → All (HasKnownRules e ls) own → AreAssetsWithin own → assets_from (naming e ls) 0 (asset_tables ls own) [] ≡ Ok own
-  assets_read own known h =
+  pub assets_read : (own : List Asset) → All (HasKnownRules e ls) own → AreAssetsWithin own
+      → ((before : List Asset) (a : Asset) (after : List Asset) → own ≡ before ++ (a ∷ after) → MayFollow e before a)
+      → assets_from (naming e ls) 0 (asset_tables ls own) [] ≡ Ok own
+  assets_read own known h follows =
       tables_read key.Asset at_document (asset (naming e ls)) (asset_table ls) own
       (λ n before a after is.
       asset_read n before a (middle (HasKnownRules e ls) before a after (subst (All (HasKnownRules e ls)) is known)) (middle IsAssetWithin before a after (subst (All IsAssetWithin) is h.each))
       (none_before (λ (b : Asset). b.name) before a after (subst (AllPairs (λ b c. b.name ≢ c.name)) is h.names))
-      (endpoint_free before a after (subst (AllPairs (λ b c. b.endpoint ≢ c.endpoint)) is h.endpoints)))
+      (follows before a after is))
       0 [] own refl

@@ -1,5 +1,5 @@
 -- A policy that was written anew is read as it was.
-use Rattle.std.proofs.Common.{◌≡◌, ◌∙◌, ◌≤◌, pos, Bool, true, false, get_or, List, [], ◌∷◌, length, map, Some, Ok, ap, refl, arith}
+use Rattle.std.proofs.Common.{◌≡◌, ◌∙◌, ◌≤◌, pos, Bool, true, false, get_or, List, [], ◌∷◌, ◌++◌, length, map, Some, Ok, ap, subst, refl, arith}
 use Rattle.std.specs.List.{All, list_any}
 use Rattle.std.proofs.lemmas.Bool.{or_parts}
 use Rattle.std.proofs.lemmas.List.Elements.{All-append, All-cons, All-head, All-map, All-nil, All-tail, All-weaker}
@@ -8,7 +8,7 @@ use Rattle.cf_policy.specs.declared.policy.Asset.{Asset}
 use Rattle.cf_policy.specs.declared.policy.Policy.{Policy}
 use Rattle.cf_policy.specs.declared.policy.Rule.{Rule}
 use Rattle.cf_policy.specs.declared.policy.Span.{Span}
-use Rattle.cf_policy.specs.Within.{IsAssetWithin, IsRuleWithin, IsWithin}
+use Rattle.cf_policy.specs.Within.{AreAssetsWithin, IsAssetWithin, IsRuleWithin, IsWithin}
 use Rattle.cf_policylang.specs.Assets.{assets_from}
 use Rattle.cf_policylang.specs.declared.fields.Kind.TheVariants as kind
 use Rattle.cf_policylang.specs.declared.refusal.Key.TheVariants as key
@@ -16,7 +16,7 @@ use Rattle.cf_policylang.specs.declared.sets.Edition.{Edition}
 use Rattle.cf_policylang.specs.declared.sets.Edition.TheVariants as edition
 use Rattle.cf_policylang.specs.Documents.{asset_items, document, document_keys, version}
 use Rattle.cf_policylang.specs.Fields.{has_other, stated}
-use Rattle.cf_policylang.specs.Migrating.{all_points, migrated, needs_third, set_lists, version_for}
+use Rattle.cf_policylang.specs.Migrating.{all_points, has_log, has_site, migrated, needs_third, set_lists, version_for}
 use Rattle.cf_policylang.specs.Sets.{sets}
 use Rattle.cf_policylang.specs.Spelling.{asset_table, asset_tables, set_tables, with_key}
 use Rattle.cf_policylang.specs.Tested.{at_document}
@@ -25,6 +25,7 @@ use Rattle.cf_policylang.proofs.ListsBack.{and_then_ok, few_read, list_step, som
 use Rattle.cf_policylang.proofs.PointsBack.{IsPointList, NamesSets, lists_kept, naming}
 use Rattle.cf_policylang.proofs.RulesBack.{HasKnownKeys, known_in_second, known_in_third}
 use Rattle.cf_policylang.proofs.SetsBack.{IsSetList, sets_of, sets_read}
+use Rattle.cf_policylang.proofs.SitesBack.{MayFollow, in_second, in_third}
 use Rattle.cf_policylang.proofs.Stated.{Given, built, has_no_other, stated_at}
 
 -- ---- the lists of points of a policy
@@ -78,15 +79,22 @@ rules_in_second ls (r ∷ rs) none =
     let parts = or_parts r.log (list_any (λ s. s.log) rs) none in
     All-cons (HasKnownKeys edition.Second ls) r rs (known_in_second ls r parts.0) (rules_in_second ls rs parts.1)
 
-assets_in_second : (ls : List (List Span)) (own : List Asset) → needs_third own ≡ false → All (HasKnownRules edition.Second ls) own
+assets_in_second : (ls : List (List Span)) (own : List Asset) → has_log own ≡ false → All (HasKnownRules edition.Second ls) own
 assets_in_second ls [] none = All-nil (HasKnownRules edition.Second ls)
 assets_in_second ls (a ∷ own) none =
-    let parts = or_parts (list_any (λ r. r.log) a.rules) (needs_third own) none in
+    let parts = or_parts (list_any (λ r. r.log) a.rules) (has_log own) none in
     All-cons (HasKnownRules edition.Second ls) a own (rules_in_second ls a.rules parts.0) (assets_in_second ls own parts.1)
 
 known_rules : (third : Bool) (ls : List (List Span)) (own : List Asset) → needs_third own ≡ third → All (HasKnownRules (edition_for third) ls) own
-known_rules false ls own none = assets_in_second ls own none
+known_rules false ls own none = assets_in_second ls own (or_parts (has_log own) (has_site own) none).0
 known_rules true ls own some = λ i d inside j e within. known_in_third ls (get_or (get_or own i d).rules j e)
+
+-- each asset may follow those before it: in version 2 where no two have one endpoint, and in version 3 always
+follow : (third : Bool) (own : List Asset) → needs_third own ≡ third → AreAssetsWithin own → (before : List Asset) (a : Asset) (after : List Asset)
+    → own ≡ before ++ (a ∷ after) → MayFollow (edition_for third) before a
+follow false own none h before a after is =
+    in_second before a after (subst AreAssetsWithin is h) (subst (λ l. has_site l ≡ false) is (or_parts (has_log own) (has_site own) none).1)
+follow true own some h before a after is = in_third before a after (subst AreAssetsWithin is h)
 
 asset_items_read : (ms : Members) (ls : List (List Span)) (own : List Asset) → length own ≤ 256 → stated key.Asset ms ≡ Some (array (asset_tables ls own))
     → asset_items ms ≡ Ok (asset_tables ls own)
@@ -103,7 +111,7 @@ read_with third ls p needs h few all =
     (and_then_ok (sets ms) _ (sets_of 0 ls) (Ok p) (sets_read ms ls few all (stated_at key.Set gs refl))
     (and_then_ok (asset_items ms) _ (asset_tables ls p.assets) (Ok p) (asset_items_read ms ls p.assets h.count (stated_at key.Asset gs refl))
     (and_then_ok (assets_from (naming e ls) 0 (asset_tables ls p.assets) []) _ p.assets (Ok p)
-    (assets_read e (names_sets third) ls few p.assets (known_rules third ls p.assets needs) h) refl))))
+    (assets_read e (names_sets third) ls few p.assets (known_rules third ls p.assets needs) h (follow third p.assets needs h)) refl))))
 
 -- the table of a policy means that policy
 pub document_read : (p : Policy) → IsWithin p → document (migrated p) ≡ Ok p

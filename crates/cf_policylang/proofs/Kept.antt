@@ -1,9 +1,9 @@
--- What a policy that was read keeps: names and endpoints apart, and every number in its range.
-use Rattle.std.proofs.Common.{◌≡◌, ◌≢◌, ℕ, ◌+◌, ◌≤◌, nat_lt, ℤ, pos, Bool, true, false, if◌then◌else◌, List, [], ◌∷◌, ◌++◌, length, Option, Some, None, Result, Ok, Err, IfOk, is_some, not, cond, nat_le, bytes_eq, sym, subst, ◌∙◌, ap, refl, arith, length-append}
+-- What a policy that was read keeps: names apart, assets of one endpoint as a site, and every number in its range.
+use Rattle.std.proofs.Common.{◌≡◌, ◌≢◌, ℕ, ◌+◌, ◌<◌, ◌≤◌, nat_lt, ℤ, pos, Bool, true, false, if◌then◌else◌, List, [], ◌∷◌, ◌++◌, length, Option, Some, None, Result, Ok, Err, IfOk, is_some, not, cond, nat_le, bytes_eq, sym, subst, ◌∙◌, refl, arith, length-append}
 use Rattle.std.specs.List.{All, AllPairs, list_any}
 use Rattle.std.proofs.lemmas.Bool.{leb-false, or_parts, true≢false}
 use Rattle.std.proofs.lemmas.Bool.Decides.{nat_tests}
-use Rattle.std.proofs.lemmas.List.Elements.{All-cons, All-nil, All-push, All-weaker}
+use Rattle.std.proofs.lemmas.List.Elements.{All-nil, All-push, All-weaker}
 use Rattle.std.proofs.lemmas.List.Quantifiers.{all_pairs_push}
 use Rattle.std.proofs.lemmas.List.Sums.{sum_by-append}
 use Rattle.std.proofs.lemmas.Result.{IfOk-at_ok, IfOk-weaker}
@@ -20,7 +20,7 @@ use Rattle.cf_policy.specs.declared.policy.Rate.{Rate}
 use Rattle.cf_policy.specs.declared.policy.Rule.{Rule}
 use Rattle.cf_policy.specs.declared.policy.Span.{Span}
 use Rattle.cf_policy.specs.Names.{is_name, is_reserved}
-use Rattle.cf_policy.specs.Within.{HasLogWithin, HasRateWithin, IsRateWithin, IsSpanWithin, AreSpansWithin, IsRuleWithin, AreRulesWithin, IsAssetWithin, IsWithin, lowest_station, highest_station, highest_master, highest_address, highest_code, highest_group, highest_point, lowest_value, highest_value, highest_most, longest_rate, most_rated, rated_count}
+use Rattle.cf_policy.specs.Within.{HasLogWithin, HasRateWithin, IsRateWithin, IsSpanWithin, AreSpansWithin, IsRuleWithin, AreRulesWithin, IsAssetWithin, IsWithin, MayShare, lowest_station, highest_station, highest_master, highest_address, highest_code, highest_group, highest_point, lowest_value, highest_value, highest_most, longest_rate, most_at_site, most_rated, rated_count}
 use Rattle.cf_policylang.specs.declared.fields.Kind.TheVariants as kind
 use Rattle.cf_policylang.specs.declared.lists.Entries.TheVariants as entries
 use Rattle.cf_policylang.specs.declared.refusal.Key.{Key}
@@ -30,8 +30,9 @@ use Rattle.cf_policylang.specs.declared.refusal.Place.{Place}
 use Rattle.cf_policylang.specs.declared.refusal.PolicyFault.{PolicyFault}
 use Rattle.cf_policylang.specs.declared.refusal.PolicyRefusal.{PolicyRefusal}
 use Rattle.cf_policylang.specs.Tested.{Answers, Tested, or_refused, at_asset, at_document, at_rule}
-use Rattle.cf_policylang.specs.Assets.{asset, asset_keys, asset_name, assets_from, asset_address, endpoint, is_asset_taken, is_endpoint_taken, master, no_master, number_at, protocol}
-use Rattle.cf_view.specs.Endpoints.{same_endpoint}
+use Rattle.cf_policylang.specs.Assets.{asset, asset_keys, asset_name, assets_from, asset_address, endpoint, is_asset_taken, master, no_master, number_at, protocol, station, stated_protocol}
+use Rattle.cf_policylang.specs.Sites.{is_endpoint_barred, is_protocol_barred, is_site_full, is_station_taken}
+use Rattle.cf_policy.specs.AtEndpoint.{count_at}
 use Rattle.cf_policylang.specs.Documents.{document, document_keys, asset_items, text_meaning, toml_of, version}
 use Rattle.cf_policylang.specs.Fields.{as_flag, name, as_text, as_number, as_table, as_array_of, count, has_other, required, stated, number_in, tables_from}
 use Rattle.cf_policylang.specs.Numbers.{address}
@@ -43,6 +44,7 @@ use Rattle.cf_policylang.specs.Lists.{optional_spans, spans}
 use Rattle.cf_policylang.specs.Rules.{rule, rule_keys, rule_name, action, is_rule_taken, client_spans, code_entries, code_spans, group_spans, value_spans, rule_items, rules, rules_from}
 use Rattle.cf_policylang.specs.declared.sets.Named.{Named}
 use Rattle.cf_policylang.specs.Sets.{rule_points, sets}
+use Rattle.cf_policylang.proofs.SitesKept.{AreSites, Joins, joins_by, no_sites, none_passes, protocols_by, sites_more, stations_by}
 use Rattle.cf_policylang.proofs.SetsKept.{IsSetWithin, rule_points_if, sets_if}
 use Rattle.cf_policylang.proofs.Ranges.{and_then_if, and_then_any, unless_if, or_refused_if, IsNaturalIn, number_in_if, address_if, IsCode, AreRead as AreSpansRead, address_entry_if, code_entry_if, group_entry_if, named_code_entry_if, number_entry_if, spans_if, optional_spans_if}
 
@@ -52,12 +54,6 @@ use Rattle.cf_policylang.proofs.Ranges.{and_then_if, and_then_any, unless_if, or
 ok_if : {A : Type 0} (P : A → Type 0) (b : Bool) (x : A) (r : PolicyRefusal) → (b ≡ true → P x) → IfOk (if b then Ok x else Err r) P
 ok_if P true x r h = h refl
 ok_if P false x r h = tt
-
-none_passes : {X : Type 0} (p : X → Bool) (xs : List X) → list_any p xs ≡ false → All (λ x. p x ≡ false) xs
-none_passes p [] e = All-nil (λ x. p x ≡ false)
-none_passes p (x ∷ xs) e =
-    let parts = or_parts (p x) (list_any p xs) e in
-    All-cons (λ y. p y ≡ false) x xs parts.0 (none_passes p xs parts.1)
 
 differ : (s t : List ℕ) → bytes_eq s t ≡ false → s ≢ t
 differ s t e same = true≢false (sym ((bytes_eq-Decides s t).1 same) ∙ e)
@@ -288,30 +284,41 @@ asset_address_if p ms =
     (λ d. and_then_any (λ n. n ≤ 4294967295) (as_text key.Address p d) _
     (λ text. or_refused_if (λ n. n ≤ 4294967295) cause.BadAddress key.Address p (address text) (address_if text)))
 
-same_itself : (e : Endpoint) → same_endpoint e e ≡ true
-same_itself e = grind (arith, nat_tests)
-
-endpoints_differ : (d e : Endpoint) → same_endpoint d e ≡ false → d ≢ e
-endpoints_differ d e other same = true≢false (sym (same_itself e) ∙ (ap (λ f. same_endpoint f e) (sym same) ∙ other))
-
 record IsAssetEndpoint (seen : List Asset) (e : Endpoint) : Type 0 where
   address : e.address ≤ 4294967295
   port : IsNaturalIn 1 65535 e.port
-  apart : All (λ a. a.endpoint ≢ e) seen
+  joins : Joins seen e
 
-endpoint_if : (p : Place) (seen : List Asset) (ms : Members) → IfOk (endpoint p seen ms) (IsAssetEndpoint seen)
-endpoint_if p seen ms =
+endpoint_if : (own : Edition) (p : Place) (seen : List Asset) (ms : Members) → IfOk (endpoint own p seen ms) (IsAssetEndpoint seen)
+endpoint_if own p seen ms =
     and_then_if (λ n. n ≤ 4294967295) (IsAssetEndpoint seen) (asset_address p ms) _ (asset_address_if p ms)
     (λ own_address fit. and_then_if (IsNaturalIn 1 65535) (IsAssetEndpoint seen) (number_at key.Port 1 65535 p ms) _ (number_at_if key.Port 1 65535 p ms)
     (λ own_port range.
     let e : Endpoint = record { address = own_address; port = own_port } in
-    unless_if (IsAssetEndpoint seen) (is_endpoint_taken seen e) _ _
-    (λ free. record {
-      address = fit;
-      port = range;
-      apart = All-weaker (λ a. same_endpoint a.endpoint e ≡ false) (λ a. a.endpoint ≢ e) (λ a. endpoints_differ a.endpoint e) seen
-          (none_passes (λ a. same_endpoint a.endpoint e) seen free);
-    })))
+    unless_if (IsAssetEndpoint seen) (is_endpoint_barred own seen e) _ _
+    (λ free. record { address = fit; port = range; joins = joins_by own seen e free })))
+
+record IsAssetProtocol (seen : List Asset) (e : Endpoint) (own : Protocol) : Type 0 where
+  same : All (λ a. a.endpoint ≡ e → a.protocol ≡ own) seen
+  room : count_at seen e < most_at_site own
+
+protocol_if : (p : Place) (seen : List Asset) (e : Endpoint) (ms : Members) → IfOk (protocol p seen e ms) (IsAssetProtocol seen e)
+protocol_if p seen e ms =
+    and_then_any (IsAssetProtocol seen e) (stated_protocol p ms) _
+    (λ own. unless_if (IsAssetProtocol seen e) (is_protocol_barred seen e own) _ _
+    (λ alike. unless_if (IsAssetProtocol seen e) (is_site_full seen e own) _ _
+    (λ few. record { same = protocols_by seen e own alike; room = leb-false (most_at_site own) (count_at seen e) few })))
+
+record IsAssetStation (own : Protocol) (seen : List Asset) (e : Endpoint) (n : ℕ) : Type 0 where
+  range : IsNaturalIn (lowest_station own) (highest_station own) n
+  apart : All (λ a. a.endpoint ≡ e → a.station ≢ n) seen
+
+station_if : (own : Protocol) (p : Place) (seen : List Asset) (e : Endpoint) (ms : Members) → IfOk (station own p seen e ms) (IsAssetStation own seen e)
+station_if own p seen e ms =
+    and_then_if (IsNaturalIn (lowest_station own) (highest_station own)) (IsAssetStation own seen e) (number_at key.Station (lowest_station own) (highest_station own) p ms) _
+    (number_at_if key.Station (lowest_station own) (highest_station own) p ms)
+    (λ n range. unless_if (IsAssetStation own seen e) (is_station_taken seen e n) _ _
+    (λ free. record { range = range; apart = stations_by seen e n free }))
 
 no_master_if : (p : Place) (ms : Members) → IfOk (no_master p ms) (λ n. n ≤ 0)
 no_master_if p ms = unless_if (λ n. n ≤ 0) (is_some (stated key.Master ms)) _ _ (λ _. omega arith)
@@ -322,23 +329,22 @@ master_if Dnp3 p ms =
     IfOk-weaker (number_at key.Master 0 65519 p ms) (IsNaturalIn 0 65519) (λ n. n ≤ 65519) (λ n h. h.below) (number_at_if key.Master 0 65519 p ms)
 master_if Iec104 p ms = no_master_if p ms
 
--- two assets have different names and endpoints
+-- two assets have different names, and are of one site where they have one endpoint
 abbrev AreApart : Asset → Asset → Type 0
-AreApart a b = (a.name ≢ b.name) × (a.endpoint ≢ b.endpoint)
+AreApart a b = (a.name ≢ b.name) × MayShare a b
 
 abbrev IsNextAsset : List Asset → Asset → Type 0
-IsNextAsset = IsNext IsAssetWithin AreApart (λ seen. Unit {0})
+IsNextAsset = IsNext IsAssetWithin AreApart AreSites
 
 asset_if : (named : Named) → All IsSetWithin named.sets → (n : ℕ) (seen : List Asset) (ms : Members) → IfOk (asset named n seen ms) (IsNextAsset seen)
 asset_if named kept n seen ms =
     let p = at_asset n in
     unless_if (IsNextAsset seen) (has_other asset_keys ms) _ _
     (λ _. and_then_if (IsAssetName seen) (IsNextAsset seen) (asset_name p seen ms) _ (asset_name_if p seen ms)
-    (λ own_name na. and_then_if (IsAssetEndpoint seen) (IsNextAsset seen) (endpoint p seen ms) _ (endpoint_if p seen ms)
-    (λ own_endpoint en. and_then_any (IsNextAsset seen) (protocol p ms) _
-    (λ own_protocol. and_then_if (IsNaturalIn (lowest_station own_protocol) (highest_station own_protocol)) (IsNextAsset seen)
-    (number_at key.Station (lowest_station own_protocol) (highest_station own_protocol) p ms) _
-    (number_at_if key.Station (lowest_station own_protocol) (highest_station own_protocol) p ms)
+    (λ own_name na. and_then_if (IsAssetEndpoint seen) (IsNextAsset seen) (endpoint named.edition p seen ms) _ (endpoint_if named.edition p seen ms)
+    (λ own_endpoint en. and_then_if (IsAssetProtocol seen own_endpoint) (IsNextAsset seen) (protocol p seen own_endpoint ms) _ (protocol_if p seen own_endpoint ms)
+    (λ own_protocol pr. and_then_if (IsAssetStation own_protocol seen own_endpoint) (IsNextAsset seen) (station own_protocol p seen own_endpoint ms) _
+    (station_if own_protocol p seen own_endpoint ms)
     (λ own_station st. and_then_if (λ n. n ≤ highest_master own_protocol) (IsNextAsset seen) (master own_protocol p ms) _ (master_if own_protocol p ms)
     (λ own_master ma. and_then_if AreRulesWithin (IsNextAsset seen) (rules named own_protocol n ms) _ (rules_if named kept own_protocol n ms)
     (λ own_rules ru. record {
@@ -347,13 +353,13 @@ asset_if named kept n seen ms =
         address = let fit = en.address in omega arith;
         some_port = en.port.above;
         port = let below = en.port.below in omega arith;
-        station_above = st.above;
-        station_below = st.below;
+        station_above = st.range.above;
+        station_below = st.range.below;
         master = ma;
         rules = ru;
       };
-      apart = λ i d lt. (na.apart i d lt, en.apart i d lt);
-      also = λ h. tt;
+      apart = λ i d lt. (na.apart i d lt, λ is. (pr.same i d lt is, st.apart i d lt is));
+      also = λ h. sites_more seen _ h en.joins pr.same pr.room;
     })))))))
 
 -- ---- documents
@@ -370,13 +376,15 @@ document_if ms =
     (λ own_edition. unless_if IsWithin (has_other (document_keys own_edition) ms) _ _
     (λ _. and_then_if (All IsSetWithin) IsWithin (sets ms) _ (sets_if ms)
     (λ own_sets kept. let named : Named = record { edition = own_edition; sets = own_sets } in and_then_if (λ ds. count ds ≤ 256) IsWithin (asset_items ms) _ (asset_items_if ms)
-    (λ ds short. and_then_if (AreRead (0 + count ds) IsAssetWithin AreApart (λ seen. Unit {0})) IsWithin (assets_from named 0 ds []) _
-    (tables_from_if IsAssetWithin AreApart (λ seen. Unit {0}) key.Asset at_document (asset named) (asset_if named kept) 0 ds [] (none_read IsAssetWithin AreApart (λ seen. Unit {0}) tt))
+    (λ ds short. and_then_if (AreRead (0 + count ds) IsAssetWithin AreApart AreSites) IsWithin (assets_from named 0 ds []) _
+    (tables_from_if IsAssetWithin AreApart AreSites key.Asset at_document (asset named) (asset_if named kept) 0 ds [] (none_read IsAssetWithin AreApart AreSites no_sites))
     (λ xs h. record {
       count = let long = h.count in omega arith;
       each = h.each;
       names = λ i j d lt inside. (h.apart i j d lt inside).0;
-      endpoints = λ i j d lt inside. (h.apart i j d lt inside).1;
+      shared = λ i j d lt inside. (h.apart i j d lt inside).1;
+      together = h.also.together;
+      few = h.also.few;
     })))))
 
 meaning_if : (bytes : List ℕ) → IfOk (text_meaning bytes) IsWithin

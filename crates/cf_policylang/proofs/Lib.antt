@@ -1,4 +1,5 @@
 mod AddressesBack
+mod Alone
 mod AssetsBack
 mod Called
 mod Depths
@@ -16,6 +17,8 @@ mod ReadBack
 mod RulesBack
 mod SetsBack
 mod SetsKept
+mod SitesBack
+mod SitesKept
 mod Stated
 mod Tables
 mod Texts

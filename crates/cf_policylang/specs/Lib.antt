@@ -2,6 +2,7 @@ pub mod Assets
 pub mod Documents
 pub mod Fields
 pub mod Keys
+pub mod Laws
 pub mod Lists
 pub mod Logs
 pub mod Migrating
@@ -11,5 +12,6 @@ pub mod Numbers
 pub mod Rates
 pub mod Rules
 pub mod Sets
+pub mod Sites
 pub mod Spelling
 pub mod Tested

@@ -1,10 +1,11 @@
 -- Steps of the proof: a policy as a document of version 2, or 3: `migrated`.
-use Rattle.std.specs.Prelude.{ℕ, pos, Bool, true, false, not, ◌&&◌, nat_lt, if◌then◌else◌, List, [], ◌∷◌, ◌++◌, length, map, flat_map}
+use Rattle.std.specs.Prelude.{ℕ, pos, Bool, true, false, not, ◌&&◌, ◌||◌, nat_lt, if◌then◌else◌, List, [], ◌∷◌, ◌++◌, length, map, flat_map}
 use Rattle.std.specs.List.{list_any}
 use Rattle.toml.specs.Data.{integer, array, Items, Members, no_members}
 use Rattle.cf_policy.specs.declared.policy.Asset.{Asset}
 use Rattle.cf_policy.specs.declared.policy.Policy.{Policy}
 use Rattle.cf_policy.specs.declared.policy.Span.{Span}
+use Rattle.cf_policy.specs.AtEndpoint.{has_asset_at}
 use Rattle.cf_policy.specs.Verdict.{is_empty}
 use Rattle.cf_policylang.specs.declared.refusal.Key.TheVariants as key
 use Rattle.cf_policylang.specs.declared.sets.TheConstants.{MOST_SETS}
@@ -34,9 +35,18 @@ sets_behind seen (points ∷ later) = sets_behind (with_set seen points later) l
 abbrev pub set_lists : Policy → List (List Span)
 set_lists policy = sets_behind [] (all_points policy.assets)
 
--- a policy that version 3 alone can state: what some rule admits is written to the log
+-- what some rule admits is written to the log
+abbrev pub has_log : List Asset → Bool
+has_log assets = list_any (λ a. list_any (λ r. r.log) a.rules) assets
+
+-- two assets have one endpoint
+abbrev pub has_site : List Asset → Bool
+has_site [] = false
+has_site (asset ∷ assets) = has_asset_at assets asset.endpoint || has_site assets
+
+-- a policy that version 3 alone can state
 abbrev pub needs_third : List Asset → Bool
-needs_third assets = list_any (λ a. list_any (λ r. r.log) a.rules) assets
+needs_third assets = has_log assets || has_site assets
 
 -- the version of the document
 abbrev pub version_for : (third : Bool) → ℕ

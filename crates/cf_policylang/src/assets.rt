@@ -3,18 +3,19 @@ ghost use Rattle.std.specs.Prelude.{◌≡◌, ◌≤◌, [], vec_len};
 ghost use Rattle.toml.specs.View.{table_view, array_view};
 ghost use Rattle.cf_policy.specs.Within.{lowest_station, highest_station, most_assets};
 ghost use Rattle.cf_policylang.specs.Tested.{Answers, AnswersPlainly};
-ghost use Rattle.cf_policylang.specs.Assets.{is_asset_taken, asset_name, asset_address, number_at, is_endpoint_taken};
-ghost use Rattle.cf_policylang.specs.Assets.{endpoint, protocol_of, protocol, no_master, master, asset, assets_from};
+ghost use Rattle.cf_policylang.specs.Assets.{is_asset_taken, asset_name, asset_address, number_at, endpoint};
+ghost use Rattle.cf_policylang.specs.Assets.{protocol_of, stated_protocol, protocol, station, no_master, master, asset, assets_from};
 
 use crate::fields::{as_number, as_table, as_text, has_other, name, number_in, required, stated};
 use crate::numbers::address;
 use crate::refusal::{Cause, Key, Place, PolicyFault, PolicyRefusal, refusal};
 use crate::rules::rules;
-use crate::sets::Named;
+use crate::sets::{Edition, Named};
+use crate::sites::{is_endpoint_barred, is_protocol_barred, is_site_full, is_station_taken};
 use cf_policy::{
     Asset, HIGHEST_COMMON_ADDRESS, HIGHEST_LINK_ADDRESS, HIGHEST_UNIT, Items, Name, Protocol,
 };
-use cf_view::{Endpoint, same_endpoint};
+use cf_view::Endpoint;
 use std::alloc::Global;
 use toml::Table;
 use toml::value::Array;
@@ -62,9 +63,9 @@ fn asset(
         return Err(refusal(Cause::UnknownKey, Key::Nothing, place).into());
     }
     let name = asset_name(place, earlier, table)?;
-    let endpoint = endpoint(place, earlier, table)?;
-    let protocol = protocol(place, table)?;
-    let station = station(protocol, place, table)?;
+    let endpoint = endpoint(named.edition, place, earlier, table)?;
+    let protocol = protocol(place, earlier, endpoint, table)?;
+    let station = station(protocol, place, earlier, endpoint, table)?;
     let master = master(protocol, place, table)?;
     let rules = rules(alloc, named, protocol, number, table)?;
     Ok(Asset {
@@ -99,13 +100,18 @@ fn is_asset_taken(earlier: &[Asset], text: &str) -> bool
 }
 
 /// The endpoint: its address, and then its port, at which the two together are tested.
-fn endpoint(place: Place, earlier: &[Asset], table: &Table) -> Result<Endpoint, PolicyRefusal>
-    ensures { result ≡ endpoint place earlier.now (table_view table.now) }
+fn endpoint(
+    edition: Edition,
+    place: Place,
+    earlier: &[Asset],
+    table: &Table,
+) -> Result<Endpoint, PolicyRefusal>
+    ensures { result ≡ endpoint edition place earlier.now (table_view table.now) }
 {
     let address = asset_address(place, table)?;
     let port = number_at(Key::Port, 1, u16::MAX, place, table)?;
     let endpoint = Endpoint { address, port };
-    if is_endpoint_taken(earlier, endpoint) {
+    if is_endpoint_barred(edition, earlier, endpoint) {
         return Err(refusal(Cause::Duplicate, Key::Port, place));
     }
     Ok(endpoint)
@@ -132,19 +138,27 @@ fn number_at(
     number_in(low, high, number).ok_or(refusal(Cause::BadRange, key, place))
 }
 
-fn is_endpoint_taken(earlier: &[Asset], endpoint: Endpoint) -> bool
-    ensures { result ≡ is_endpoint_taken earlier.now endpoint }
+/// The protocol, which is that of the site that the asset joins, where this has room for one more.
+fn protocol(
+    place: Place,
+    earlier: &[Asset],
+    endpoint: Endpoint,
+    table: &Table,
+) -> Result<Protocol, PolicyRefusal>
+    ensures { result ≡ protocol place earlier.now endpoint (table_view table.now) }
 {
-    for asset in earlier {
-        if same_endpoint(&asset.endpoint, &endpoint) {
-            return true;
-        }
+    let protocol = stated_protocol(place, table)?;
+    if is_protocol_barred(earlier, endpoint, protocol) {
+        return Err(refusal(Cause::Duplicate, Key::Protocol, place));
     }
-    false
+    if is_site_full(earlier, endpoint, protocol) {
+        return Err(refusal(Cause::TooMany, Key::Protocol, place));
+    }
+    Ok(protocol)
 }
 
-fn protocol(place: Place, table: &Table) -> Result<Protocol, PolicyRefusal>
-    ensures { result ≡ protocol place (table_view table.now) }
+fn stated_protocol(place: Place, table: &Table) -> Result<Protocol, PolicyRefusal>
+    ensures { result ≡ stated_protocol place (table_view table.now) }
 {
     let text = as_text(Key::Protocol, place, required(Key::Protocol, place, table)?)?;
     protocol_of(text).ok_or(refusal(Cause::BadRange, Key::Protocol, place))
@@ -161,7 +175,24 @@ fn protocol_of(text: &str) -> Option<Protocol>
     }
 }
 
-fn station(protocol: Protocol, place: Place, table: &Table) -> Result<u16, PolicyRefusal>
+/// The station, which no asset of the site that the asset joins has.
+fn station(
+    protocol: Protocol,
+    place: Place,
+    earlier: &[Asset],
+    endpoint: Endpoint,
+    table: &Table,
+) -> Result<u16, PolicyRefusal>
+    ensures { result ≡ station protocol place earlier.now endpoint (table_view table.now) }
+{
+    let station = stated_station(protocol, place, table)?;
+    if is_station_taken(earlier, endpoint, station) {
+        return Err(refusal(Cause::Duplicate, Key::Station, place));
+    }
+    Ok(station)
+}
+
+fn stated_station(protocol: Protocol, place: Place, table: &Table) -> Result<u16, PolicyRefusal>
     ensures { result ≡ number_at Key.Station (lowest_station protocol) (highest_station protocol) place (table_view table.now) }
 {
     let (low, high) = match protocol {

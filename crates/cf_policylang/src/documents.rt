@@ -27,7 +27,7 @@ const LATER_KEYS: [Key; 3] = [Key::Version, Key::Asset, Key::Set];
 ///
 /// The answer is exactly the text's meaning, or exactly the first refusal in the order of the tests; only want of
 /// memory comes besides. The whole text is tested first, then the document's keys, then each asset with its rules.
-/// A policy that is read has its names and endpoints apart and every number in its range.
+/// A policy that is read has its names apart, its assets of one endpoint as a site, and every number in its range.
 pub fn read_policy(alloc: Global, bytes: &[u8]) -> Result<Policy, PolicyFault>
     ensures meaning { Answers (λ p. p) (policy_meaning bytes.now) result }
     ensures within { IfOk result (λ p. IsWithin p) }

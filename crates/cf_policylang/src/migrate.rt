@@ -7,13 +7,15 @@ ghost use Rattle.cf_policy.specs.declared.policy.Policy.{Policy};
 ghost use Rattle.cf_policy.specs.Within.{IsWithin, IsAssetWithin};
 ghost use Rattle.cf_policylang.specs.declared.sets.TheConstants.{MOST_SETS};
 ghost use Rattle.cf_policylang.specs.Documents.{text_meaning};
-ghost use Rattle.cf_policylang.specs.Migrating.{all_points, gets_set, has_list, later_document, migrated, needs_third, sets_behind};
+ghost use Rattle.cf_policylang.specs.Migrating.{all_points, gets_set, has_list, has_log, has_site, later_document, migrated};
+ghost use Rattle.cf_policylang.specs.Migrating.{needs_third, sets_behind};
 ghost use Rattle.cf_policylang.specs.Migrating.{version_for, with_set};
 ghost use Rattle.cf_policylang.specs.Spelling.{asset_tables, set_tables};
 
 use crate::printing::document_text;
 use crate::refusal::Key;
 use crate::sets::MOST_SETS;
+use crate::sites::has_asset_at;
 use crate::spelling::{are_same, asset_table, insert, insert_list, set_table};
 use cf_policy::{Asset, Items, Policy, Rule, Span};
 use cf_view::NoMemory;
@@ -63,15 +65,17 @@ fn printed(alloc: Global, third: bool, sets: Array, assets: Array) -> Result<Str
 fn needs_third(assets: &[Asset]) -> bool
     ensures { result ≡ needs_third assets.now }
 {
-    for asset in assets {
-        if has_log(asset.rules.as_slice()) {
-            return true;
-        }
-    }
-    false
+    has_log(assets) || has_site(assets)
 }
 
-fn has_log(rules: &[Rule]) -> bool
+/// Whether what some rule admits is written to the log.
+fn has_log(assets: &[Asset]) -> bool
+    ensures { result ≡ has_log assets.now }
+{
+    assets.iter().any(|asset| some_logs(asset.rules.as_slice()))
+}
+
+fn some_logs(rules: &[Rule]) -> bool
     ensures { result ≡ list_any (λ r. r.log) rules.now }
 {
     for rule in rules {
@@ -80,6 +84,16 @@ fn has_log(rules: &[Rule]) -> bool
         }
     }
     false
+}
+
+/// Whether two assets have one endpoint.
+fn has_site(assets: &[Asset]) -> bool
+    ensures { result ≡ has_site assets.now }
+{
+    match assets.split_first() {
+        Some((asset, rest)) => has_asset_at(rest, asset.endpoint) || has_site(rest),
+        None => false,
+    }
 }
 
 fn version_for(third: bool) -> i64

@@ -93,9 +93,11 @@ pub enum Cause {
     BadAddress = 5,
     /// A value outside the key's range, or an empty list.
     BadRange = 6,
-    /// A name or an endpoint that an earlier one has, or a rule's name that stands for another decider.
+    /// A name or an endpoint that an earlier one has, or a rule's name that stands for another decider. In version 3 an endpoint whose
+    /// site does not stand right before, and there another protocol than the site's, or a station that an asset of the site has.
     Duplicate = 7,
-    /// A file of more than `LONGEST_TEXT` bytes, or more than `MOST_SETS` sets, `MOST_ASSETS` assets, `MOST_RULES` rules of an
+    /// A file of more than `LONGEST_TEXT` bytes, or more than `MOST_SETS` sets, `MOST_ASSETS` assets, `MOST_AT_SITE` of them at one
+    /// endpoint (of DNP3 `MOST_DNP3_AT_SITE`), `MOST_RULES` rules of an
     /// asset, `MOST_RATED` of them with a rate, `MOST_SPANS` entries of a list, or as many spans of a rule's points.
     TooMany = 8,
     /// A version other than 1, 2 and 3.

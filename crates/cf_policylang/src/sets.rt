@@ -30,7 +30,7 @@ pub(crate) enum Edition {
     First,
     /// Version 2, in which a rule's points may name sets.
     Second,
-    /// Version 3, in which a rule may have a log, and codes and groups have names besides.
+    /// Version 3, in which a rule may have a log, codes and groups have names besides, and assets of one endpoint are a site.
     Third,
 }
 

@@ -5,7 +5,7 @@ use Rattle.std.specs.Result.{IsErrAnd}
 use Rattle.cf_driver.proofs.Limits.{limit_none}
 use Rattle.cf_driver.specs.declared.heard.Heard.{Heard}
 use Rattle.cf_lane.specs.Follows.{rest_of}
-use Rattle.cf_lane.specs.Handled.{IsLaneOf, LaneValue, WritesLog, debt, state}
+use Rattle.cf_lane.specs.Handled.{IsLaneOf, LaneValue, WritesLog, debt, debt_limit, state}
 use Rattle.cf_lane.specs.Laws.{QuietBehindEnd, StreamsGoOn}
 use Rattle.cf_lane.specs.Limit.{limit_by}
 use Rattle.cf_lane.specs.Output.{other}
@@ -16,7 +16,7 @@ use Rattle.cf_outq.specs.SendQueue.{IsQueue, Queue, queue_length}
 use Rattle.cf_outside.specs.Desk.{DeskValue}
 use Rattle.cf_outside.specs.Faults.{HasCause}
 use Rattle.cf_outside.specs.Pair.{FaultsBy}
-use Rattle.cf_policy.specs.declared.Asset.{Asset}
+use Rattle.cf_policy.specs.Site.{SiteValue}
 use Rattle.cf_view.specs.declared.Side.{Side}
 use Rattle.cf_view.specs.declared.Side.TheVariants as side
 use Rattle.cf_relay.proofs.Asking.{limit_goes, take_state_of, take_stops}
@@ -51,32 +51,32 @@ takes_side s old lane c k heard n = record {
   closed = by_side (λ t. is_closed t (taken_of s old lane c k heard n) ≡ is_closed t (relaying_value old)) refl refl;
 }
 
-module _ (law : StreamsGoOn) (quiet : QuietBehindEnd) (dirs : Directions) (asset : Asset) (most : ℕ) (s : Side) (old new : RelayingValue) (links links' : LinkValue) (desk desk' : DeskValue) (few : old.idle < most) (to : TakesTo s old new)
+module _ (law : StreamsGoOn) (quiet : QuietBehindEnd) (dirs : Directions) (site : SiteValue) (most : ℕ) (s : Side) (old new : RelayingValue) (links links' : LinkValue) (desk desk' : DeskValue) (few : old.idle < most) (to : TakesTo s old new)
     (idles : (start : ℕ) → RoseBy old.idle start links.idles → RoseBy new.idle start links'.idles) (log : WritesLog desk desk')
     (r : Result (Unit {0}) Stop) (link : FaultsBy links.faults links'.faults (r ≡ Err stop.Link)) (write : HasCause desk.faults desk'.faults (r ≡ Err stop.Write)) where
-  ask_breaks : (why : Stop) → r ≡ Err why → TakesBy dirs asset old.moment most s (take_state_of s old desk.lines links.told) (take_state_of s new desk'.lines links'.told) desk' (Err why) →
-      StopsBetween asset most (Taking dirs s ∷ []) why (scene old links desk) (scene new links' desk')
+  ask_breaks : (why : Stop) → r ≡ Err why → TakesBy dirs site old.moment most s (take_state_of s old desk.lines links.told) (take_state_of s new desk'.lines links'.told) desk' (Err why) →
+      StopsBetween site most (Taking dirs s ∷ []) why (scene old links desk) (scene new links' desk')
   ask_breaks why was takes =
-      take_stops law quiet dirs asset most s old new links links' desk desk' few to link.later idles log why takes
+      take_stops law quiet dirs site most s old new links links' desk desk' few to link.later idles log why takes
       (stop_cause why (scene old links desk) (scene new links' desk') (faults_of links.faults links'.faults r why was link) (λ is. write.rose (was ∙ ap Err is)))
 
-  asks : (x : Unit {0}) → r ≡ Ok x → (full : Result (Unit {0}) Stop) → TakesBy dirs asset old.moment most s (take_state_of s old desk.lines links.told) (take_state_of s new desk'.lines links'.told) desk' (Ok x) →
+  asks : (x : Unit {0}) → r ≡ Ok x → (full : Result (Unit {0}) Stop) → TakesBy dirs site old.moment most s (take_state_of s old desk.lines links.told) (take_state_of s new desk'.lines links'.told) desk' (Ok x) →
       IsShort old → LimitBy new.client_letters new.controller_letters (queue_length new.to_client) (queue_length new.to_controller) full →
-      OnOk full (DoesBetween asset most (Taking dirs s ∷ []) (scene old links desk) (scene new links' desk')) × IfErr full (λ why. StopsBetween asset most (Taking dirs s ∷ []) why (scene old links desk) (scene new links' desk'))
-  asks x was full takes short limit = limit_goes law quiet dirs asset most s old new links links' desk desk' few to link.later idles log (no_fault links.faults links'.faults r x was link) x full takes (short_none old short) limit
+      OnOk full (DoesBetween site most (Taking dirs s ∷ []) (scene old links desk) (scene new links' desk')) × IfErr full (λ why. StopsBetween site most (Taking dirs s ∷ []) why (scene old links desk) (scene new links' desk'))
+  asks x was full takes short limit = limit_goes law quiet dirs site most s old new links links' desk desk' few to link.later idles log (no_fault links.faults links'.faults r x was link) x full takes (short_none old short) limit
 
-asked : (dirs : Directions) (asset : Asset) (most : ℕ) (s : Side) (old new : RelayingValue) (log log' : Option (List (List ℕ))) (told told' : SessionTold) (desk : DeskValue) → old.idle < most → TakesTo s old new → (x : Unit {0}) (full : Result (Unit {0}) Stop) →
-    TakesBy dirs asset old.moment most s (take_state_of s old log told) (take_state_of s new log' told') desk (Ok x) → OnOk full (AsksOrRests dirs s most old new)
-asked dirs asset most s old new log log' told told' desk few to x (Ok y) takes = ask_moves dirs asset most s old new log log' told told' desk few to x takes
-asked dirs asset most s old new log log' told told' desk few to x (Err e) takes = tt
+asked : (dirs : Directions) (site : SiteValue) (most : ℕ) (s : Side) (old new : RelayingValue) (log log' : Option (List (List ℕ))) (told told' : SessionTold) (desk : DeskValue) → old.idle < most → TakesTo s old new → (x : Unit {0}) (full : Result (Unit {0}) Stop) →
+    TakesBy dirs site old.moment most s (take_state_of s old log told) (take_state_of s new log' told') desk (Ok x) → OnOk full (AsksOrRests dirs site s most old new)
+asked dirs site most s old new log log' told told' desk few to x (Ok y) takes = ask_moves dirs site most s old new log log' told told' desk few to x takes
+asked dirs site most s old new log log' told told' desk few to x (Err e) takes = tt
 
 -- ---- the calls of a side that is asked
 
 queue_fits : (q : Queue) → IsQueue q → length q.kept + q.acked ≤ queue_length q
 queue_fits q h = omega (arith, h.kept, h.acked, h.sent)
 
-pub heard_within : (asset : Asset) (most : ℕ) (s : Side) (old : Relaying) (heard : Heard) → IsSound asset most (relaying_value old) → heard ≡ of_side s old.from → (length heard.rest.items < 300) × (heard.letters < LETTER_LIMIT)
-heard_within asset most s old heard sound lent = (
+pub heard_within : (site : SiteValue) (most : ℕ) (s : Side) (old : Relaying) (heard : Heard) → IsSound site most (relaying_value old) → heard ≡ of_side s old.from → (length heard.rest.items < 300) × (heard.letters < LETTER_LIMIT)
+heard_within site most s old heard sound lent = (
   subst (λ (h : Heard). length h.rest.items < 300) (sym lent) (of_each (λ (h : Heard). length h.rest.items < 300) s old.from sound.client_rest sound.controller_rest),
   subst (λ (h : Heard). h.letters < LETTER_LIMIT) (sym lent) (of_each (λ (h : Heard). h.letters < LETTER_LIMIT) s old.from sound.short.client sound.short.controller),
 )
@@ -88,53 +88,53 @@ counts_with side.Client from h before after brought was now letters = omega (ari
 counts_with side.Controller from h before after brought was now letters = omega (arith, was, now, letters)
 
 -- what the calls of a side that is asked come to
-pub record Asked (dirs : Directions) (asset : Asset) (most : ℕ) (s : Side) (r : Result (Unit {0}) Stop) (old : Relaying) (new : RelayingValue) (links links' : LinkValue) (desk desk' : DeskValue) : Type 0 where
-  pub goes : OnOk r (DoesBetween asset most (Taking dirs s ∷ []) (scene (relaying_value old) links desk) (scene new links' desk'))
-  pub stops : IfErr r (λ why. StopsBetween asset most (Taking dirs s ∷ []) why (scene (relaying_value old) links desk) (scene new links' desk'))
-  pub sound : OnOk r (IsSound asset most new)
-  pub moves : OnOk r (AsksOrRests dirs s most (relaying_value old) new)
+pub record Asked (dirs : Directions) (site : SiteValue) (most : ℕ) (s : Side) (r : Result (Unit {0}) Stop) (old : Relaying) (new : RelayingValue) (links links' : LinkValue) (desk desk' : DeskValue) : Type 0 where
+  pub goes : OnOk r (DoesBetween site most (Taking dirs s ∷ []) (scene (relaying_value old) links desk) (scene new links' desk'))
+  pub stops : IfErr r (λ why. StopsBetween site most (Taking dirs s ∷ []) why (scene (relaying_value old) links desk) (scene new links' desk'))
+  pub sound : OnOk r (IsSound site most new)
+  pub moves : OnOk r (AsksOrRests dirs site s most (relaying_value old) new)
 
-module _ (law : StreamsGoOn) (quiet : QuietBehindEnd) (dirs : Directions) (asset : Asset) (most : ℕ) (s : Side) (old : Relaying) (heard heard' : Heard) (lane : LaneValue) (c k : Queue) (idle' : ℕ) (links links' : LinkValue) (desk desk' : DeskValue)
-    (sound : IsSound asset most (relaying_value old)) (lent : heard ≡ of_side s old.from)
+module _ (law : StreamsGoOn) (quiet : QuietBehindEnd) (dirs : Directions) (site : SiteValue) (most : ℕ) (s : Side) (old : Relaying) (heard heard' : Heard) (lane : LaneValue) (c k : Queue) (idle' : ℕ) (links links' : LinkValue) (desk desk' : DeskValue)
+    (sound : IsSound site most (relaying_value old)) (lent : heard ≡ of_side s old.from)
     (idles : (start : ℕ) → RoseBy old.idle start links.idles → RoseBy idle' start links'.idles) (log : WritesLog desk desk') (r : Result (Unit {0}) Stop)
     (link : FaultsBy links.faults links'.faults (r ≡ Err stop.Link)) (write : HasCause desk.faults desk'.faults (r ≡ Err stop.Write)) where
   abbrev Takes : Result (Unit {0}) Stop → Type 0
-  Takes r = TakesBy dirs asset old.moment most s (take_state (state old.lane old.to.client old.to.controller desk.lines) heard.rest.items heard.letters old.idle links.told)
+  Takes r = TakesBy dirs site old.moment most s (take_state (state old.lane old.to.client old.to.controller desk.lines) heard.rest.items heard.letters old.idle links.told)
       (take_state (state lane c k desk'.lines) heard'.rest.items heard'.letters idle' links'.told) desk' r
 
-  takes_at : (r : Result (Unit {0}) Stop) → Takes r → TakesBy dirs asset old.moment most s (take_state_of s (relaying_value old) desk.lines links.told)
+  takes_at : (r : Result (Unit {0}) Stop) → Takes r → TakesBy dirs site old.moment most s (take_state_of s (relaying_value old) desk.lines links.told)
       (take_state_of s (taken_of s old lane c k heard' idle') desk'.lines links'.told) desk' r
   takes_at r takes =
-      subst (λ x. TakesBy dirs asset old.moment most s x (take_state_of s (taken_of s old lane c k heard' idle') desk'.lines links'.told) desk' r)
+      subst (λ x. TakesBy dirs site old.moment most s x (take_state_of s (taken_of s old lane c k heard' idle') desk'.lines links'.told) desk' r)
       (ap (λ (h : Heard). take_state (state old.lane old.to.client old.to.controller desk.lines) h.rest.items h.letters old.idle links.told) lent
       ∙ by_side (λ s. take_state (state old.lane old.to.client old.to.controller desk.lines) (of_side s old.from).rest.items (of_side s old.from).letters old.idle links.told
       ≡ take_state_of s (relaying_value old) desk.lines links.told) refl refl s)
-      (subst (λ x. TakesBy dirs asset old.moment most s (take_state (state old.lane old.to.client old.to.controller desk.lines) heard.rest.items heard.letters old.idle links.told) x desk' r)
+      (subst (λ x. TakesBy dirs site old.moment most s (take_state (state old.lane old.to.client old.to.controller desk.lines) heard.rest.items heard.letters old.idle links.told) x desk' r)
       (by_side (λ s. take_state (state lane c k desk'.lines) heard'.rest.items heard'.letters idle' links'.told ≡ take_state_of s (taken_of s old lane c k heard' idle') desk'.lines links'.told) refl refl s) takes)
 
   -- what a `?` hands on
   pub take_broke : {T : Type 0} (answer : Result T Stop) (why : Stop) → IsErrAnd answer (λ e. e ≡ why) → r ≡ Err why → Takes (Err why) →
-      IfErr answer (λ e. StopsBetween asset most (Taking dirs s ∷ []) e (scene (relaying_value old) links desk) (scene (taken_of s old lane c k heard' idle') links' desk'))
+      IfErr answer (λ e. StopsBetween site most (Taking dirs s ∷ []) e (scene (relaying_value old) links desk) (scene (taken_of s old lane c k heard' idle') links' desk'))
   take_broke answer why is was takes =
-      handed_on answer why (λ e. StopsBetween asset most (Taking dirs s ∷ []) e (scene (relaying_value old) links desk) (scene (taken_of s old lane c k heard' idle') links' desk')) is
-      (ask_breaks law quiet dirs asset most s (relaying_value old) (taken_of s old lane c k heard' idle') links links' desk desk' sound.few (takes_side s old lane c k heard' idle') idles log r link write why was (takes_at (Err why) takes))
+      handed_on answer why (λ e. StopsBetween site most (Taking dirs s ∷ []) e (scene (relaying_value old) links desk) (scene (taken_of s old lane c k heard' idle') links' desk')) is
+      (ask_breaks law quiet dirs site most s (relaying_value old) (taken_of s old lane c k heard' idle') links links' desk desk' sound.few (takes_side s old lane c k heard' idle') idles log r link write why was (takes_at (Err why) takes))
 
-  -- the lane stays the asset's
-  lane_broke : (why : Stop) → Takes (Err why) → KeepsLane asset lane why
-  lane_broke stop.Idle takes = subst (IsLaneOf asset) (sym (ap (λ (z : TakeState). z.state.lane) takes.2)) sound.of_asset
-  lane_broke stop.Link takes = subst (IsLaneOf asset) (sym (ap (λ (z : TakeState). z.state.lane) takes)) sound.of_asset
+  -- the lane stays the site's
+  lane_broke : (why : Stop) → Takes (Err why) → KeepsLane site lane why
+  lane_broke stop.Idle takes = subst (IsLaneOf site) (sym (ap (λ (z : TakeState). z.state.lane) takes.2)) sound.of_site
+  lane_broke stop.Link takes = subst (IsLaneOf site) (sym (ap (λ (z : TakeState). z.state.lane) takes)) sound.of_site
   lane_broke stop.Write takes = tt
-  lane_broke (stop.Cut reason) takes = takes.1.hears.of_asset
+  lane_broke (stop.Cut reason) takes = takes.1.hears.of_site
 
-  pub take_lane : {T : Type 0} (answer : Result T Stop) (why : Stop) → IsErrAnd answer (λ e. e ≡ why) → Takes (Err why) → IfErr answer (KeepsLane asset lane)
-  take_lane answer why is takes = handed_on answer why (KeepsLane asset lane) is (lane_broke why takes)
+  pub take_lane : {T : Type 0} (answer : Result T Stop) (why : Stop) → IsErrAnd answer (λ e. e ≡ why) → Takes (Err why) → IfErr answer (KeepsLane site lane)
+  take_lane answer why is takes = handed_on answer why (KeepsLane site lane) is (lane_broke why takes)
 
-  lane_went : (x : Unit {0}) → Takes (Ok x) → IsLaneOf asset lane
-  lane_went x (inl (never, same)) = subst (IsLaneOf asset) (sym (ap (λ (z : TakeState). z.state.lane) same)) sound.of_asset
-  lane_went x (inr (may, few, done)) = done.hears.of_asset
+  lane_went : (x : Unit {0}) → Takes (Ok x) → IsLaneOf site lane
+  lane_went x (inl (never, same)) = subst (IsLaneOf site) (sym (ap (λ (z : TakeState). z.state.lane) same)) sound.of_site
+  lane_went x (inr (may, few, done)) = done.hears.of_site
 
-  pub take_lane_on : (x : Unit {0}) → Takes (Ok x) → (full : Result (Unit {0}) Stop) → IfErr full (KeepsLane asset lane)
-  take_lane_on x takes full = keeps_each asset lane lane refl (lane_went x takes) full
+  pub take_lane_on : (x : Unit {0}) → Takes (Ok x) → (full : Result (Unit {0}) Stop) → IfErr full (KeepsLane site lane)
+  take_lane_on x takes full = keeps_each site lane lane refl (lane_went x takes) full
 
   module _ (x : Unit {0}) (was : r ≡ Ok x) (takes : Takes (Ok x)) (full : Result (Unit {0}) Stop) where
     counts_at : (before after brought : ℕ) → before + (length old.from.client.rest.items + length old.from.controller.rest.items) ≤ old.from.client.letters + old.from.controller.letters →
@@ -149,7 +149,7 @@ module _ (law : StreamsGoOn) (quiet : QuietBehindEnd) (dirs : Directions) (asset
     rests_at : length heard'.rest.items < 300 → (length (with_side s old.from heard').client.rest.items < 300) × (length (with_side s old.from heard').controller.rest.items < 300)
     rests_at few = with_each (λ (h : Heard). length h.rest.items < 300) s old.from heard' sound.client_rest sound.controller_rest few
 
-    sound_by : Takes (Ok x) → IsShort (taken_of s old lane c k heard' idle') → IsQueue c → IsQueue k → IsSound asset most (taken_of s old lane c k heard' idle')
+    sound_by : Takes (Ok x) → IsShort (taken_of s old lane c k heard' idle') → IsQueue c → IsQueue k → IsSound site most (taken_of s old lane c k heard' idle')
     sound_by (inl (never, same)) short qc qk =
         let l : lane ≡ old.lane = ap (λ (z : TakeState). z.state.lane) same in
         let rest : length heard'.rest.items ≡ length heard.rest.items = ap (λ (z : TakeState). length z.rest) same in
@@ -158,8 +158,8 @@ module _ (law : StreamsGoOn) (quiet : QuietBehindEnd) (dirs : Directions) (asset
         let little = of_each (λ (h : Heard). length h.rest.items < 300) s old.from sound.client_rest sound.controller_rest in
         let each = rests_at (omega (arith, rest, ap (λ (h : Heard). length h.rest.items) lent, little)) in
         record {
-          of_asset = subst (IsLaneOf asset) (sym l) sound.of_asset;
-          debt = subst (λ (v : LaneValue). debt v ≤ 5300) (sym l) sound.debt;
+          of_site = subst (IsLaneOf site) (sym l) sound.of_site;
+          debt = subst (λ (v : LaneValue). debt v ≤ debt_limit site) (sym l) sound.debt;
           short = short;
           to_client = queue_fits c qc;
           to_controller = queue_fits k qk;
@@ -171,7 +171,7 @@ module _ (law : StreamsGoOn) (quiet : QuietBehindEnd) (dirs : Directions) (asset
     sound_by (inr (may, few, done)) short qc qk =
         let each = rests_at done.hears.short in
         record {
-          of_asset = done.hears.of_asset;
+          of_site = done.hears.of_site;
           debt = done.hears.debt;
           short = short;
           to_client = queue_fits c qc;
@@ -183,13 +183,13 @@ module _ (law : StreamsGoOn) (quiet : QuietBehindEnd) (dirs : Directions) (asset
         }
 
     pub taken : LimitBy (with_side s old.from heard').client.letters (with_side s old.from heard').controller.letters (queue_length c) (queue_length k) full → OnOk full (IsShort (taken_of s old lane c k heard' idle')) → IsQueue c → IsQueue k →
-        Asked dirs asset most s full old (taken_of s old lane c k heard' idle') links links' desk desk'
+        Asked dirs site most s full old (taken_of s old lane c k heard' idle') links links' desk desk'
     taken limit short qc qk =
         let stage =
-        asks law quiet dirs asset most s (relaying_value old) (taken_of s old lane c k heard' idle') links links' desk desk' sound.few (takes_side s old lane c k heard' idle') idles log r link write x was full (takes_at (Ok x) takes) sound.short limit in
+        asks law quiet dirs site most s (relaying_value old) (taken_of s old lane c k heard' idle') links links' desk desk' sound.few (takes_side s old lane c k heard' idle') idles log r link write x was full (takes_at (Ok x) takes) sound.short limit in
         record {
           goes = stage.0;
           stops = stage.1;
-          sound = on_ok full (IsShort (taken_of s old lane c k heard' idle')) (IsSound asset most (taken_of s old lane c k heard' idle')) (λ small. sound_by takes small qc qk) short;
-          moves = asked dirs asset most s (relaying_value old) (taken_of s old lane c k heard' idle') desk.lines desk'.lines links.told links'.told desk' sound.few (takes_side s old lane c k heard' idle') x full (takes_at (Ok x) takes);
+          sound = on_ok full (IsShort (taken_of s old lane c k heard' idle')) (IsSound site most (taken_of s old lane c k heard' idle')) (λ small. sound_by takes small qc qk) short;
+          moves = asked dirs site most s (relaying_value old) (taken_of s old lane c k heard' idle') desk.lines desk'.lines links.told links'.told desk' sound.few (takes_side s old lane c k heard' idle') x full (takes_at (Ok x) takes);
         }

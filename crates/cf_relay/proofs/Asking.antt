@@ -16,7 +16,7 @@ use Rattle.cf_links.specs.Links.{SessionTold, with_answers}
 use Rattle.cf_outq.specs.SendQueue.{queue_length}
 use Rattle.cf_outside.specs.Desk.{DeskValue}
 use Rattle.cf_outside.specs.Pair.{Entry, Idle}
-use Rattle.cf_policy.specs.declared.Asset.{Asset}
+use Rattle.cf_policy.specs.Site.{SiteValue}
 use Rattle.cf_view.specs.declared.Side.{Side}
 use Rattle.cf_view.specs.declared.Side.TheVariants as side
 use Rattle.cf_relay.proofs.Doing.{IsQuiet, by_own, by_side, quiet_idle, quiet_none, silent_kept}
@@ -65,64 +65,64 @@ none_some x reason none is = cc
 
 -- ---- a side was asked, or passed over, and what followed
 
-module _ (law : StreamsGoOn) (quiet : QuietBehindEnd) (dirs : Directions) (asset : Asset) (most : ℕ) (s : Side) (old new : RelayingValue) (links links' : LinkValue) (desk desk' : DeskValue) (few : old.idle < most) (to : TakesTo s old new)
+module _ (law : StreamsGoOn) (quiet : QuietBehindEnd) (dirs : Directions) (site : SiteValue) (most : ℕ) (s : Side) (old new : RelayingValue) (links links' : LinkValue) (desk desk' : DeskValue) (few : old.idle < most) (to : TakesTo s old new)
     (later : links.faults ≤ links'.faults) (idles : (start : ℕ) → RoseBy old.idle start links.idles → RoseBy new.idle start links'.idles) (log : WritesLog desk desk') where
   adds_answer : (answers : List Entry) → links'.told ≡ with_answers links.told answers → AddsAnswers (scene old links desk) (scene new links' desk') answers
   adds_answer answers e = record { tells = e; link = later; idles = idles; log = log }
 
   -- passed over
-  skip_goes : links'.faults ≡ links.faults → take_state_of s new desk'.lines links'.told ≡ take_state_of s old desk.lines links.told → (MayTakeNow dirs s old.to_client old.to_controller → ⊥) →
-      DoesBetween asset most (Taking dirs s ∷ []) (scene old links desk) (scene new links' desk')
+  skip_goes : links'.faults ≡ links.faults → take_state_of s new desk'.lines links'.told ≡ take_state_of s old desk.lines links.told → (MayTakeNow dirs site s old.to_client old.to_controller → ⊥) →
+      DoesBetween site most (Taking dirs s ∷ []) (scene old links desk) (scene new links' desk')
   skip_goes still same never = record {
     answers = [];
     adds = adds_answer [] (ap (λ (x : TakeState). x.told) same ∙ with_none links.told);
     still = still;
     does = λ past first own es st. (
-      one_stage asset past most (Taking dirs s) es [] (no_take asset past most first es old own st few dirs s never),
+      one_stage site past most (Taking dirs s) es [] (no_take site past most first es old own st few dirs s never),
       apart_none own desk.lines desk'.lines _ (ap (λ (x : TakeState). x.state.lines) same)
-          (stands_silent asset past first es [] old new own own st
+          (stands_silent site past first es [] old new own own st
           (silent_asked s [] old new own own links.told links'.told links.told old.idle to quiet_none (λ t. refl) (own_same own _ _ same) refl)),
     );
   }
 
-  take_goes : links'.faults ≡ links.faults → MayTakeNow dirs s old.to_client old.to_controller → TakesAnswer asset old.moment s None (take_state_of s old desk.lines links.told) (take_state_of s new desk'.lines links'.told) →
-      limit_by LETTER_LIMIT new.client_letters new.controller_letters (queue_length new.to_client) (queue_length new.to_controller) ≡ None → DoesBetween asset most (Taking dirs s ∷ []) (scene old links desk) (scene new links' desk')
+  take_goes : links'.faults ≡ links.faults → MayTakeNow dirs site s old.to_client old.to_controller → TakesAnswer site old.moment s None (take_state_of s old desk.lines links.told) (take_state_of s new desk'.lines links'.told) →
+      limit_by LETTER_LIMIT new.client_letters new.controller_letters (queue_length new.to_client) (queue_length new.to_controller) ≡ None → DoesBetween site most (Taking dirs s ∷ []) (scene old links desk) (scene new links' desk')
   take_goes still may takes short = record {
     answers = takes.answer ∷ [];
     adds = adds_answer (takes.answer ∷ []) takes.answers.tells;
     still = still;
     does = λ past first own es st. (
-      one_stage asset past most (Taking dirs s) es (takes.answer ∷ []) (takes_stage asset past most first es old own st few dirs s takes.answer may takes.answers.is_taken),
-      left_apart law asset past first es s takes.answer takes.answers.is_taken old own desk.lines st new desk'.lines None to takes.hears _
-          (stands_heard law asset past first es s takes.answer takes.answers.is_taken old own desk.lines st new desk'.lines to (open_ended asset past most first es old own st s may.open_still)
+      one_stage site past most (Taking dirs s) es (takes.answer ∷ []) (takes_stage site past most first es old own st few dirs s takes.answer may takes.answers.is_taken),
+      left_apart law site past first es s takes.answer takes.answers.is_taken old own desk.lines st new desk'.lines None to takes.hears _
+          (stands_heard law site past first es s takes.answer takes.answers.is_taken old own desk.lines st new desk'.lines to (open_ended site past most first es old own st s may.open_still)
           takes.answers.letters takes.answers.idles takes.hears quiet short),
     );
   }
 
-  full_stops : links'.faults ≡ links.faults → MayTakeNow dirs s old.to_client old.to_controller → TakesAnswer asset old.moment s None (take_state_of s old desk.lines links.told) (take_state_of s new desk'.lines links'.told) → (reason : CutReason) →
-      limit_by LETTER_LIMIT new.client_letters new.controller_letters (queue_length new.to_client) (queue_length new.to_controller) ≡ Some reason → StopsBetween asset most (Taking dirs s ∷ []) (stop.Cut reason) (scene old links desk) (scene new links' desk')
+  full_stops : links'.faults ≡ links.faults → MayTakeNow dirs site s old.to_client old.to_controller → TakesAnswer site old.moment s None (take_state_of s old desk.lines links.told) (take_state_of s new desk'.lines links'.told) → (reason : CutReason) →
+      limit_by LETTER_LIMIT new.client_letters new.controller_letters (queue_length new.to_client) (queue_length new.to_controller) ≡ Some reason → StopsBetween site most (Taking dirs s ∷ []) (stop.Cut reason) (scene old links desk) (scene new links' desk')
   full_stops still may takes reason full = record {
     answers = takes.answer ∷ [];
     adds = adds_answer (takes.answer ∷ []) takes.answers.tells;
     cause = still;
     does = λ past first own es st. (
-      one_broken asset past most (Taking dirs s) es (takes.answer ∷ []) (takes_stage asset past most first es old own st few dirs s takes.answer may takes.answers.is_taken),
-      left_apart law asset past first es s takes.answer takes.answers.is_taken old own desk.lines st new desk'.lines None to takes.hears _
-          (stands_full law asset past first es s takes.answer takes.answers.is_taken old own desk.lines st new desk'.lines to (open_ended asset past most first es old own st s may.open_still)
+      one_broken site past most (Taking dirs s) es (takes.answer ∷ []) (takes_stage site past most first es old own st few dirs s takes.answer may takes.answers.is_taken),
+      left_apart law site past first es s takes.answer takes.answers.is_taken old own desk.lines st new desk'.lines None to takes.hears _
+          (stands_full law site past first es s takes.answer takes.answers.is_taken old own desk.lines st new desk'.lines to (open_ended site past most first es old own st s may.open_still)
           takes.answers.letters takes.answers.idles takes.hears reason full),
     );
   }
 
-  pub take_stops : (why : Stop) → TakesBy dirs asset old.moment most s (take_state_of s old desk.lines links.told) (take_state_of s new desk'.lines links'.told) desk' (Err why) →
-      StopsBy why (scene old links desk) (scene new links' desk') → StopsBetween asset most (Taking dirs s ∷ []) why (scene old links desk) (scene new links' desk')
+  pub take_stops : (why : Stop) → TakesBy dirs site old.moment most s (take_state_of s old desk.lines links.told) (take_state_of s new desk'.lines links'.told) desk' (Err why) →
+      StopsBy why (scene old links desk) (scene new links' desk') → StopsBetween site most (Taking dirs s ∷ []) why (scene old links desk) (scene new links' desk')
   take_stops stop.Idle (may, full, same) cause = record {
     answers = Idle s ∷ [];
     adds = adds_answer (Idle s ∷ []) (ap (λ (x : TakeState). x.told) same);
     cause = cause;
     does = λ past first own es st. (
-      one_broken asset past most (Taking dirs s) es (Idle s ∷ []) (takes_stage asset past most first es old own st few dirs s (Idle s) may refl),
+      one_broken site past most (Taking dirs s) es (Idle s ∷ []) (takes_stage site past most first es old own st few dirs s (Idle s) may refl),
       apart_none own desk.lines desk'.lines _ (ap (λ (x : TakeState). x.state.lines) same) (
-        stands_silent asset past first es (Idle s ∷ []) old new own own st
+        stands_silent site past first es (Idle s ∷ []) old new own own st
             (silent_asked s (Idle s ∷ []) old new own own links.told links'.told (with_answers links.told (Idle s ∷ [])) (old.idle + 1) to (quiet_idle s) (λ t. refl) (own_same own _ _ same) (omega arith)),
         full,
       ),
@@ -133,9 +133,9 @@ module _ (law : StreamsGoOn) (quiet : QuietBehindEnd) (dirs : Directions) (asset
     adds = adds_answer [] (ap (λ (x : TakeState). x.told) same ∙ with_none links.told);
     cause = cause;
     does = λ past first own es st. (
-      breaks_nothing asset past most (Taking dirs s ∷ []) es,
+      breaks_nothing site past most (Taking dirs s ∷ []) es,
       apart_none own desk.lines desk'.lines _ (ap (λ (x : TakeState). x.state.lines) same) (
-        stands_silent asset past first es [] old new own own st
+        stands_silent site past first es [] old new own own st
             (silent_asked s [] old new own own links.told links'.told links.told old.idle to quiet_none (λ t. refl) (own_same own _ _ same) refl),
         subst (λ (n : ℕ). n < most) (sym (ap (λ (x : TakeState). x.idle) same)) few,
       ),
@@ -146,8 +146,8 @@ module _ (law : StreamsGoOn) (quiet : QuietBehindEnd) (dirs : Directions) (asset
     adds = adds_answer (answer ∷ []) answers.tells;
     cause = cause;
     does = λ past first own es st. (
-      one_broken asset past most (Taking dirs s) es (answer ∷ []) (takes_stage asset past most first es old own st few dirs s answer may answers.is_taken),
-      stands_missed law asset past first es s answer answers.is_taken old own desk.lines st desk' misses,
+      one_broken site past most (Taking dirs s) es (answer ∷ []) (takes_stage site past most first es old own st few dirs s answer may answers.is_taken),
+      stands_missed law site past first es s answer answers.is_taken old own desk.lines st desk' misses,
     );
   }
   take_stops (stop.Cut reason) (may, takes) cause = record {
@@ -155,10 +155,10 @@ module _ (law : StreamsGoOn) (quiet : QuietBehindEnd) (dirs : Directions) (asset
     adds = adds_answer (takes.answer ∷ []) takes.answers.tells;
     cause = cause;
     does = λ past first own es st. (
-      one_broken asset past most (Taking dirs s) es (takes.answer ∷ []) (takes_stage asset past most first es old own st few dirs s takes.answer may takes.answers.is_taken),
-      left_apart law asset past first es s takes.answer takes.answers.is_taken old own desk.lines st new desk'.lines (Some reason) to takes.hears _
-          (stands_cut law asset past first es s takes.answer takes.answers.is_taken old own desk.lines st new desk'.lines (Some reason) to takes.hears reason
-          (λ js cuts qc qk. ap (λ c. option_or c (limit_cut LETTER_LIMIT (history_of (es ++ takes.answer ∷ [])) (stream_to asset side.Client js) (stream_to asset side.Controller js))) cuts)),
+      one_broken site past most (Taking dirs s) es (takes.answer ∷ []) (takes_stage site past most first es old own st few dirs s takes.answer may takes.answers.is_taken),
+      left_apart law site past first es s takes.answer takes.answers.is_taken old own desk.lines st new desk'.lines (Some reason) to takes.hears _
+          (stands_cut law site past first es s takes.answer takes.answers.is_taken old own desk.lines st new desk'.lines (Some reason) to takes.hears reason
+          (λ js cuts qc qk. ap (λ c. option_or c (limit_cut LETTER_LIMIT (history_of (es ++ takes.answer ∷ [])) (stream_to site side.Client js) (stream_to site side.Controller js))) cuts)),
     );
   }
 
@@ -176,10 +176,10 @@ module _ (law : StreamsGoOn) (quiet : QuietBehindEnd) (dirs : Directions) (asset
       rw (c, k, p, q) refl
 
   -- a side that was passed over leaves what it was, which was short
-  pub limit_goes : links'.faults ≡ links.faults → (x : Unit {0}) (r : Result Unit Stop) → TakesBy dirs asset old.moment most s (take_state_of s old desk.lines links.told) (take_state_of s new desk'.lines links'.told) desk' (Ok x) →
+  pub limit_goes : links'.faults ≡ links.faults → (x : Unit {0}) (r : Result Unit Stop) → TakesBy dirs site old.moment most s (take_state_of s old desk.lines links.told) (take_state_of s new desk'.lines links'.told) desk' (Ok x) →
       limit_by LETTER_LIMIT old.client_letters old.controller_letters (queue_length old.to_client) (queue_length old.to_controller) ≡ None →
       LimitBy new.client_letters new.controller_letters (queue_length new.to_client) (queue_length new.to_controller) r →
-      OnOk r (DoesBetween asset most (Taking dirs s ∷ []) (scene old links desk) (scene new links' desk')) × IfErr r (λ why. StopsBetween asset most (Taking dirs s ∷ []) why (scene old links desk) (scene new links' desk'))
+      OnOk r (DoesBetween site most (Taking dirs s ∷ []) (scene old links desk) (scene new links' desk')) × IfErr r (λ why. StopsBetween site most (Taking dirs s ∷ []) why (scene old links desk) (scene new links' desk'))
   limit_goes still x (Ok y) (inl (never, same)) short limit = (skip_goes still same never, tt)
   limit_goes still x (Ok y) (inr (may, goes, takes)) short limit = (take_goes still may takes limit, tt)
   limit_goes still x (Err stop.Idle) takes short limit = absurd limit

@@ -11,7 +11,7 @@ use Rattle.cf_outq.specs.SendQueue.{IsQueueOf, Queue}
 use Rattle.cf_outside.specs.Desk.{DeskValue}
 use Rattle.cf_outside.specs.Faults.{Rose}
 use Rattle.cf_outside.specs.Pair.{Entry, Finished, Idle, Moment, Took}
-use Rattle.cf_policy.specs.declared.Asset.{Asset}
+use Rattle.cf_policy.specs.Site.{SiteValue}
 use Rattle.cf_stream.specs.Stream.{Stream}
 use Rattle.cf_view.specs.declared.Side.{Side}
 use Rattle.cf_view.specs.declared.Side.TheVariants as side
@@ -182,54 +182,54 @@ silent_gives s old new log told told' answers is to gave stands = record {
 
 -- ---- telling
 
-pub tell_goes : (asset : Asset) (most : ℕ) (old : RelayingValue) (links links' : LinkValue) (desk : DeskValue) (m now : ℕ) → now ≡ max old.moment m → old.idle < most → (AreClosed old → ⊥) → links'.told ≡ with_entry links.told (Moment m) →
-    links.faults ≤ links'.faults → links'.faults ≡ links.faults → links'.idles ≡ links.idles → DoesBetween asset most (Telling ∷ []) (scene old links desk) (scene (record old { moment = now }) links' desk)
-tell_goes asset most old links links' desk m now is few still e later none same =
-    subst (λ n. DoesBetween asset most (Telling ∷ []) (scene old links desk) (scene (record old { moment = n }) links' desk)) (sym is) (record {
+pub tell_goes : (site : SiteValue) (most : ℕ) (old : RelayingValue) (links links' : LinkValue) (desk : DeskValue) (m now : ℕ) → now ≡ max old.moment m → old.idle < most → (AreClosed old → ⊥) → links'.told ≡ with_entry links.told (Moment m) →
+    links.faults ≤ links'.faults → links'.faults ≡ links.faults → links'.idles ≡ links.idles → DoesBetween site most (Telling ∷ []) (scene old links desk) (scene (record old { moment = now }) links' desk)
+tell_goes site most old links links' desk m now is few still e later none same =
+    subst (λ n. DoesBetween site most (Telling ∷ []) (scene old links desk) (scene (record old { moment = n }) links' desk)) (sym is) (record {
       answers = Moment m ∷ [];
       adds = record { tells = e; link = later; idles = λ start r. omega (arith, r, same); log = writes_none desk };
       still = none;
       does = λ past first own es st. (
-        one_stage asset past most Telling es (Moment m ∷ []) (tells_stage asset past most first es old own st few still m),
-        apart_none own desk.lines desk.lines _ refl (stands_silent asset past first es (Moment m ∷ []) old (record old { moment = max old.moment m }) own own st (silent_moment old own m)),
+        one_stage site past most Telling es (Moment m ∷ []) (tells_stage site past most first es old own st few still m),
+        apart_none own desk.lines desk.lines _ refl (stands_silent site past first es (Moment m ∷ []) old (record old { moment = max old.moment m }) own own st (silent_moment old own m)),
       );
     })
 
 -- nothing was done, and a call on the pair failed
-pub link_stops : (asset : Asset) (most : ℕ) (ps : List Stage) (old : RelayingValue) (links links' : LinkValue) (desk : DeskValue) → old.idle < most → links'.told ≡ links.told → Rose links.faults links'.faults →
-    links'.idles ≡ links.idles → links.faults ≤ links'.faults → StopsBetween asset most ps stop.Link (scene old links desk) (scene old links' desk)
-link_stops asset most ps old links links' desk few e rose same later = record {
+pub link_stops : (site : SiteValue) (most : ℕ) (ps : List Stage) (old : RelayingValue) (links links' : LinkValue) (desk : DeskValue) → old.idle < most → links'.told ≡ links.told → Rose links.faults links'.faults →
+    links'.idles ≡ links.idles → links.faults ≤ links'.faults → StopsBetween site most ps stop.Link (scene old links desk) (scene old links' desk)
+link_stops site most ps old links links' desk few e rose same later = record {
   answers = [];
   adds = record { tells = e ∙ with_none links.told; link = later; idles = λ start r. omega (arith, r, same); log = writes_none desk };
   cause = rose;
-  does = λ past first own es st. (breaks_nothing asset past most ps es, apart_none own desk.lines desk.lines _ refl (subst (λ (x : List Entry). StandsFor asset past first x old own) (sym (append-nil es)) st, few));
+  does = λ past first own es st. (breaks_nothing site past most ps es, apart_none own desk.lines desk.lines _ refl (subst (λ (x : List Entry). StandsFor site past first x old own) (sym (append-nil es)) st, few));
 }
 
 -- ---- giving
 
-module _ (asset : Asset) (most : ℕ) (s : Side) (old new : RelayingValue) (links links' : LinkValue) (desk : DeskValue) (few : old.idle < most) (to : GivesTo s old new)
+module _ (site : SiteValue) (most : ℕ) (s : Side) (old new : RelayingValue) (links links' : LinkValue) (desk : DeskValue) (few : old.idle < most) (to : GivesTo s old new)
     (stands : (w : Stream) → IsQueueOf (queue_to s old) w → IsQueueOf (queue_to s new) w) (later : links.faults ≤ links'.faults)
     (idles : (start : ℕ) → RoseBy old.idle start links.idles → RoseBy new.idle start links'.idles) where
-  pub give_goes : links'.faults ≡ links.faults → (x : Unit {0}) → GaveBy s most (queue_to s old) (queue_to s new) links.told links'.told old.idle new.idle (Ok x) → DoesBetween asset most (Giving s ∷ []) (scene old links desk) (scene new links' desk)
+  pub give_goes : links'.faults ≡ links.faults → (x : Unit {0}) → GaveBy s most (queue_to s old) (queue_to s new) links.told links'.told old.idle new.idle (Ok x) → DoesBetween site most (Giving s ∷ []) (scene old links desk) (scene new links' desk)
   give_goes still x (answers, gave, gives, goes) = record {
     answers = answers;
     adds = record { tells = gave.tells; link = later; idles = idles; log = writes_none desk };
     still = still;
     does = λ past first own es st. (
-      one_stage asset past most (Giving s) es answers (gives_stage asset past most first es old own st few s answers gives),
-      apart_none own desk.lines desk.lines _ refl (stands_silent asset past first es answers old new own own st (silent_gives s old new own links.told links'.told answers (giving_all s (queue_to s old).kept answers gives) to gave stands)),
+      one_stage site past most (Giving s) es answers (gives_stage site past most first es old own st few s answers gives),
+      apart_none own desk.lines desk.lines _ refl (stands_silent site past first es answers old new own own st (silent_gives s old new own links.told links'.told answers (giving_all s (queue_to s old).kept answers gives) to gave stands)),
     );
   }
 
   pub give_stops : (why : Stop) → GaveBy s most (queue_to s old) (queue_to s new) links.told links'.told old.idle new.idle (Err why) → StopsBy why (scene old links desk) (scene new links' desk) →
-      StopsBetween asset most (Giving s ∷ []) why (scene old links desk) (scene new links' desk)
+      StopsBetween site most (Giving s ∷ []) why (scene old links desk) (scene new links' desk)
   give_stops stop.Idle (answers, gave, gives, full) cause = record {
     answers = answers;
     adds = record { tells = gave.tells; link = later; idles = idles; log = writes_none desk };
     cause = cause;
     does = λ past first own es st. (
-      one_broken asset past most (Giving s) es answers (gives_stage asset past most first es old own st few s answers gives),
-      apart_none own desk.lines desk.lines _ refl (stands_silent asset past first es answers old new own own st (silent_gives s old new own links.told links'.told answers (giving_all s (queue_to s old).kept answers gives) to gave stands), full),
+      one_broken site past most (Giving s) es answers (gives_stage site past most first es old own st few s answers gives),
+      apart_none own desk.lines desk.lines _ refl (stands_silent site past first es answers old new own own st (silent_gives s old new own links.told links'.told answers (giving_all s (queue_to s old).kept answers gives) to gave stands), full),
     );
   }
   give_stops stop.Link (answers, gave, begins, goes) cause = record {
@@ -237,8 +237,8 @@ module _ (asset : Asset) (most : ℕ) (s : Side) (old new : RelayingValue) (link
     adds = record { tells = gave.tells; link = later; idles = idles; log = writes_none desk };
     cause = cause;
     does = λ past first own es st. (
-      inl (begins_stage asset past most first es old own st few s answers begins),
-      apart_none own desk.lines desk.lines _ refl (stands_silent asset past first es answers old new own own st (silent_gives s old new own links.told links'.told answers (giving_begun s (queue_to s old).kept answers begins) to gave stands), goes),
+      inl (begins_stage site past most first es old own st few s answers begins),
+      apart_none own desk.lines desk.lines _ refl (stands_silent site past first es answers old new own own st (silent_gives s old new own links.told links'.told answers (giving_begun s (queue_to s old).kept answers begins) to gave stands), goes),
     );
   }
   give_stops stop.Write gave cause = absurd gave
@@ -273,16 +273,16 @@ silent_same s old new log to closed =
     let same : (t : Side) → is_closed t new ≡ is_closed t old = by_own (λ t. is_closed t new ≡ is_closed t old) s closed to.others in
     silent_kept [] old new log log quiet_none to.keeps refl to.idle (λ t. same t ∙ sym (or-false (is_closed t old))) (λ t is. inl (sym (same t) ∙ is))
 
-module _ (asset : Asset) (most : ℕ) (s : Side) (old new : RelayingValue) (links links' : LinkValue) (desk : DeskValue) (few : old.idle < most) (to : ClosesTo s old new)
+module _ (site : SiteValue) (most : ℕ) (s : Side) (old new : RelayingValue) (links links' : LinkValue) (desk : DeskValue) (few : old.idle < most) (to : ClosesTo s old new)
     (later : links.faults ≤ links'.faults) (same : links'.idles ≡ links.idles) where
-  pub finish_goes : links'.faults ≡ links.faults → (x : Unit {0}) → FinishesBy s (queue_to s old) (is_closed s old) (is_closed s new) links.told links'.told (Ok x) → DoesBetween asset most (Finishing s ∷ []) (scene old links desk) (scene new links' desk)
+  pub finish_goes : links'.faults ≡ links.faults → (x : Unit {0}) → FinishesBy s (queue_to s old) (is_closed s old) (is_closed s new) links.told links'.told (Ok x) → DoesBetween site most (Finishing s ∷ []) (scene old links desk) (scene new links' desk)
   finish_goes still x (inl (last, closed, tells)) = record {
     answers = Finished s ∷ [];
     adds = record { tells = tells; link = later; idles = λ start r. omega (arith, r, same, to.idle); log = writes_none desk };
     still = still;
     does = λ past first own es st. (
-      one_stage asset past most (Finishing s) es (Finished s ∷ []) (finishes_stage asset past most first es old own st few s last),
-      apart_none own desk.lines desk.lines _ refl (stands_silent asset past first es (Finished s ∷ []) old new own own st (silent_close s old new own to closed last)),
+      one_stage site past most (Finishing s) es (Finished s ∷ []) (finishes_stage site past most first es old own st few s last),
+      apart_none own desk.lines desk.lines _ refl (stands_silent site past first es (Finished s ∷ []) old new own own st (silent_close s old new own to closed last)),
     );
   }
   finish_goes still x (inr (never, closed, tells)) = record {
@@ -290,20 +290,20 @@ module _ (asset : Asset) (most : ℕ) (s : Side) (old new : RelayingValue) (link
     adds = record { tells = tells ∙ with_none links.told; link = later; idles = λ start r. omega (arith, r, same, to.idle); log = writes_none desk };
     still = still;
     does = λ past first own es st. (
-      one_stage asset past most (Finishing s) es [] (no_finish asset past most first es old own st few s never),
-      apart_none own desk.lines desk.lines _ refl (stands_silent asset past first es [] old new own own st (silent_same s old new own to closed)),
+      one_stage site past most (Finishing s) es [] (no_finish site past most first es old own st few s never),
+      apart_none own desk.lines desk.lines _ refl (stands_silent site past first es [] old new own own st (silent_same s old new own to closed)),
     );
   }
 
   pub finish_stops : (why : Stop) → FinishesBy s (queue_to s old) (is_closed s old) (is_closed s new) links.told links'.told (Err why) → StopsBy why (scene old links desk) (scene new links' desk) →
-      StopsBetween asset most (Finishing s ∷ []) why (scene old links desk) (scene new links' desk)
+      StopsBetween site most (Finishing s ∷ []) why (scene old links desk) (scene new links' desk)
   finish_stops stop.Link (closed, tells) cause = record {
     answers = [];
     adds = record { tells = tells ∙ with_none links.told; link = later; idles = λ start r. omega (arith, r, same, to.idle); log = writes_none desk };
     cause = cause;
     does = λ past first own es st. (
-      breaks_nothing asset past most (Finishing s ∷ []) es,
-      apart_none own desk.lines desk.lines _ refl (stands_silent asset past first es [] old new own own st (silent_same s old new own to closed), omega (arith, few, to.idle)),
+      breaks_nothing site past most (Finishing s ∷ []) es,
+      apart_none own desk.lines desk.lines _ refl (stands_silent site past first es [] old new own own st (silent_same s old new own to closed), omega (arith, few, to.idle)),
     );
   }
   finish_stops stop.Idle none cause = absurd none

@@ -11,7 +11,7 @@ use Rattle.cf_outside.proofs.Lines.{file_lines-whole, lines_from-rest}
 use Rattle.cf_outside.specs.Files.{Content, IsPartly, absent, content_after_create, content_after_write, holds, untold}
 use Rattle.cf_outside.specs.Lines.{ends_with_line, file_lines, file_part, lines_from, rest_from}
 use Rattle.cf_outside.specs.Pair.{Entry}
-use Rattle.cf_policy.specs.declared.Asset.{Asset}
+use Rattle.cf_policy.specs.Site.{SiteValue}
 use Rattle.cf_relay.proofs.Starting.{empty_judged, relayed_none}
 use Rattle.cf_relay.specs.Closing.{BeginsLines}
 use Rattle.cf_relay.specs.Ends.{EndsAs, IsMemoryEnd, IsFileTold, IsWriteEnd, LogContents, RelayEnds, file_log}
@@ -24,17 +24,17 @@ use Rattle.cf_relay.specs.declared.done.RelayFault.TheVariants as fault
 
 -- ---- another log
 
-module _ (asset : Asset) (listen most : ℕ) (P Q : LogContents) (es : List Entry) (all : (ls : List (List ℕ)) → P.Holds ls → Q.Holds ls) (some : (ls : List (List ℕ)) → P.Begins ls → Q.Begins ls) where
-  end_over : (done : RelayDone) (end : RelayEnd) → EndsAs asset listen most P es done end → EndsAs asset listen most Q es done end
+module _ (site : SiteValue) (listen most : ℕ) (P Q : LogContents) (es : List Entry) (all : (ls : List (List ℕ)) → P.Holds ls → Q.Holds ls) (some : (ls : List (List ℕ)) → P.Begins ls → Q.Begins ls) where
+  end_over : (done : RelayDone) (end : RelayEnd) → EndsAs site listen most P es done end → EndsAs site listen most Q es done end
   end_over done ends.Done h = search all
   end_over done ends.IdleEnd h = search all
   end_over done (ends.Cut reason) h = search all
 
-  memory_over : (same : Type 0) → IsMemoryEnd asset listen (P.Holds []) ⊥ es → IsMemoryEnd asset listen (Q.Holds []) same es
+  memory_over : (same : Type 0) → IsMemoryEnd site listen (P.Holds []) ⊥ es → IsMemoryEnd site listen (Q.Holds []) same es
   memory_over same (inl none) = absurd none.1
   memory_over same (inr (met, created)) = inr (met, all [] created)
 
-  pub ends_over : (same : Type 0) (r : Result RelayDone RelayFault) → RelayEnds asset listen most P ⊥ es r → RelayEnds asset listen most Q same es r
+  pub ends_over : (same : Type 0) (r : Result RelayDone RelayFault) → RelayEnds site listen most P ⊥ es r → RelayEnds site listen most Q same es r
   ends_over same (Ok done) h = end_over done done.end h
   ends_over same (Err fault.Link) h = search all
   ends_over same (Err fault.Write) h = search some
@@ -102,13 +102,13 @@ partly_empty : (first new : Content) → (new ≡ first) ⊎ (new ≡ content_af
 partly_empty first new (inl same) = inl same
 partly_empty first new (inr created) = inr (0, created ∙ created_empty first)
 
-pub write_first : (asset : Asset) (listen most : ℕ) (first new : Content) → 0 < most → (new ≡ first) ⊎ (new ≡ content_after_create first) → IsWriteEnd both.Together asset none_before listen most (file_log first new) []
-write_first asset listen most first new few either = record {
-  relayed = relayed_none asset none_before listen most few both.Together;
+pub write_first : (site : SiteValue) (listen most : ℕ) (first new : Content) → 0 < most → (new ≡ first) ⊎ (new ≡ content_after_create first) → IsWriteEnd both.Together site none_before listen most (file_log first new) []
+write_first site listen most first new few either = record {
+  relayed = relayed_none site none_before listen most few both.Together;
   history = [];
   is_short = inl refl;
   judged = [];
-  are_judged = empty_judged asset (newcomer 0);
+  are_judged = empty_judged site (newcomer 0);
   prefixes = λ s. ([], refl);
   last = [];
   is_last = inl refl;
@@ -116,5 +116,5 @@ write_first asset listen most first new few either = record {
 }
 
 -- the same log, and nothing is known of want of memory
-pub ends_same : (asset : Asset) (listen m n : ℕ) (log : LogContents) (es : List Entry) (same : Type 0) (r : Result RelayDone RelayFault) → m ≡ n → RelayEnds asset listen m log ⊥ es r → RelayEnds asset listen n log same es r
-ends_same asset listen m n log es same r e h = subst (λ (k : ℕ). RelayEnds asset listen k log same es r) e (ends_over asset listen m log log es (λ ls h. h) (λ ls h. h) same r h)
+pub ends_same : (site : SiteValue) (listen m n : ℕ) (log : LogContents) (es : List Entry) (same : Type 0) (r : Result RelayDone RelayFault) → m ≡ n → RelayEnds site listen m log ⊥ es r → RelayEnds site listen n log same es r
+ends_same site listen m n log es same r e h = subst (λ (k : ℕ). RelayEnds site listen k log same es r) e (ends_over site listen m log log es (λ ls h. h) (λ ls h. h) same r h)

@@ -10,6 +10,7 @@ pub mod Lined
 mod Lists
 mod Moving
 mod OnePair
+mod Owing
 mod Scenes
 mod Serving
 mod Stages

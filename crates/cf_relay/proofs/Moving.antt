@@ -3,13 +3,14 @@ use Rattle.std.proofs.Common.{Bool, List, Ok, Option, ap, arith, cond, false, in
 use Rattle.std.specs.List.{concat}
 use Rattle.std.proofs.Math.Nat.{mul-le-mul_left}
 use Rattle.std.proofs.lemmas.List.{length-append}
+use Rattle.cf_driver.proofs.Limits.{owed_most}
 use Rattle.cf_lane.specs.Handled.{IsOpen}
 use Rattle.cf_lane.specs.Output.{other}
 use Rattle.cf_links.specs.Links.{SessionTold}
 use Rattle.cf_outq.specs.SendQueue.{Queue}
 use Rattle.cf_outside.specs.Desk.{DeskValue}
 use Rattle.cf_outside.specs.Pair.{Entry, Idle, Took}
-use Rattle.cf_policy.specs.declared.Asset.{Asset}
+use Rattle.cf_policy.specs.Site.{IsSiteWithin, SiteValue}
 use Rattle.cf_stream.specs.Sizes.{window_size}
 use Rattle.cf_view.specs.declared.Side.{Side}
 use Rattle.cf_view.specs.declared.Side.TheVariants as side
@@ -144,8 +145,8 @@ letters_still : (s : Side) (old new : RelayingValue) → letters_from s new ≡ 
 letters_still side.Client old new h same = omega (arith, h, same)
 letters_still side.Controller old new h same = omega (arith, h, same)
 
-module _ (dirs : Directions) (asset : Asset) (most : ℕ) (s : Side) (old new : RelayingValue) (log log' : Option (List (List ℕ))) (told told' : SessionTold) (desk : DeskValue) (few : old.idle < most) (to : TakesTo s old new) where
-  pub ask_moves : (x : Unit {0}) → TakesBy dirs asset old.moment most s (take_state_of s old log told) (take_state_of s new log' told') desk (Ok x) → AsksOrRests dirs s most old new
+module _ (dirs : Directions) (site : SiteValue) (most : ℕ) (s : Side) (old new : RelayingValue) (log log' : Option (List (List ℕ))) (told told' : SessionTold) (desk : DeskValue) (few : old.idle < most) (to : TakesTo s old new) where
+  pub ask_moves : (x : Unit {0}) → TakesBy dirs site old.moment most s (take_state_of s old log told) (take_state_of s new log' told') desk (Ok x) → AsksOrRests dirs site s most old new
   ask_moves x (inl (never, same)) = inr (
     record {
       kept = by_side (λ t. (queue_to t new).kept ≡ (queue_to t old).kept) (ap (λ (z : TakeState). z.state.to_client.kept) same) (ap (λ (z : TakeState). z.state.to_controller.kept) same);
@@ -174,32 +175,32 @@ open_at : (s : Side) (old new : RelayingValue) → Unmoved old new → IsOpen s 
 open_at side.Client old new u is = u.ended side.Controller ∙ is
 open_at side.Controller old new u is = u.ended side.Client ∙ is
 
-same_may : (dirs : Directions) (s : Side) (old new : RelayingValue) → Unmoved old new → MayTakeNow dirs s old.to_client old.to_controller → MayTakeNow dirs s new.to_client new.to_controller
-same_may dirs side.Client old new u may = record {
+same_may : (dirs : Directions) (site : SiteValue) (s : Side) (old new : RelayingValue) → Unmoved old new → MayTakeNow dirs site s old.to_client old.to_controller → MayTakeNow dirs site s new.to_client new.to_controller
+same_may dirs site side.Client old new u may = record {
   open_still = open_at side.Client old new u may.open_still;
   onward = waits_at window_size old.to_controller new.to_controller (u.kept side.Controller) (u.ended side.Controller) may.onward;
-  back = waits_at (most_back dirs) old.to_client new.to_client (u.kept side.Client) (u.ended side.Client) may.back;
+  back = waits_at (most_back dirs site) old.to_client new.to_client (u.kept side.Client) (u.ended side.Client) may.back;
 }
-same_may dirs side.Controller old new u may = record {
+same_may dirs site side.Controller old new u may = record {
   open_still = open_at side.Controller old new u may.open_still;
   onward = waits_at window_size old.to_client new.to_client (u.kept side.Client) (u.ended side.Client) may.onward;
-  back = waits_at (most_back dirs) old.to_controller new.to_controller (u.kept side.Controller) (u.ended side.Controller) may.back;
+  back = waits_at (most_back dirs site) old.to_controller new.to_controller (u.kept side.Controller) (u.ended side.Controller) may.back;
 }
 
 -- a side was asked; or both were passed over
-abbrev ListensOrRests : Directions → (most : ℕ) → (old new : RelayingValue) → Type 0
-ListensOrRests dirs most old new =
+abbrev ListensOrRests : Directions → SiteValue → (most : ℕ) → (old new : RelayingValue) → Type 0
+ListensOrRests dirs site most old new =
     (progress most old < progress most new)
-    ⊎ (Unmoved old new × (MayTakeNow dirs side.Client old.to_client old.to_controller → ⊥) ×
-    (MayTakeNow dirs side.Controller old.to_client old.to_controller → ⊥))
+    ⊎ (Unmoved old new × (MayTakeNow dirs site side.Client old.to_client old.to_controller → ⊥) ×
+    (MayTakeNow dirs site side.Controller old.to_client old.to_controller → ⊥))
 
 -- the moment, and two sides asked
-listen_moves : (dirs : Directions) (most : ℕ) (a b c d : RelayingValue) → Unmoved a b → AsksOrRests dirs side.Client most b c → AsksOrRests dirs side.Controller most c d → ListensOrRests dirs most a d
-listen_moves dirs most a b c d u (inl m) (inl n) = inl (omega (arith, m, n, unmoved_progress most a b u))
-listen_moves dirs most a b c d u (inl m) (inr (v, passed)) = inl (omega (arith, m, unmoved_progress most a b u, unmoved_progress most c d v))
-listen_moves dirs most a b c d u (inr (v, passed)) (inl n) = inl (omega (arith, n, unmoved_progress most a b u, unmoved_progress most b c v))
-listen_moves dirs most a b c d u (inr (v, passed)) (inr (w, never)) =
-    inr (both_unmoved a c d (both_unmoved a b c u v) w, (λ may. passed (same_may dirs side.Client a b u may)), (λ may. never (same_may dirs side.Controller a c (both_unmoved a b c u v) may)))
+listen_moves : (dirs : Directions) (site : SiteValue) (most : ℕ) (a b c d : RelayingValue) → Unmoved a b → AsksOrRests dirs site side.Client most b c → AsksOrRests dirs site side.Controller most c d → ListensOrRests dirs site most a d
+listen_moves dirs site most a b c d u (inl m) (inl n) = inl (omega (arith, m, n, unmoved_progress most a b u))
+listen_moves dirs site most a b c d u (inl m) (inr (v, passed)) = inl (omega (arith, m, unmoved_progress most a b u, unmoved_progress most c d v))
+listen_moves dirs site most a b c d u (inr (v, passed)) (inl n) = inl (omega (arith, n, unmoved_progress most a b u, unmoved_progress most b c v))
+listen_moves dirs site most a b c d u (inr (v, passed)) (inr (w, never)) =
+    inr (both_unmoved a c d (both_unmoved a b c u v) w, (λ may. passed (same_may dirs site side.Client a b u may)), (λ may. never (same_may dirs site side.Controller a c (both_unmoved a b c u v) may)))
 
 one_at_most : (b : Bool) → cond b 1 0 ≤ 1
 one_at_most true = omega arith
@@ -208,38 +209,38 @@ one_at_most false = omega arith
 waits_empty : (most : ℕ) (q : Queue) → 1 ≤ most → q.kept ≡ [] → WaitAtMost most q
 waits_empty most q some none = omega (arith, some, ap length none, one_at_most q.ended)
 
-some_back : (dirs : Directions) → 1 ≤ most_back dirs
-some_back both.Together = omega arith
-some_back both.Separate = omega arith
+some_back : (dirs : Directions) (site : SiteValue) → IsSiteWithin site → 1 ≤ most_back dirs site
+some_back both.Together site within = omega arith
+some_back both.Separate site within = omega (arith, owed_most site within)
 
 not_open : (b : Bool) → (b ≡ false → ⊥) → b ≡ true
 not_open true passed = refl
 not_open false passed = absurd (passed refl)
 
 -- a turn moves something, or both sides are closed after it
-moves_all : (dirs : Directions) (most : ℕ) (a b c d : RelayingValue) → ListensOrRests dirs most a b → ServesOrRests side.Controller most b c → ServesOrRests side.Client most c d → (progress most a < progress most d) ⊎ AreClosed d
-moves_all dirs most a b c d (inl l) (inl m) (inl n) = inl (omega (arith, l, m, n))
-moves_all dirs most a b c d (inl l) (inl m) (inr (none, v, same, closed)) = inl (omega (arith, l, m, unmoved_progress most c d v))
-moves_all dirs most a b c d (inl l) (inr (none, v, same, closed)) (inl n) = inl (omega (arith, l, n, unmoved_progress most b c v))
-moves_all dirs most a b c d (inl l) (inr (none, v, same, closed)) (inr (none', v', same', closed')) = inl (omega (arith, l, unmoved_progress most b c v, unmoved_progress most c d v'))
-moves_all dirs most a b c d (inr (u, passed, never)) (inl m) (inl n) = inl (omega (arith, m, n, unmoved_progress most a b u))
-moves_all dirs most a b c d (inr (u, passed, never)) (inl m) (inr (none, v, same, closed)) = inl (omega (arith, m, unmoved_progress most a b u, unmoved_progress most c d v))
-moves_all dirs most a b c d (inr (u, passed, never)) (inr (none, v, same, closed)) (inl n) = inl (omega (arith, n, unmoved_progress most a b u, unmoved_progress most b c v))
-moves_all dirs most a b c d (inr (u, passed, never)) (inr (none, v, same, closed)) (inr (none', v', same', closed')) =
+moves_all : (dirs : Directions) (site : SiteValue) (within : IsSiteWithin site) (most : ℕ) (a b c d : RelayingValue) → ListensOrRests dirs site most a b → ServesOrRests side.Controller most b c → ServesOrRests side.Client most c d → (progress most a < progress most d) ⊎ AreClosed d
+moves_all dirs site within most a b c d (inl l) (inl m) (inl n) = inl (omega (arith, l, m, n))
+moves_all dirs site within most a b c d (inl l) (inl m) (inr (none, v, same, closed)) = inl (omega (arith, l, m, unmoved_progress most c d v))
+moves_all dirs site within most a b c d (inl l) (inr (none, v, same, closed)) (inl n) = inl (omega (arith, l, n, unmoved_progress most b c v))
+moves_all dirs site within most a b c d (inl l) (inr (none, v, same, closed)) (inr (none', v', same', closed')) = inl (omega (arith, l, unmoved_progress most b c v, unmoved_progress most c d v'))
+moves_all dirs site within most a b c d (inr (u, passed, never)) (inl m) (inl n) = inl (omega (arith, m, n, unmoved_progress most a b u))
+moves_all dirs site within most a b c d (inr (u, passed, never)) (inl m) (inr (none, v, same, closed)) = inl (omega (arith, m, unmoved_progress most a b u, unmoved_progress most c d v))
+moves_all dirs site within most a b c d (inr (u, passed, never)) (inr (none, v, same, closed)) (inl n) = inl (omega (arith, n, unmoved_progress most a b u, unmoved_progress most b c v))
+moves_all dirs site within most a b c d (inr (u, passed, never)) (inr (none, v, same, closed)) (inr (none', v', same', closed')) =
     let client : (most : ℕ) → 1 ≤ most → WaitAtMost most a.to_client = λ most some. waits_empty most a.to_client some (sym (u.kept side.Client) ∙ sym (v.kept side.Client) ∙ none') in
     let controller : (most : ℕ) → 1 ≤ most → WaitAtMost most a.to_controller = λ most some. waits_empty most a.to_controller some (sym (u.kept side.Controller) ∙ none) in
     let small : 1 ≤ window_size = omega arith in
-    let ended_c : a.to_client.ended ≡ true = not_open a.to_client.ended (λ e. never (record { open_still = e; onward = client window_size small; back = controller (most_back dirs) (some_back dirs) })) in
-    let ended_k : a.to_controller.ended ≡ true = not_open a.to_controller.ended (λ e. passed (record { open_still = e; onward = controller window_size small; back = client (most_back dirs) (some_back dirs) })) in
+    let ended_c : a.to_client.ended ≡ true = not_open a.to_client.ended (λ e. never (record { open_still = e; onward = client window_size small; back = controller (most_back dirs site) (some_back dirs site within) })) in
+    let ended_k : a.to_controller.ended ≡ true = not_open a.to_controller.ended (λ e. passed (record { open_still = e; onward = controller window_size small; back = client (most_back dirs site) (some_back dirs site within) })) in
     inr (closed' (v.ended side.Client ∙ u.ended side.Client ∙ ended_c), same' ∙ closed (u.ended side.Controller ∙ ended_k))
 
-pub turn_moves : (dirs : Directions) (most : ℕ) (a b c d e f : RelayingValue) → Unmoved a b → AsksOrRests dirs side.Client most b c → AsksOrRests dirs side.Controller most c d → ServesOrRests side.Controller most d e → ServesOrRests side.Client most e f →
+pub turn_moves : (dirs : Directions) (site : SiteValue) (within : IsSiteWithin site) (most : ℕ) (a b c d e f : RelayingValue) → Unmoved a b → AsksOrRests dirs site side.Client most b c → AsksOrRests dirs site side.Controller most c d → ServesOrRests side.Controller most d e → ServesOrRests side.Client most e f →
     (progress most a < progress most f) ⊎ AreClosed f
-turn_moves dirs most a b c d e f told client controller served last = moves_all dirs most a d e f (listen_moves dirs most a b c d told client controller) served last
+turn_moves dirs site within most a b c d e f told client controller served last = moves_all dirs site within most a d e f (listen_moves dirs site most a b c d told client controller) served last
 
 -- the progress of a relay that goes on is below this
-pub progress_below : (asset : Asset) (most : ℕ) (now : RelayingValue) → IsSound asset most now → progress most now < 2 ^ 32 * most
-progress_below asset most now h =
+pub progress_below : (site : SiteValue) (most : ℕ) (now : RelayingValue) → IsSound site most now → progress most now < 2 ^ 32 * most
+progress_below site most now h =
     let few : moved now + 1 ≤ 2 ^ 32 = omega (arith, h.short.client, h.short.controller, h.short.to_client, h.short.to_controller, h.to_client, h.to_controller) in
     let all : most * (moved now + 1) ≤ most * (2 ^ 32) = mul-le-mul_left most few in
     omega (arith, all, h.few)
@@ -247,10 +248,10 @@ progress_below asset most now h =
 pub nearer : (bound a b : ℕ) → a < b → b < bound → bound - b < bound - a
 nearer bound a b h g = omega (arith, h, g)
 
-pub goes_nearer : (asset : Asset) (most : ℕ) (old new : RelayingValue) → IsSound asset most new → (progress most old < progress most new) ⊎ AreClosed new → (AreClosed new → ⊥) →
+pub goes_nearer : (site : SiteValue) (most : ℕ) (old new : RelayingValue) → IsSound site most new → (progress most old < progress most new) ⊎ AreClosed new → (AreClosed new → ⊥) →
     2 ^ 32 * most - progress most new < 2 ^ 32 * most - progress most old
-goes_nearer asset most old new sound (inl more) still = nearer (2 ^ 32 * most) (progress most old) (progress most new) more (progress_below asset most new sound)
-goes_nearer asset most old new sound (inr closed) still = absurd (still closed)
+goes_nearer site most old new sound (inl more) still = nearer (2 ^ 32 * most) (progress most old) (progress most new) more (progress_below site most new sound)
+goes_nearer site most old new sound (inr closed) still = absurd (still closed)
 
 pub not_both : (b : Bool) → b ≡ false → b ≡ true → ⊥
 not_both b f t = cc

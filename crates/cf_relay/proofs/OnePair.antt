@@ -5,7 +5,9 @@ use Rattle.std.proofs.lemmas.Bool.{eqb-true}
 use Rattle.std.proofs.lemmas.List.{map-append}
 use Rattle.std.proofs.lemmas.Option.{same_Some}
 use Rattle.cf_links.specs.Links.{LinksEntry, Of, SessionTold, with_answers, with_entry}
-use Rattle.cf_outside.specs.Pair.{Entry, with_entry as with_pair}
+use Rattle.cf_outside.specs.Pair.{Entry, met_at, with_entry as with_pair}
+use Rattle.cf_policy.specs.declared.Asset.{Asset}
+use Rattle.cf_view.specs.declared.Endpoint.{Endpoint}
 use Rattle.cf_relay.proofs.Lined.{more_both, more_none}
 use Rattle.cf_relay.specs.Answers.{with_answers as with_all}
 use Rattle.cf_relay.specs.Only.{only_told}
@@ -58,3 +60,8 @@ told_two told a b c e f xs p q r = simp (r, q, p, more_both)
 -- what holds of the pair that was lent last holds of the pair once the loan ends
 pub at_pair : {P : Type 0} (x now : P) (A : P → Type 0) → x ≡ now → A now → A x
 at_pair x now A same a = subst A (sym same) a
+
+-- the controller that a client is met beside is that of the first asset
+pub met_first : (told told' : Option (List Entry)) (listen : ℕ) (one first : Asset) (client : Endpoint) → one ≡ first → told' ≡ with_pair told (met_at listen one.endpoint client) →
+    told' ≡ with_pair told (met_at listen first.endpoint client)
+met_first told told' listen one first client same met = subst (λ (a : Asset). told' ≡ with_pair told (met_at listen a.endpoint client)) same met

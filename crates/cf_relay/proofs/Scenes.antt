@@ -9,7 +9,7 @@ use Rattle.cf_outside.proofs.Desks.{keeps_both, keeps_none}
 use Rattle.cf_outside.specs.Desk.{DeskValue}
 use Rattle.cf_outside.specs.Faults.{Rose}
 use Rattle.cf_outside.specs.Pair.{Entry, FaultsBy}
-use Rattle.cf_policy.specs.declared.Asset.{Asset}
+use Rattle.cf_policy.specs.Site.{SiteValue}
 use Rattle.cf_relay.proofs.Giving.{with_more, with_none}
 use Rattle.cf_relay.proofs.Lined.{apart_more, apart_none}
 use Rattle.cf_relay.proofs.Stages.{breaks_more, does_broken, does_then}
@@ -39,12 +39,12 @@ adds_both old mid new xs ys h g = record {
   log = writes_both old.desk mid.desk new.desk h.log g.log;
 }
 
-pub goes_none : (asset : Asset) (most : ℕ) (now : Scene) → DoesBetween asset most [] now now
-goes_none asset most now = record {
+pub goes_none : (site : SiteValue) (most : ℕ) (now : Scene) → DoesBetween site most [] now now
+goes_none site most now = record {
   answers = [];
   adds = record { tells = with_none now.links.told; link = omega arith; idles = λ start r. r; log = writes_none now.desk };
   still = refl;
-  does = λ past first own es st. (refl, apart_none own now.desk.lines now.desk.lines (λ log. StandsFor asset past first (es ++ []) now.relaying log) refl (subst (λ (x : List Entry). StandsFor asset past first x now.relaying own) (sym (append-nil es)) st));
+  does = λ past first own es st. (refl, apart_none own now.desk.lines now.desk.lines (λ log. StandsFor site past first (es ++ []) now.relaying log) refl (subst (λ (x : List Entry). StandsFor site past first x now.relaying own) (sym (append-nil es)) st));
 }
 
 cause_later : (why : Stop) (old mid new : Scene) (xs : List Entry) → AddsAnswers old mid xs → mid.links.faults ≡ old.links.faults → StopsBy why mid new → StopsBy why old new
@@ -53,8 +53,8 @@ cause_later (stop.Cut reason) old mid new xs h still c = c ∙ still
 cause_later stop.Link old mid new xs h still c = omega (arith, h.link, c)
 cause_later stop.Write old mid new xs h still c = (c.0 ∙ still, omega (arith, h.log.keeps.later, c.1))
 
-module _ {asset : Asset} {most : ℕ} {ps qs : List Stage} {old mid new : Scene} (h : DoesBetween asset most ps old mid) where
-  pub goes_then : DoesBetween asset most qs mid new → DoesBetween asset most (ps ++ qs) old new
+module _ {site : SiteValue} {most : ℕ} {ps qs : List Stage} {old mid new : Scene} (h : DoesBetween site most ps old mid) where
+  pub goes_then : DoesBetween site most qs mid new → DoesBetween site most (ps ++ qs) old new
   goes_then g = record {
     answers = h.answers ++ g.answers;
     adds = adds_both old mid new h.answers g.answers h.adds g.adds;
@@ -62,12 +62,12 @@ module _ {asset : Asset} {most : ℕ} {ps qs : List Stage} {old mid new : Scene}
     does = λ past first own es st.
         let a = h.does past first own es st in
         let b = g.does past first (with_lines own a.1.more) (es ++ h.answers) a.1.stands in (
-          does_then asset past most ps qs es h.answers g.answers a.0 b.0,
+          does_then site past most ps qs es h.answers g.answers a.0 b.0,
           apart_more own old.desk.lines mid.desk.lines new.desk.lines _ a.1.more a.1.added (rw (append_assoc es h.answers g.answers) at b.1),
         );
   }
 
-  pub goes_stops : {why : Stop} → StopsBetween asset most qs why mid new → StopsBetween asset most (ps ++ qs) why old new
+  pub goes_stops : {why : Stop} → StopsBetween site most qs why mid new → StopsBetween site most (ps ++ qs) why old new
   goes_stops {why = why} g = record {
     answers = h.answers ++ g.answers;
     adds = adds_both old mid new h.answers g.answers h.adds g.adds;
@@ -75,18 +75,18 @@ module _ {asset : Asset} {most : ℕ} {ps qs : List Stage} {old mid new : Scene}
     does = λ past first own es st.
         let a = h.does past first own es st in
         let b = g.does past first (with_lines own a.1.more) (es ++ h.answers) a.1.stands in (
-          does_broken asset past most ps qs es h.answers g.answers a.0 b.0,
+          does_broken site past most ps qs es h.answers g.answers a.0 b.0,
           apart_more own old.desk.lines mid.desk.lines new.desk.lines _ a.1.more a.1.added (rw (append_assoc es h.answers g.answers) at b.1),
         );
   }
 
-pub stops_more : {asset : Asset} {most : ℕ} {ps : List Stage} (qs : List Stage) {why : Stop} {old new : Scene} →
-    StopsBetween asset most ps why old new → StopsBetween asset most (ps ++ qs) why old new
-stops_more {asset = asset} {most = most} {ps = ps} qs h = record {
+pub stops_more : {site : SiteValue} {most : ℕ} {ps : List Stage} (qs : List Stage) {why : Stop} {old new : Scene} →
+    StopsBetween site most ps why old new → StopsBetween site most (ps ++ qs) why old new
+stops_more {site = site} {most = most} {ps = ps} qs h = record {
   answers = h.answers;
   adds = h.adds;
   cause = h.cause;
-  does = λ past first own es st. let a = h.does past first own es st in (breaks_more asset past most ps qs es h.answers a.0, a.1);
+  does = λ past first own es st. let a = h.does past first own es st in (breaks_more site past most ps qs es h.answers a.0, a.1);
 }
 
 pub on_ok : {T : Type 0} (r : Result T Stop) (P Q : Type 0) → (P → Q) → OnOk r P → OnOk r Q

@@ -11,7 +11,7 @@ use Rattle.cf_links.specs.Links.{SessionTold}
 use Rattle.cf_outq.specs.SendQueue.{IsQueueOf, Queue, queue_length}
 use Rattle.cf_outside.specs.Desk.{DeskValue}
 use Rattle.cf_outside.specs.Pair.{Entry, FaultsBy}
-use Rattle.cf_policy.specs.declared.Asset.{Asset}
+use Rattle.cf_policy.specs.Site.{SiteValue}
 use Rattle.cf_stream.specs.Stream.{Stream}
 use Rattle.cf_view.specs.declared.Side.{Side}
 use Rattle.cf_view.specs.declared.Side.TheVariants as side
@@ -35,16 +35,16 @@ pub handed_on : {T : Type 0} (r : Result T Stop) (e : Stop) (P : Stop → Type 0
 handed_on (Ok x) e P is p = tt
 handed_on (Err x) e P is p = subst P (sym is) p
 
--- a lane that stays as it was is one of the asset still
-pub keeps_any : (asset : Asset) (old new : LaneValue) (e : Stop) → new ≡ old → IsLaneOf asset old → KeepsLane asset new e
-keeps_any asset old new stop.Idle same is = subst (IsLaneOf asset) (sym same) is
-keeps_any asset old new stop.Link same is = subst (IsLaneOf asset) (sym same) is
-keeps_any asset old new stop.Write same is = tt
-keeps_any asset old new (stop.Cut reason) same is = subst (IsLaneOf asset) (sym same) is
+-- a lane that stays as it was is one of the site still
+pub keeps_any : (site : SiteValue) (old new : LaneValue) (e : Stop) → new ≡ old → IsLaneOf site old → KeepsLane site new e
+keeps_any site old new stop.Idle same is = subst (IsLaneOf site) (sym same) is
+keeps_any site old new stop.Link same is = subst (IsLaneOf site) (sym same) is
+keeps_any site old new stop.Write same is = tt
+keeps_any site old new (stop.Cut reason) same is = subst (IsLaneOf site) (sym same) is
 
-pub keeps_each : (asset : Asset) (old new : LaneValue) → new ≡ old → IsLaneOf asset old → (r : Result (Unit {0}) Stop) → IfErr r (KeepsLane asset new)
-keeps_each asset old new same is (Ok x) = tt
-keeps_each asset old new same is (Err e) = keeps_any asset old new e same is
+pub keeps_each : (site : SiteValue) (old new : LaneValue) → new ≡ old → IsLaneOf site old → (r : Result (Unit {0}) Stop) → IfErr r (KeepsLane site new)
+keeps_each site old new same is (Ok x) = tt
+keeps_each site old new same is (Err e) = keeps_any site old new e same is
 
 -- ---- of each side
 
@@ -94,18 +94,18 @@ finish_cause s q a b told told' old new stop.Write finishes link = absurd finish
 finish_cause s q a b told told' old new (stop.Cut reason) finishes link = absurd finishes
 
 module _ (most : ℕ) (s : Side) (old mid new : RelayingValue) (links linksm links' : LinkValue) (few : mid.idle < most) (closes : ClosesTo s mid new)
-    (gives : (asset : Asset) (desk : DeskValue) → DoesBetween asset most (Giving s ∷ []) (scene old links desk) (scene mid linksm desk)) (same : links'.idles ≡ linksm.idles) where
+    (gives : (site : SiteValue) (desk : DeskValue) → DoesBetween site most (Giving s ∷ []) (scene old links desk) (scene mid linksm desk)) (same : links'.idles ≡ linksm.idles) where
   serve_goes : (r : Result (Unit {0}) Stop) → FinishesBy s (queue_to s mid) (is_closed s mid) (is_closed s new) linksm.told links'.told r → FaultsBy linksm.faults links'.faults (r ≡ Err stop.Link) →
-      OnOk r ((asset : Asset) (desk : DeskValue) → DoesBetween asset most (Giving s ∷ Finishing s ∷ []) (scene old links desk) (scene new links' desk))
-  serve_goes (Ok x) finishes cause = λ asset desk. goes_then (gives asset desk)
-      (finish_goes asset most s mid new linksm links' desk few closes cause.later same (cause.still (λ is. cc)) x finishes)
+      OnOk r ((site : SiteValue) (desk : DeskValue) → DoesBetween site most (Giving s ∷ Finishing s ∷ []) (scene old links desk) (scene new links' desk))
+  serve_goes (Ok x) finishes cause = λ site desk. goes_then (gives site desk)
+      (finish_goes site most s mid new linksm links' desk few closes cause.later same (cause.still (λ is. cc)) x finishes)
   serve_goes (Err e) finishes cause = tt
 
   serve_stops : (r : Result (Unit {0}) Stop) → FinishesBy s (queue_to s mid) (is_closed s mid) (is_closed s new) linksm.told links'.told r → FaultsBy linksm.faults links'.faults (r ≡ Err stop.Link) →
-      IfErr r (λ why. (asset : Asset) (desk : DeskValue) → StopsBetween asset most (Giving s ∷ Finishing s ∷ []) why (scene old links desk) (scene new links' desk))
+      IfErr r (λ why. (site : SiteValue) (desk : DeskValue) → StopsBetween site most (Giving s ∷ Finishing s ∷ []) why (scene old links desk) (scene new links' desk))
   serve_stops (Ok x) finishes cause = tt
-  serve_stops (Err e) finishes cause = λ asset desk. goes_stops (gives asset desk)
-      (finish_stops asset most s mid new linksm links' desk few closes cause.later same e finishes
+  serve_stops (Err e) finishes cause = λ site desk. goes_stops (gives site desk)
+      (finish_stops site most s mid new linksm links' desk few closes cause.later same e finishes
       (finish_cause s (queue_to s mid) (is_closed s mid) (is_closed s new) linksm.told links'.told (scene mid linksm desk) (scene new links' desk) e finishes (faults_of linksm.faults links'.faults (Err e) e refl cause)))
 
 -- a give broke off
@@ -116,13 +116,13 @@ give_cause s most q q' a b i j old new stop.Idle gave link = link.still (λ is. 
 give_cause s most q q' a b i j old new stop.Write gave link = absurd gave
 give_cause s most q q' a b i j old new (stop.Cut reason) gave link = absurd gave
 
-give_breaks : (asset : Asset) (most : ℕ) (s : Side) (old new : RelayingValue) (links links' : LinkValue) (desk : DeskValue) → old.idle < most → GivesTo s old new →
+give_breaks : (site : SiteValue) (most : ℕ) (s : Side) (old new : RelayingValue) (links links' : LinkValue) (desk : DeskValue) → old.idle < most → GivesTo s old new →
     ((w : Stream) → IsQueueOf (queue_to s old) w → IsQueueOf (queue_to s new) w) → (r : Result (Unit {0}) Stop) (why : Stop) → r ≡ Err why → FaultsBy links.faults links'.faults (r ≡ Err stop.Link) →
     ((start : ℕ) → RoseBy old.idle start links.idles → RoseBy new.idle start links'.idles) →
     GaveBy s most (queue_to s old) (queue_to s new) links.told links'.told old.idle new.idle (Err why) →
-    StopsBetween asset most (Giving s ∷ Finishing s ∷ []) why (scene old links desk) (scene new links' desk)
-give_breaks asset most s old new links links' desk few to stands r why was cause idles gave =
-    stops_more (Finishing s ∷ []) (give_stops asset most s old new links links' desk few to stands cause.later idles why gave
+    StopsBetween site most (Giving s ∷ Finishing s ∷ []) why (scene old links desk) (scene new links' desk)
+give_breaks site most s old new links links' desk few to stands r why was cause idles gave =
+    stops_more (Finishing s ∷ []) (give_stops site most s old new links links' desk few to stands cause.later idles why gave
     (give_cause s most (queue_to s old) (queue_to s new) links.told links'.told old.idle new.idle (scene old links desk) (scene new links' desk) why gave (faults_of links.faults links'.faults r why was cause)))
 
 -- ---- the calls of a side that is served
@@ -140,9 +140,9 @@ gave_within s q q' told told' idle idle' answers gave h =
 
 -- what the calls of a side that is served come to
 pub record Served (most : ℕ) (s : Side) (r : Result (Unit {0}) Stop) (old : Relaying) (new : RelayingValue) (links links' : LinkValue) : Type 0 where
-  pub goes : OnOk r ((asset : Asset) (desk : DeskValue) → DoesBetween asset most (Giving s ∷ Finishing s ∷ []) (scene (relaying_value old) links desk) (scene new links' desk))
-  pub stops : IfErr r (λ why. (asset : Asset) (desk : DeskValue) → StopsBetween asset most (Giving s ∷ Finishing s ∷ []) why (scene (relaying_value old) links desk) (scene new links' desk))
-  pub sound : OnOk r ((asset : Asset) → IsSound asset most (relaying_value old) → IsSound asset most new)
+  pub goes : OnOk r ((site : SiteValue) (desk : DeskValue) → DoesBetween site most (Giving s ∷ Finishing s ∷ []) (scene (relaying_value old) links desk) (scene new links' desk))
+  pub stops : IfErr r (λ why. (site : SiteValue) (desk : DeskValue) → StopsBetween site most (Giving s ∷ Finishing s ∷ []) why (scene (relaying_value old) links desk) (scene new links' desk))
+  pub sound : OnOk r ((site : SiteValue) → IsSound site most (relaying_value old) → IsSound site most new)
   pub moves : OnOk r (ServesOrRests s most (relaying_value old) new)
 
 module _ (most : ℕ) (s : Side) (old : Relaying) (queue queue' : Queue) (idle' : ℕ) (links links' : LinkValue) (few : old.idle < most) (lent : queue ≡ of_side s old.to)
@@ -162,14 +162,14 @@ module _ (most : ℕ) (s : Side) (old : Relaying) (queue queue' : Queue) (idle' 
 
   -- what a `?` hands on
   pub give_broke : {T : Type 0} (answer : Result T Stop) (why : Stop) → IsErrAnd answer (λ e. e ≡ why) → r ≡ Err why → GaveBy s most queue queue' links.told links'.told old.idle idle' (Err why) →
-      IfErr answer (λ e. (asset : Asset) (desk : DeskValue) → StopsBetween asset most (Giving s ∷ Finishing s ∷ []) e (scene (relaying_value old) links desk) (scene (given_to s old queue' idle') links' desk))
+      IfErr answer (λ e. (site : SiteValue) (desk : DeskValue) → StopsBetween site most (Giving s ∷ Finishing s ∷ []) e (scene (relaying_value old) links desk) (scene (given_to s old queue' idle') links' desk))
   give_broke answer why is was gave =
-      handed_on answer why (λ e. (asset : Asset) (desk : DeskValue) → StopsBetween asset most (Giving s ∷ Finishing s ∷ []) e (scene (relaying_value old) links desk) (scene (given_to s old queue' idle') links' desk)) is
-      (λ asset desk. give_breaks asset most s (relaying_value old) (given_to s old queue' idle') links links' desk few (gives_side s old queue' idle') stands_at r why was cause idles (gave_at (Err why) gave))
+      handed_on answer why (λ e. (site : SiteValue) (desk : DeskValue) → StopsBetween site most (Giving s ∷ Finishing s ∷ []) e (scene (relaying_value old) links desk) (scene (given_to s old queue' idle') links' desk)) is
+      (λ site desk. give_breaks site most s (relaying_value old) (given_to s old queue' idle') links links' desk few (gives_side s old queue' idle') stands_at r why was cause idles (gave_at (Err why) gave))
 
   module _ (x : Unit {0}) (was : r ≡ Ok x) (gave : GaveBy s most queue queue' links.told links'.told old.idle idle' (Ok x)) where
-    gave_goes : (asset : Asset) (desk : DeskValue) → DoesBetween asset most (Giving s ∷ []) (scene (relaying_value old) links desk) (scene (given_to s old queue' idle') links' desk)
-    gave_goes = λ asset desk. give_goes asset most s (relaying_value old) (given_to s old queue' idle') links links' desk few (gives_side s old queue' idle') stands_at cause.later idles
+    gave_goes : (site : SiteValue) (desk : DeskValue) → DoesBetween site most (Giving s ∷ []) (scene (relaying_value old) links desk) (scene (given_to s old queue' idle') links' desk)
+    gave_goes = λ site desk. give_goes site most s (relaying_value old) (given_to s old queue' idle') links links' desk few (gives_side s old queue' idle') stands_at cause.later idles
         (no_fault links.faults links'.faults r x was cause) x (gave_at (Ok x) gave)
 
     module _ (finished finished' : Bool) (links'' : LinkValue) (shut : finished ≡ of_side s old.finished) (same : links''.idles ≡ links'.idles) (f : Result (Unit {0}) Stop)
@@ -182,14 +182,14 @@ module _ (most : ℕ) (s : Side) (old : Relaying) (queue queue' : Queue) (idle' 
           (shut ∙ by_side (λ s. of_side s old.finished ≡ is_closed s (given_to s old queue' idle')) refl refl s)
           (subst (λ b. FinishesBy s queue' finished b links'.told links''.told f) (by_side (λ s. finished' ≡ is_closed s (served_to s old queue' idle' finished')) refl refl s) finishes))
 
-      served_sound : (asset : Asset) → IsSound asset most (relaying_value old) → IsSound asset most (served_to s old queue' idle' finished')
-      served_sound asset h =
+      served_sound : (site : SiteValue) → IsSound site most (relaying_value old) → IsSound site most (served_to s old queue' idle' finished')
+      served_sound site h =
           let client : IsWithinLimit old.to.client = record { short = h.short.to_client; fits = h.to_client } in
           let controller : IsWithinLimit old.to.controller = record { short = h.short.to_controller; fits = h.to_controller } in
           let each = with_each IsWithinLimit s old.to queue' client controller
           (gave_within s queue queue' links.told links'.told old.idle idle' gave.0 gave.1 (subst IsWithinLimit (sym lent) (of_each IsWithinLimit s old.to client controller))) in
           record {
-            of_asset = h.of_asset;
+            of_site = h.of_site;
             debt = h.debt;
             short = record { client = h.short.client; controller = h.short.controller; to_client = each.0.short; to_controller = each.1.short };
             to_client = each.0.fits;

@@ -25,7 +25,7 @@ use Rattle.cf_lane.specs.declared.limit.TheConstants.{LETTER_LIMIT}
 use Rattle.cf_outq.specs.SendQueue.{IsQueueOf, queue_length}
 use Rattle.cf_outside.specs.Desk.{DeskValue}
 use Rattle.cf_outside.specs.Pair.{Entry}
-use Rattle.cf_policy.specs.declared.Asset.{Asset}
+use Rattle.cf_policy.specs.Site.{SiteValue}
 use Rattle.cf_stream.specs.Stream.{Stream, letter_count}
 use Rattle.cf_view.specs.declared.Endpoint.{Endpoint}
 use Rattle.cf_view.specs.declared.Side.{Side}
@@ -39,9 +39,9 @@ use Rattle.cf_relay.specs.Taken.{MissesLine, letters_brought}
 use Rattle.cf_relay.specs.Turn.{IsTakeAnswer, cut_at}
 
 -- the same items of the same history
-pub follows_at : (asset : Asset) (past : RateMoments) (h h' : List Element) (r r' : Rests) (cut : Option CutReason) (first : Option (List (List ℕ))) (now : State) → h ≡ h' → r ≡ r' →
-    (f : Follows asset past h r cut first now) → (g : Follows asset past h' r' cut first now) × (g.judged ≡ f.judged)
-follows_at asset past h h' r r' cut first now e d f = rw (← e, ← d) (f, refl)
+pub follows_at : (site : SiteValue) (past : RateMoments) (h h' : List Element) (r r' : Rests) (cut : Option CutReason) (first : Option (List (List ℕ))) (now : State) → h ≡ h' → r ≡ r' →
+    (f : Follows site past h r cut first now) → (g : Follows site past h' r' cut first now) × (g.judged ≡ f.judged)
+follows_at site past h h' r r' cut first now e d f = rw (← e, ← d) (f, refl)
 
 -- ---- answers that add nothing to the history: a moment, what a side took, Idle, and a close
 
@@ -61,34 +61,34 @@ pub record Silent (xs : List Entry) (old new : RelayingValue) (log log' : Option
   pub moment : (es : List Entry) → old.moment ≡ moment_of es → new.moment ≡ moment_of (es ++ xs)
   pub idle : new.idle ≡ idles_after old.idle xs
 
-module _ (asset : Asset) (past : RateMoments) (first : Option (List (List ℕ))) (es xs : List Entry) (old new : RelayingValue) (log log' : Option (List (List ℕ)))
-    (st : StandsFor asset past first es old log) (q : Silent xs old new log log') where
+module _ (site : SiteValue) (past : RateMoments) (first : Option (List (List ℕ))) (es xs : List Entry) (old new : RelayingValue) (log log' : Option (List (List ℕ)))
+    (st : StandsFor site past first es old log) (q : Silent xs old new log log') where
   same_history : history_of (es ++ xs) ≡ history_of es
   same_history = history_more [] es xs ∙ ap (λ h. history_of es ++ h) (q.history es) ∙ append-nil (history_of es)
 
   same_client : client_of (es ++ xs) ≡ client_of es
   same_client = ap first_of (met_more es xs ∙ ap (λ zs. flat_map met_in es ++ zs) q.met ∙ append-nil (flat_map met_in es))
 
-  follows_here : (f : Follows asset past (history_of (es ++ xs)) (rests_of new) None first (lane_state new log')) × (f.judged ≡ st.follows.judged)
+  follows_here : (f : Follows site past (history_of (es ++ xs)) (rests_of new) None first (lane_state new log')) × (f.judged ≡ st.follows.judged)
   follows_here = (
     record {
       judged = st.follows.judged;
-      are_judged = subst (λ (x : List Element). AreJudged asset (caller_at new.lane.client.address past) x st.follows.judged) (sym same_history)
-          (subst (λ (l : LaneValue). AreJudged asset (caller_at l.client.address past) (history_of es) st.follows.judged) (sym q.lane) st.follows.are_judged);
+      are_judged = subst (λ (x : List Element). AreJudged site (caller_at new.lane.client.address past) x st.follows.judged) (sym same_history)
+          (subst (λ (l : LaneValue). AreJudged site (caller_at l.client.address past) (history_of es) st.follows.judged) (sym q.lane) st.follows.are_judged);
       is_cut = st.follows.is_cut;
-      are_rests = subst (λ (x : List Element). AreRests asset.protocol x (rests_of new) None) (sym same_history)
-          (subst (λ (r : Rests). AreRests asset.protocol (history_of es) r None) (sym q.rests) st.follows.are_rests);
+      are_rests = subst (λ (x : List Element). AreRests site.first.protocol x (rests_of new) None) (sym same_history)
+          (subst (λ (r : Rests). AreRests site.first.protocol (history_of es) r None) (sym q.rests) st.follows.are_rests);
       knows = record {
         admitted = ap (λ (l : LaneValue). l.admitted) q.lane ∙ st.follows.knows.admitted;
         refused = ap (λ (l : LaneValue). l.refused) q.lane ∙ st.follows.knows.refused;
         client_ended = q.ended side.Client ∙ st.follows.knows.client_ended;
         controller_ended = q.ended side.Controller ∙ st.follows.knows.controller_ended;
-        rules = subst (λ (l : LaneValue). KnowsRules past l.rules st.follows.judged) (sym q.lane) st.follows.knows.rules;
-        wire = λ uncut. subst (λ (l : LaneValue). KnowsWire asset l.wire st.follows.judged) (sym q.lane) (st.follows.knows.wire uncut);
+        rules = subst (λ (l : LaneValue). KnowsRules site past l.rules st.follows.judged) (sym q.lane) st.follows.knows.rules;
+        wire = λ uncut. subst (λ (l : LaneValue). KnowsWire site l.wire st.follows.judged) (sym q.lane) (st.follows.knows.wire uncut);
       };
-      client_stream = q.stands side.Client (stream_to asset side.Client st.follows.judged) st.follows.client_stream;
-      controller_stream = q.stands side.Controller (stream_to asset side.Controller st.follows.judged) st.follows.controller_stream;
-      of_lines = q.same_log ∙ st.follows.of_lines ∙ ap (λ (l : LaneValue). with_lines first (lines asset l.client [] st.follows.judged)) (sym q.lane);
+      client_stream = q.stands side.Client (stream_to site side.Client st.follows.judged) st.follows.client_stream;
+      controller_stream = q.stands side.Controller (stream_to site side.Controller st.follows.judged) st.follows.controller_stream;
+      of_lines = q.same_log ∙ st.follows.of_lines ∙ ap (λ (l : LaneValue). with_lines first (lines site l.client [] st.follows.judged)) (sym q.lane);
     },
     refl,
   )
@@ -101,11 +101,11 @@ module _ (asset : Asset) (past : RateMoments) (first : Option (List (List ℕ)))
   done_still t (inl was) = (none_front (queue_to t old).kept (given t xs) (queue_to t new).kept (st.done t was).0 (q.kept t), q.ended t ∙ (st.done t was).1)
   done_still t (inr now) = now
 
-  pub stands_silent : StandsFor asset past first (es ++ xs) new log'
+  pub stands_silent : StandsFor site past first (es ++ xs) new log'
   unfolding follows_here
   stands_silent = record {
     follows = follows_here.0;
-    uncut = ap (λ h. limit_cut LETTER_LIMIT h (stream_to asset side.Client st.follows.judged) (stream_to asset side.Controller st.follows.judged)) same_history ∙ st.uncut;
+    uncut = ap (λ h. limit_cut LETTER_LIMIT h (stream_to site side.Client st.follows.judged) (stream_to site side.Controller st.follows.judged)) same_history ∙ st.uncut;
     client = ap (λ (l : LaneValue). l.client) q.lane ∙ st.client ∙ sym same_client;
     acked = λ t. q.acked t ∙ ap (λ n. n + length (given t xs)) (st.acked t) ∙ sym (length-append (given t es) (given t xs)) ∙ ap length (sym (given_more t es xs));
     front = λ t. st.front t ∙ ap (λ k. given t es ++ k) (q.kept t) ∙ sym (append_assoc (given t es) (given t xs) (queue_to t new).kept) ∙ ap (λ k. k ++ (queue_to t new).kept) (sym (given_more t es xs));
@@ -151,12 +151,12 @@ both_sides P side.Client p q side.Controller = q
 both_sides P side.Controller p q side.Client = q
 both_sides P side.Controller p q side.Controller = p
 
-pub goes_on_outputs : (asset : Asset) (client : Endpoint) (js ks : List Judged) → GoOn asset client js ks → (t : Side) → (more : List ℕ) × (outputs asset t [] ks ≡ outputs asset t [] js ++ more)
-goes_on_outputs asset client js ks g side.Client = (_, g.to_client)
-goes_on_outputs asset client js ks g side.Controller = (_, g.to_controller)
+pub goes_on_outputs : (site : SiteValue) (client : Endpoint) (js ks : List Judged) → GoOn site client js ks → (t : Side) → (more : List ℕ) × (outputs site t [] ks ≡ outputs site t [] js ++ more)
+goes_on_outputs site client js ks g side.Client = (_, g.to_client)
+goes_on_outputs site client js ks g side.Controller = (_, g.to_controller)
 
-module _ (law : StreamsGoOn) (asset : Asset) (past : RateMoments) (first : Option (List (List ℕ))) (es : List Entry) (s : Side) (answer : Entry) (taken_is : IsTakeAnswer s answer)
-    (old : RelayingValue) (own log : Option (List (List ℕ))) (st : StandsFor asset past first es old own) where
+module _ (law : StreamsGoOn) (site : SiteValue) (past : RateMoments) (first : Option (List (List ℕ))) (es : List Entry) (s : Side) (answer : Entry) (taken_is : IsTakeAnswer s answer)
+    (old : RelayingValue) (own log : Option (List (List ℕ))) (st : StandsFor site past first es old own) where
   one_history : history_of (es ++ answer ∷ []) ≡ history_of es ++ element_of (moment_of es) answer
   one_history = history_more [] es (answer ∷ []) ∙ ap (λ x. history_of es ++ x) (append-nil (element_of (moment_of es) answer))
 
@@ -176,27 +176,27 @@ module _ (law : StreamsGoOn) (asset : Asset) (past : RateMoments) (first : Optio
   one_finished t = closes_more t es (answer ∷ []) ∙ ap (λ b. is_finished t es || (b || false)) (closes_none s t answer taken_is) ∙ or-false (is_finished t es)
 
   -- each later list of items puts out what was given first
-  later_prefix : (client : Endpoint) (more : List Element) (ks : List Judged) → client ≡ client_of es → AreJudged asset (caller_at client.address past) (history_of es ++ more) ks →
-      (t : Side) → (rest : List ℕ) × (outputs asset t [] ks ≡ given t (es ++ answer ∷ []) ++ rest)
+  later_prefix : (client : Endpoint) (more : List Element) (ks : List Judged) → client ≡ client_of es → AreJudged site (caller_at client.address past) (history_of es ++ more) ks →
+      (t : Side) → (rest : List ℕ) × (outputs site t [] ks ≡ given t (es ++ answer ∷ []) ++ rest)
   later_prefix client more ks is are t =
-      let here : AreJudged asset (caller_at (client_of es).address past) (history_of es) st.follows.judged = subst (λ (c : Endpoint). AreJudged asset (caller_at c.address past) (history_of es) st.follows.judged) st.client st.follows.are_judged in
-      let there : AreJudged asset (caller_at (client_of es).address past) (history_of es ++ more) ks = subst (λ (c : Endpoint). AreJudged asset (caller_at c.address past) (history_of es ++ more) ks) is are in
-      let g = goes_on_outputs asset (client_of es) st.follows.judged ks (law asset past (client_of es) (history_of es) more st.follows.judged ks here there) t in
+      let here : AreJudged site (caller_at (client_of es).address past) (history_of es) st.follows.judged = subst (λ (c : Endpoint). AreJudged site (caller_at c.address past) (history_of es) st.follows.judged) st.client st.follows.are_judged in
+      let there : AreJudged site (caller_at (client_of es).address past) (history_of es ++ more) ks = subst (λ (c : Endpoint). AreJudged site (caller_at c.address past) (history_of es ++ more) ks) is are in
+      let g = goes_on_outputs site (client_of es) st.follows.judged ks (law site past (client_of es) (history_of es) more st.follows.judged ks here there) t in
       ((queue_to t old).kept ++ g.0, g.1 ∙ ap (λ xs. xs ++ g.0) (st.front t) ∙ append_assoc (given t es) (queue_to t old).kept g.0 ∙ ap (λ xs. xs ++ ((queue_to t old).kept ++ g.0)) (sym (one_given t)))
 
-  missed_at : (h : List Element) (more : List Element) (lines : Option (List (List ℕ))) (part : List ℕ) → h ≡ history_of es ++ more → IsCutShort h (history_of (es ++ answer ∷ [])) → Began asset past old.lane.client h first lines part →
-      StandsMissed asset past first (es ++ answer ∷ []) lines part
+  missed_at : (h : List Element) (more : List Element) (lines : Option (List (List ℕ))) (part : List ℕ) → h ≡ history_of es ++ more → IsCutShort h (history_of (es ++ answer ∷ [])) → Began site past old.lane.client h first lines part →
+      StandsMissed site past first (es ++ answer ∷ []) lines part
   missed_at h more lines part e short began =
-      let here : Began asset past (client_of (es ++ answer ∷ [])) h first lines part = subst (λ c. Began asset past c h first lines part) (st.client ∙ sym one_client) began in
+      let here : Began site past (client_of (es ++ answer ∷ [])) h first lines part = subst (λ c. Began site past c h first lines part) (st.client ∙ sym one_client) began in
       record {
         history = h;
         is_short = short;
         began = here;
-        prefixes = later_prefix (client_of (es ++ answer ∷ [])) more here.judged one_client (subst (λ x. AreJudged asset (caller_at (client_of (es ++ answer ∷ [])).address past) x here.judged) e here.are_judged);
+        prefixes = later_prefix (client_of (es ++ answer ∷ [])) more here.judged one_client (subst (λ x. AreJudged site (caller_at (client_of (es ++ answer ∷ [])).address past) x here.judged) e here.are_judged);
       }
 
   -- a line failed
-  pub stands_missed : (desk : DeskValue) → MissesLine asset old.moment s answer (rest_of s (rests_of old)) (lane_state old log) desk → Apart own log desk.lines (λ lines. StandsMissed asset past first (es ++ answer ∷ []) lines desk.line_part)
+  pub stands_missed : (desk : DeskValue) → MissesLine site old.moment s answer (rest_of s (rests_of old)) (lane_state old log) desk → Apart own log desk.lines (λ lines. StandsMissed site past first (es ++ answer ∷ []) lines desk.line_part)
   stands_missed desk (inl (bytes, is, misses)) =
       let b = misses past (history_of es) (rests_of old) first own refl st.follows in
       let w = b.began in
@@ -226,42 +226,42 @@ module _ (law : StreamsGoOn) (asset : Asset) (past : RateMoments) (first : Optio
       }
 
   module _ (new : RelayingValue) (log' : Option (List (List ℕ))) (cut : Option CutReason) (to : TakesTo s old new)
-      (hears : Takes asset s (element_of old.moment answer) cut (rest_of s (rests_of old)) (rest_of s (rests_of new)) (lane_state old log) (lane_state new log')) where
-    pub adds_left : AddsTo asset past (history_of es ++ element_of old.moment answer) (with_rest s (rests_of old) (rest_of s (rests_of new))) cut first own log (lane_state new log')
+      (hears : Takes site s (element_of old.moment answer) cut (rest_of s (rests_of old)) (rest_of s (rests_of new)) (lane_state old log) (lane_state new log')) where
+    pub adds_left : AddsTo site past (history_of es ++ element_of old.moment answer) (with_rest s (rests_of old) (rest_of s (rests_of new))) cut first own log (lane_state new log')
     adds_left = hears.follows past (history_of es) (rests_of old) first own refl st.follows
 
     -- its own log with the lines that were added
     abbrev pub own_left : Option (List (List ℕ))
     own_left = with_lines own adds_left.more
 
-    pub follows_left : Follows asset past (history_of es ++ element_of old.moment answer) (with_rest s (rests_of old) (rest_of s (rests_of new))) cut first (lane_state new own_left)
+    pub follows_left : Follows site past (history_of es ++ element_of old.moment answer) (with_rest s (rests_of old) (rest_of s (rests_of new))) cut first (lane_state new own_left)
     follows_left = adds_left.follows
 
     pub left_apart : (A : Option (List (List ℕ)) → Type 0) → A own_left → Apart own log log' A
     left_apart A a = record { more = adds_left.more; added = adds_left.added; stands = a }
 
     -- cut by an item, or by the limit after it
-    pub stands_cut : (reason : CutReason) → ((js : List Judged) → cut_of js ≡ cut → IsQueueOf new.to_client (stream_to asset side.Client js) → IsQueueOf new.to_controller (stream_to asset side.Controller js) →
-        cut_at asset (es ++ answer ∷ []) js ≡ Some reason) → StandsCut asset past first (es ++ answer ∷ []) new own_left reason
+    pub stands_cut : (reason : CutReason) → ((js : List Judged) → cut_of js ≡ cut → IsQueueOf new.to_client (stream_to site side.Client js) → IsQueueOf new.to_controller (stream_to site side.Controller js) →
+        cut_at site (es ++ answer ∷ []) js ≡ Some reason) → StandsCut site past first (es ++ answer ∷ []) new own_left reason
     stands_cut reason is_cut =
         let f = follows_left in
         let client : new.lane.client ≡ client_of (es ++ answer ∷ []) = hears.client ∙ st.client ∙ sym one_client in
-        let are : AreJudged asset (caller_at new.lane.client.address past) (history_of (es ++ answer ∷ [])) f.judged = subst (λ x. AreJudged asset (caller_at new.lane.client.address past) x f.judged) history_is f.are_judged in
+        let are : AreJudged site (caller_at new.lane.client.address past) (history_of (es ++ answer ∷ [])) f.judged = subst (λ x. AreJudged site (caller_at new.lane.client.address past) x f.judged) history_is f.are_judged in
         record {
           judged = f.judged;
-          are_items = subst (λ (c : Endpoint). AreJudged asset (caller_at c.address past) (history_of (es ++ answer ∷ [])) f.judged) client are;
+          are_items = subst (λ (c : Endpoint). AreJudged site (caller_at c.address past) (history_of (es ++ answer ∷ [])) f.judged) client are;
           is_cut = is_cut f.judged f.is_cut f.client_stream f.controller_stream;
           prefixes = later_prefix new.lane.client (element_of old.moment answer) f.judged (hears.client ∙ st.client) f.are_judged;
           counts = record { admitted = f.knows.admitted; refused = f.knows.refused };
           rules = f.knows.rules;
-          of_lines = f.of_lines ∙ ap (λ c. with_lines first (lines asset c [] f.judged)) client;
+          of_lines = f.of_lines ∙ ap (λ c. with_lines first (lines site c [] f.judged)) client;
           client = client;
           moment = to.moment ∙ st.moment ∙ sym one_moment;
         }
 
   module _ (new : RelayingValue) (log' : Option (List (List ℕ))) (to : TakesTo s old new) (going : ended_of s (history_of es) ≡ false)
       (letters : letters_from s new ≡ letters_from s old + letters_brought old.moment s answer) (idle : new.idle ≡ idles_after old.idle (answer ∷ []))
-      (hears : Takes asset s (element_of old.moment answer) None (rest_of s (rests_of old)) (rest_of s (rests_of new)) (lane_state old log) (lane_state new log')) where
+      (hears : Takes site s (element_of old.moment answer) None (rest_of s (rests_of old)) (rest_of s (rests_of new)) (lane_state old log) (lane_state new log')) where
     letters_own : letters_from s new ≡ letter_count (taken s (history_of (es ++ answer ∷ [])))
     letters_own =
         letters ∙ ap (λ n. n + letters_brought old.moment s answer) (st.letters s) ∙ sym (letters_more s (history_of es) (element_of old.moment answer) going) ∙ ap (λ h. letter_count (taken s h)) history_is
@@ -278,10 +278,10 @@ module _ (law : StreamsGoOn) (asset : Asset) (past : RateMoments) (first : Optio
     abbrev pub own_new : Option (List (List ℕ))
     own_new = own_left new log' None to hears
 
-    follows_new : (f : Follows asset past (history_of (es ++ answer ∷ [])) (rests_of new) None first (lane_state new own_new))
+    follows_new : (f : Follows site past (history_of (es ++ answer ∷ [])) (rests_of new) None first (lane_state new own_new))
         × (f.judged ≡ (follows_left new log' None to hears).judged)
     follows_new =
-        follows_at asset past _ (history_of (es ++ answer ∷ [])) _ (rests_of new) None first (lane_state new own_new) history_is
+        follows_at site past _ (history_of (es ++ answer ∷ [])) _ (rests_of new) None first (lane_state new own_new) history_is
         (rests_with s old new to.other_rest) (follows_left new log' None to hears)
 
     ended_here : (t : Side) → (queue_to t new).ended ≡ ended_of (other t) (history_of (es ++ answer ∷ []))
@@ -296,12 +296,12 @@ module _ (law : StreamsGoOn) (asset : Asset) (past : RateMoments) (first : Optio
     acked_here side.Client = hears.to_client.acked
     acked_here side.Controller = hears.to_controller.acked
 
-    go_on : GoOn asset old.lane.client st.follows.judged (follows_left new log' None to hears).judged
+    go_on : GoOn site old.lane.client st.follows.judged (follows_left new log' None to hears).judged
     go_on =
-        law asset past old.lane.client (history_of es) (element_of old.moment answer) st.follows.judged (follows_left new log' None to hears).judged st.follows.are_judged
-        (subst (λ (c : Endpoint). AreJudged asset (caller_at c.address past) (history_of es ++ element_of old.moment answer) (follows_left new log' None to hears).judged) hears.client (follows_left new log' None to hears).are_judged)
+        law site past old.lane.client (history_of es) (element_of old.moment answer) st.follows.judged (follows_left new log' None to hears).judged st.follows.are_judged
+        (subst (λ (c : Endpoint). AreJudged site (caller_at c.address past) (history_of es ++ element_of old.moment answer) (follows_left new log' None to hears).judged) hears.client (follows_left new log' None to hears).are_judged)
 
-    front_here : (t : Side) → outputs asset t [] (follows_left new log' None to hears).judged ≡ given t es ++ (queue_to t new).kept
+    front_here : (t : Side) → outputs site t [] (follows_left new log' None to hears).judged ≡ given t es ++ (queue_to t new).kept
     front_here side.Client =
         front_more _ _ _ _ _ _ _ (acked_here side.Client ∙ st.acked side.Client) (st.front side.Client) go_on.to_client (follows_left new log' None to hears).client_stream.kept
     front_here side.Controller =
@@ -309,8 +309,8 @@ module _ (law : StreamsGoOn) (asset : Asset) (past : RateMoments) (first : Optio
 
     -- the limit by the numbers that are kept
     limit_here : limit_by LETTER_LIMIT new.client_letters new.controller_letters (queue_length new.to_client) (queue_length new.to_controller)
-        ≡ limit_cut LETTER_LIMIT (history_of (es ++ answer ∷ [])) (stream_to asset side.Client (follows_left new log' None to hears).judged) (stream_to asset side.Controller (follows_left new log' None to hears).judged)
-    limit_here = limit_is LETTER_LIMIT asset (history_of (es ++ answer ∷ [])) (follows_left new log' None to hears).judged _ _ new.to_client new.to_controller (letters_here side.Client) (letters_here side.Controller)
+        ≡ limit_cut LETTER_LIMIT (history_of (es ++ answer ∷ [])) (stream_to site side.Client (follows_left new log' None to hears).judged) (stream_to site side.Controller (follows_left new log' None to hears).judged)
+    limit_here = limit_is LETTER_LIMIT site (history_of (es ++ answer ∷ [])) (follows_left new log' None to hears).judged _ _ new.to_client new.to_controller (letters_here side.Client) (letters_here side.Controller)
         (follows_left new log' None to hears).client_stream (follows_left new log' None to hears).controller_stream
 
     ended_kept : (t : Side) → (queue_to t old).ended ≡ true → (queue_to t new).ended ≡ true
@@ -326,21 +326,21 @@ module _ (law : StreamsGoOn) (asset : Asset) (past : RateMoments) (first : Optio
     nothing_came t is = came_none (λ u. bytes_of u (element_of old.moment answer) ≡ []) s t (other_bytes old.moment s answer taken_is) (λ e. absurd (not_both (ended_of s (history_of es)) going (ap (λ u. ended_of u (history_of es)) (sym e) ∙ sym (st.ended t) ∙ is)))
 
     -- a queue with its End gets nothing
-    outputs_still : (quiet : QuietBehindEnd) (t : Side) → (queue_to t old).ended ≡ true → outputs asset t st.follows.judged go_on.ms ≡ []
+    outputs_still : (quiet : QuietBehindEnd) (t : Side) → (queue_to t old).ended ≡ true → outputs site t st.follows.judged go_on.ms ≡ []
     outputs_still quiet t is =
-        quiet asset (caller_at old.lane.client.address past) (history_of es) (element_of old.moment answer) st.follows.judged go_on.ms t st.follows.are_judged
-        (subst (λ js. AreJudged asset (caller_at old.lane.client.address past) (history_of es ++ element_of old.moment answer) js) go_on.all
-        (subst (λ (c : Endpoint). AreJudged asset (caller_at c.address past) (history_of es ++ element_of old.moment answer) (follows_left new log' None to hears).judged) hears.client (follows_left new log' None to hears).are_judged))
+        quiet site (caller_at old.lane.client.address past) (history_of es) (element_of old.moment answer) st.follows.judged go_on.ms t st.follows.are_judged
+        (subst (λ js. AreJudged site (caller_at old.lane.client.address past) (history_of es ++ element_of old.moment answer) js) go_on.all
+        (subst (λ (c : Endpoint). AreJudged site (caller_at c.address past) (history_of es ++ element_of old.moment answer) (follows_left new log' None to hears).judged) hears.client (follows_left new log' None to hears).are_judged))
         (has_end t is) (nothing_came t is)
 
-    outputs_more : (t : Side) → outputs asset t [] (follows_left new log' None to hears).judged ≡ outputs asset t [] st.follows.judged ++ outputs asset t st.follows.judged go_on.ms
+    outputs_more : (t : Side) → outputs site t [] (follows_left new log' None to hears).judged ≡ outputs site t [] st.follows.judged ++ outputs site t st.follows.judged go_on.ms
     outputs_more side.Client = go_on.to_client
     outputs_more side.Controller = go_on.to_controller
 
     kept_none : (quiet : QuietBehindEnd) (t : Side) → (queue_to t old).kept ≡ [] → (queue_to t old).ended ≡ true → (queue_to t new).kept ≡ []
     kept_none quiet t none is =
         append_cancel_left (given t es) (queue_to t new).kept []
-        (sym (front_here t) ∙ outputs_more t ∙ ap (λ xs. outputs asset t [] st.follows.judged ++ xs) (outputs_still quiet t is) ∙ append-nil (outputs asset t [] st.follows.judged)
+        (sym (front_here t) ∙ outputs_more t ∙ ap (λ xs. outputs site t [] st.follows.judged ++ xs) (outputs_still quiet t is) ∙ append-nil (outputs site t [] st.follows.judged)
         ∙ st.front t ∙ ap (λ xs. given t es ++ xs) none)
 
     done_heard : (quiet : QuietBehindEnd) (t : Side) → is_closed t new ≡ true → ((queue_to t new).kept ≡ []) × ((queue_to t new).ended ≡ true)
@@ -349,15 +349,15 @@ module _ (law : StreamsGoOn) (asset : Asset) (past : RateMoments) (first : Optio
         (kept_none quiet t was.0 was.1, ended_kept t was.1)
 
     pub stands_heard : QuietBehindEnd → limit_by LETTER_LIMIT new.client_letters new.controller_letters (queue_length new.to_client) (queue_length new.to_controller) ≡ None →
-        StandsFor asset past first (es ++ answer ∷ []) new own_new
+        StandsFor site past first (es ++ answer ∷ []) new own_new
     stands_heard quiet short =
         let f = follows_new in
         record {
           follows = f.0;
-          uncut = ap (λ js. limit_cut LETTER_LIMIT (history_of (es ++ answer ∷ [])) (stream_to asset side.Client js) (stream_to asset side.Controller js)) f.1 ∙ sym limit_here ∙ short;
+          uncut = ap (λ js. limit_cut LETTER_LIMIT (history_of (es ++ answer ∷ [])) (stream_to site side.Client js) (stream_to site side.Controller js)) f.1 ∙ sym limit_here ∙ short;
           client = hears.client ∙ st.client ∙ sym one_client;
           acked = λ t. acked_here t ∙ st.acked t ∙ ap length (sym (one_given t));
-          front = λ t. ap (outputs asset t []) f.1 ∙ front_here t ∙ ap (λ g. g ++ (queue_to t new).kept) (sym (one_given t));
+          front = λ t. ap (outputs site t []) f.1 ∙ front_here t ∙ ap (λ g. g ++ (queue_to t new).kept) (sym (one_given t));
           ended = ended_here;
           letters = letters_here;
           closed = λ t. to.closed t ∙ st.closed t ∙ sym (one_finished t);
@@ -368,8 +368,8 @@ module _ (law : StreamsGoOn) (asset : Asset) (past : RateMoments) (first : Optio
 
     -- the limit cuts
     pub stands_full : (reason : CutReason) → limit_by LETTER_LIMIT new.client_letters new.controller_letters (queue_length new.to_client) (queue_length new.to_controller) ≡ Some reason →
-        StandsCut asset past first (es ++ answer ∷ []) new own_new reason
+        StandsCut site past first (es ++ answer ∷ []) new own_new reason
     stands_full reason full =
         stands_cut new log' None to hears reason (λ js none qc qk.
-        ap (λ c. option_or c (limit_cut LETTER_LIMIT (history_of (es ++ answer ∷ [])) (stream_to asset side.Client js) (stream_to asset side.Controller js))) none
-        ∙ sym (limit_is LETTER_LIMIT asset (history_of (es ++ answer ∷ [])) js _ _ new.to_client new.to_controller (letters_here side.Client) (letters_here side.Controller) qc qk) ∙ full)
+        ap (λ c. option_or c (limit_cut LETTER_LIMIT (history_of (es ++ answer ∷ [])) (stream_to site side.Client js) (stream_to site side.Controller js))) none
+        ∙ sym (limit_is LETTER_LIMIT site (history_of (es ++ answer ∷ [])) js _ _ new.to_client new.to_controller (letters_here side.Client) (letters_here side.Controller) qc qk) ∙ full)

@@ -14,7 +14,7 @@ use Rattle.cf_lane.specs.Output.{other, outputs}
 use Rattle.cf_lane.specs.declared.limit.TheConstants.{LETTER_LIMIT}
 use Rattle.cf_outq.specs.SendQueue.{IsQueueOf, Queue, empty}
 use Rattle.cf_outside.specs.Pair.{Entry, Moment, met_at}
-use Rattle.cf_policy.specs.declared.Asset.{Asset}
+use Rattle.cf_policy.specs.Site.{SiteValue}
 use Rattle.cf_stream.specs.Stream.{letter_count, no_letters}
 use Rattle.cf_view.specs.declared.Endpoint.{Endpoint}
 use Rattle.cf_view.specs.declared.Side.{Side}
@@ -43,67 +43,67 @@ some_idle idle most h = omega (arith, h)
 
 -- ---- the beginning
 
-pub empty_judged : (asset : Asset) (client : Caller) → AreJudged asset client [] []
-empty_judged asset client = record { items = []; are_items = refl; dropped = []; are_first = refl; goes_on = refl; fates = tt }
+pub empty_judged : (site : SiteValue) (client : Caller) → AreJudged site client [] []
+empty_judged site client = record { items = []; are_items = refl; dropped = []; are_first = refl; goes_on = refl; fates = tt }
 
-module _ (asset : Asset) (past : RateMoments) (listen most : ℕ) (few : 0 < most) where
-  pub goes_first : IsUnstopped asset past most []
-  goes_first = record { judged = []; are_items = empty_judged asset (caller_at 0 past); uncut = refl; idle = few }
+module _ (site : SiteValue) (past : RateMoments) (listen most : ℕ) (few : 0 < most) where
+  pub goes_first : IsUnstopped site past most []
+  goes_first = record { judged = []; are_items = empty_judged site (caller_at 0 past); uncut = refl; idle = few }
 
-  pub goes_met : (client : Endpoint) → IsUnstopped asset past most (met_at listen asset.endpoint client ∷ [])
-  goes_met client = record { judged = []; are_items = empty_judged asset (caller_at client.address past); uncut = refl; idle = few }
+  pub goes_met : (client : Endpoint) → IsUnstopped site past most (met_at listen site.first.endpoint client ∷ [])
+  goes_met client = record { judged = []; are_items = empty_judged site (caller_at client.address past); uncut = refl; idle = few }
 
-  pub start_does : (client : Endpoint) (m : ℕ) → DoesStages asset past most (Meeting listen ∷ Telling ∷ []) [] (met_at listen asset.endpoint client ∷ Moment m ∷ [])
-  start_does client m = (met_at listen asset.endpoint client ∷ [], Moment m ∷ [], refl, (goes_first, (client, refl)), (Moment m ∷ [], [], refl, (goes_met client, (refl, (m, refl))), refl))
+  pub start_does : (client : Endpoint) (m : ℕ) → DoesStages site past most (Meeting listen ∷ Telling ∷ []) [] (met_at listen site.first.endpoint client ∷ Moment m ∷ [])
+  start_does client m = (met_at listen site.first.endpoint client ∷ [], Moment m ∷ [], refl, (goes_first, (client, refl)), (Moment m ∷ [], [], refl, (goes_met client, (refl, (m, refl))), refl))
 
-  pub relayed_none : (dirs : Directions) → IsRelayed dirs asset past listen most []
-  relayed_none dirs = (0, breaks_nothing asset past most (stages dirs listen 0) [])
+  pub relayed_none : (dirs : Directions) → IsRelayed dirs site past listen most []
+  relayed_none dirs = (0, breaks_nothing site past most (stages dirs listen 0) [])
 
-  pub relayed_met : (dirs : Directions) (client : Endpoint) → IsRelayed dirs asset past listen most (met_at listen asset.endpoint client ∷ [])
-  relayed_met dirs client = (0, inr (met_at listen asset.endpoint client ∷ [], [], refl, (goes_first, (client, refl)), breaks_nothing asset past most (Telling ∷ []) (met_at listen asset.endpoint client ∷ [])))
+  pub relayed_met : (dirs : Directions) (client : Endpoint) → IsRelayed dirs site past listen most (met_at listen site.first.endpoint client ∷ [])
+  relayed_met dirs client = (0, inr (met_at listen site.first.endpoint client ∷ [], [], refl, (goes_first, (client, refl)), breaks_nothing site past most (Telling ∷ []) (met_at listen site.first.endpoint client ∷ [])))
 
-  pub relayed_told : (dirs : Directions) (client : Endpoint) (m : ℕ) → IsRelayed dirs asset past listen most (met_at listen asset.endpoint client ∷ Moment m ∷ [])
-  relayed_told dirs client m = (0, does_broken asset past most (Meeting listen ∷ Telling ∷ []) [] [] (met_at listen asset.endpoint client ∷ Moment m ∷ []) [] (start_does client m) refl)
+  pub relayed_told : (dirs : Directions) (client : Endpoint) (m : ℕ) → IsRelayed dirs site past listen most (met_at listen site.first.endpoint client ∷ Moment m ∷ [])
+  relayed_told dirs client m = (0, does_broken site past most (Meeting listen ∷ Telling ∷ []) [] [] (met_at listen site.first.endpoint client ∷ Moment m ∷ []) [] (start_does client m) refl)
 
 -- ---- the ends before the first turn
 
-no_prefixes : (asset : Asset) (es : List Entry) → ((s : Side) → given s es ≡ []) → GivenPrefixes asset es []
-no_prefixes asset es none s = ([], sym (append-nil (given s es) ∙ none s))
+no_prefixes : (site : SiteValue) (es : List Entry) → ((s : Side) → given s es ≡ []) → GivenPrefixes site es []
+no_prefixes site es none s = ([], sym (append-nil (given s es) ∙ none s))
 
-module _ (dirs : Directions) (asset : Asset) (past : RateMoments) (listen most : ℕ) (few : 0 < most) (log : LogContents) where
+module _ (dirs : Directions) (site : SiteValue) (past : RateMoments) (listen most : ℕ) (few : 0 < most) (log : LogContents) where
   -- no client was met
-  pub link_first : log.Holds [] → IsLinkEnd dirs asset past listen most log []
+  pub link_first : log.Holds [] → IsLinkEnd dirs site past listen most log []
   unfolding goes_first
   link_first none = record {
-    relayed = relayed_none asset past listen most few dirs;
-    goes = goes_first asset past listen most few;
-    prefixes = no_prefixes asset [] (λ s. refl);
+    relayed = relayed_none site past listen most few dirs;
+    goes = goes_first site past listen most few;
+    prefixes = no_prefixes site [] (λ s. refl);
     holds_log = none;
   }
 
   -- no moment was told
-  pub link_met : (client : Endpoint) → log.Holds [] → IsLinkEnd dirs asset past listen most log (met_at listen asset.endpoint client ∷ [])
+  pub link_met : (client : Endpoint) → log.Holds [] → IsLinkEnd dirs site past listen most log (met_at listen site.first.endpoint client ∷ [])
   unfolding goes_met
   link_met client none = record {
-    relayed = relayed_met asset past listen most few dirs client;
-    goes = goes_met asset past listen most few client;
-    prefixes = no_prefixes asset (met_at listen asset.endpoint client ∷ []) (λ s. refl);
+    relayed = relayed_met site past listen most few dirs client;
+    goes = goes_met site past listen most few client;
+    prefixes = no_prefixes site (met_at listen site.first.endpoint client ∷ []) (λ s. refl);
     holds_log = none;
   }
 
   -- the line of the beginning failed
-  pub write_told : (client : Endpoint) (m : ℕ) (base all : Option (List (List ℕ))) (part : List ℕ) → MayHaveMore (line_about asset client m Begun ∷ []) base all part →
-      ((ls : List (List ℕ)) → BeginsLines base all part ls → log.Begins ls) → IsWriteEnd dirs asset past listen most log (met_at listen asset.endpoint client ∷ Moment m ∷ [])
+  pub write_told : (client : Endpoint) (m : ℕ) (base all : Option (List (List ℕ))) (part : List ℕ) → MayHaveMore (line_about site.first client m Begun ∷ []) base all part →
+      ((ls : List (List ℕ)) → BeginsLines base all part ls → log.Begins ls) → IsWriteEnd dirs site past listen most log (met_at listen site.first.endpoint client ∷ Moment m ∷ [])
   write_told client m base all part may begins = record {
-    relayed = relayed_told asset past listen most few dirs client m;
+    relayed = relayed_told site past listen most few dirs client m;
     history = [];
     is_short = inl refl;
     judged = [];
-    are_judged = empty_judged asset (caller_at client.address past);
-    prefixes = no_prefixes asset (met_at listen asset.endpoint client ∷ Moment m ∷ []) (λ s. refl);
+    are_judged = empty_judged site (caller_at client.address past);
+    prefixes = no_prefixes site (met_at listen site.first.endpoint client ∷ Moment m ∷ []) (λ s. refl);
     last = [];
     is_last = inl refl;
-    begins = begins _ (begins_last base all part [] (line_about asset client m Begun) (subst (λ x. MayHaveMore (line_about asset client m Begun ∷ []) x all part) (lines_none base) may));
+    begins = begins _ (begins_last base all part [] (line_about site.first client m Begun) (subst (λ x. MayHaveMore (line_about site.first client m Begun ∷ []) x all part) (lines_none base) may));
   }
 
 -- ---- the beginning of the turns
@@ -111,29 +111,29 @@ module _ (dirs : Directions) (asset : Asset) (past : RateMoments) (listen most :
 empty_stands : IsQueueOf empty no_letters
 empty_stands = record { ended = refl; pushed = refl; kept = refl; acked = omega arith; sent = omega arith; shown = omega arith }
 
-first_by : (asset : Asset) (past : RateMoments) (listen : ℕ) (client : Endpoint) (m : ℕ) (first : Option (List (List ℕ))) (lane : LaneValue) → lane.client ≡ client → Follows asset past [] no_rests None first (state lane empty empty first) →
-    StandsFor asset past first (met_at listen asset.endpoint client ∷ Moment m ∷ []) (begun_value lane m) first
-first_by asset past listen client m first lane is f = record {
+first_by : (site : SiteValue) (past : RateMoments) (listen : ℕ) (client : Endpoint) (m : ℕ) (first : Option (List (List ℕ))) (lane : LaneValue) → lane.client ≡ client → Follows site past [] no_rests None first (state lane empty empty first) →
+    StandsFor site past first (met_at listen site.first.endpoint client ∷ Moment m ∷ []) (begun_value lane m) first
+first_by site past listen client m first lane is f = record {
   follows = f;
-  uncut = sym (limit_is LETTER_LIMIT asset [] f.judged 0 0 empty empty refl refl f.client_stream f.controller_stream);
+  uncut = sym (limit_is LETTER_LIMIT site [] f.judged 0 0 empty empty refl refl f.client_stream f.controller_stream);
   client = is;
-  acked = by_side (λ s. (queue_to s (begun_value lane m)).acked ≡ length (given s (met_at listen asset.endpoint client ∷ Moment m ∷ []))) refl refl;
-  front = by_side (λ s. outputs asset s [] f.judged ≡ given s (met_at listen asset.endpoint client ∷ Moment m ∷ []) ++ (queue_to s (begun_value lane m)).kept) (sym f.client_stream.kept) (sym f.controller_stream.kept);
-  ended = by_side (λ s. (queue_to s (begun_value lane m)).ended ≡ ended_of (other s) (history_of (met_at listen asset.endpoint client ∷ Moment m ∷ []))) refl refl;
-  letters = by_side (λ s. letters_from s (begun_value lane m) ≡ letter_count (taken s (history_of (met_at listen asset.endpoint client ∷ Moment m ∷ [])))) refl refl;
-  closed = by_side (λ s. is_closed s (begun_value lane m) ≡ is_finished s (met_at listen asset.endpoint client ∷ Moment m ∷ [])) refl refl;
+  acked = by_side (λ s. (queue_to s (begun_value lane m)).acked ≡ length (given s (met_at listen site.first.endpoint client ∷ Moment m ∷ []))) refl refl;
+  front = by_side (λ s. outputs site s [] f.judged ≡ given s (met_at listen site.first.endpoint client ∷ Moment m ∷ []) ++ (queue_to s (begun_value lane m)).kept) (sym f.client_stream.kept) (sym f.controller_stream.kept);
+  ended = by_side (λ s. (queue_to s (begun_value lane m)).ended ≡ ended_of (other s) (history_of (met_at listen site.first.endpoint client ∷ Moment m ∷ []))) refl refl;
+  letters = by_side (λ s. letters_from s (begun_value lane m) ≡ letter_count (taken s (history_of (met_at listen site.first.endpoint client ∷ Moment m ∷ [])))) refl refl;
+  closed = by_side (λ s. is_closed s (begun_value lane m) ≡ is_finished s (met_at listen site.first.endpoint client ∷ Moment m ∷ [])) refl refl;
   done = by_side (λ s. is_closed s (begun_value lane m) ≡ true → ((queue_to s (begun_value lane m)).kept ≡ []) × ((queue_to s (begun_value lane m)).ended ≡ true)) (λ e. cc) (λ e. cc);
   moment = omega arith;
   idle = refl;
 }
 
-pub first_stands : (asset : Asset) (past : RateMoments) (listen : ℕ) (client : Endpoint) (m : ℕ) (first : Option (List (List ℕ))) (lane : LaneValue) → IsNewLane asset past client lane →
-    StandsFor asset past first (met_at listen asset.endpoint client ∷ Moment m ∷ []) (begun_value lane m) first
-first_stands asset past listen client m first lane new = first_by asset past listen client m first lane new.of_client (new.follows empty empty first empty_stands empty_stands)
+pub first_stands : (site : SiteValue) (past : RateMoments) (listen : ℕ) (client : Endpoint) (m : ℕ) (first : Option (List (List ℕ))) (lane : LaneValue) → IsNewLane site past client lane →
+    StandsFor site past first (met_at listen site.first.endpoint client ∷ Moment m ∷ []) (begun_value lane m) first
+first_stands site past listen client m first lane new = first_by site past listen client m first lane new.of_client (new.follows empty empty first empty_stands empty_stands)
 
-pub first_sound : (asset : Asset) (past : RateMoments) (client : Endpoint) (most m : ℕ) (lane : LaneValue) → 0 < most → IsNewLane asset past client lane → IsSound asset most (begun_value lane m)
-first_sound asset past client most m lane few new = record {
-  of_asset = new.of_asset;
+pub first_sound : (site : SiteValue) (past : RateMoments) (client : Endpoint) (most m : ℕ) (lane : LaneValue) → 0 < most → IsNewLane site past client lane → IsSound site most (begun_value lane m)
+first_sound site past client most m lane few new = record {
+  of_site = new.of_site;
   debt = omega (arith, new.counts.2);
   short = record { client = omega arith; controller = omega arith; to_client = omega arith; to_controller = omega arith };
   to_client = omega arith;
@@ -145,9 +145,9 @@ first_sound asset past client most m lane few new = record {
 }
 
 -- a lane that was just made
-pub new_lane : (asset : Asset) (past : RateMoments) (client : Endpoint) (lane : LaneValue) → IsLaneOf asset lane → lane.client ≡ client → (lane.admitted ≡ 0) × (lane.refused ≡ 0) × (debt lane ≡ 0) →
-    ((c k : Queue) (x : Option (List (List ℕ))) → IsQueueOf c no_letters → IsQueueOf k no_letters → Follows asset past [] no_rests None x (state lane c k x)) → IsNewLane asset past client lane
-new_lane asset past client lane of_asset is counts follows = record { of_asset = of_asset; of_client = is; counts = counts; follows = follows }
+pub new_lane : (site : SiteValue) (past : RateMoments) (client : Endpoint) (lane : LaneValue) → IsLaneOf site lane → lane.client ≡ client → (lane.admitted ≡ 0) × (lane.refused ≡ 0) × (debt lane ≡ 0) →
+    ((c k : Queue) (x : Option (List (List ℕ))) → IsQueueOf c no_letters → IsQueueOf k no_letters → Follows site past [] no_rests None x (state lane c k x)) → IsNewLane site past client lane
+new_lane site past client lane of_site is counts follows = record { of_site = of_site; of_client = is; counts = counts; follows = follows }
 
 -- a relay of a lane, of two empty queues, and of two sides of which nothing was heard
 pub begun_is : (lane : LaneValue) (c k : Queue) (rest : List ℕ) (letters : ℕ) (rest' : List ℕ) (letters' moment : ℕ) → c ≡ empty → k ≡ empty → rest ≡ [] → letters ≡ 0 → rest' ≡ [] → letters' ≡ 0 →

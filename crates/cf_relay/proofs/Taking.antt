@@ -6,13 +6,13 @@ use Rattle.std.proofs.lemmas.List.{append-nil, length-take-le}
 use Rattle.cf_audit.specs.declared.line.CutReason.{CutReason}
 use Rattle.cf_driver.specs.Takes.{OnlyPushed, Takes}
 use Rattle.cf_lane.specs.Follows.{Follows, Rests, over, rest_of, with_rest}
-use Rattle.cf_lane.specs.Handled.{IsLaneOf, MayEnd, State, debt}
+use Rattle.cf_lane.specs.Handled.{IsLaneOf, MayEnd, State, debt, debt_limit}
 use Rattle.cf_lane.specs.History.{Element}
 use Rattle.cf_links.specs.Links.{SessionTold, with_entry}
 use Rattle.cf_outq.specs.SendQueue.{Queue, queue_length}
 use Rattle.cf_outside.specs.Desk.{DeskValue}
 use Rattle.cf_outside.specs.Pair.{Ended, Entry, Got, Idle}
-use Rattle.cf_policy.specs.declared.Asset.{Asset}
+use Rattle.cf_policy.specs.Site.{SiteValue}
 use Rattle.cf_view.specs.declared.Side.{Side}
 use Rattle.cf_view.specs.declared.Side.TheVariants as side
 use Rattle.cf_relay.proofs.Lined.{lines_none}
@@ -32,17 +32,17 @@ same_rest side.Client rests = refl
 same_rest side.Controller rests = refl
 
 -- nothing came
-hears_idle : (asset : Asset) (s : Side) (rest : List ℕ) (now : State) → length rest < 300 → IsLaneOf asset now.lane → debt now.lane ≤ 5300 → Takes asset s [] None rest rest now now
-hears_idle asset s rest now short of_asset owed = record {
+hears_idle : (site : SiteValue) (s : Side) (rest : List ℕ) (now : State) → length rest < 300 → IsLaneOf site now.lane → debt now.lane ≤ debt_limit site → Takes site s [] None rest rest now now
+hears_idle site s rest now short of_site owed = record {
   follows = λ past h rests first own is f. record {
     more = [];
     added = lines_none now.lines;
-    follows = subst (λ (l : Option (List (List ℕ))). Follows asset past (h ++ []) (with_rest s rests rest) None first (over l now)) (lines_none own)
-        (subst (λ r. Follows asset past (h ++ []) r None first (over own now)) (sym (ap (with_rest s rests) is ∙ same_rest s rests))
-        (subst (λ (k : List Element). Follows asset past k rests None first (over own now)) (sym (append-nil h)) f));
+    follows = subst (λ (l : Option (List (List ℕ))). Follows site past (h ++ []) (with_rest s rests rest) None first (over l now)) (lines_none own)
+        (subst (λ r. Follows site past (h ++ []) r None first (over own now)) (sym (ap (with_rest s rests) is ∙ same_rest s rests))
+        (subst (λ (k : List Element). Follows site past k rests None first (over own now)) (sym (append-nil h)) f));
   };
   short = short;
-  of_asset = of_asset;
+  of_site = of_site;
   debt = owed;
   client = refl;
   to_client = same_pushed now.to_client;
@@ -52,21 +52,21 @@ hears_idle asset s rest now short of_asset owed = record {
   counts = omega arith;
 }
 
-module _ (dirs : Directions) (asset : Asset) (moment most : ℕ) (s : Side) (rest : List ℕ) (letters : ℕ) (told told' : SessionTold) (idle idle' : ℕ) (now : State) (desk : DeskValue) where
-  idle_answer : length rest < 300 → IsLaneOf asset now.lane → debt now.lane ≤ 5300 → idle' ≡ idle + 1 → told' ≡ with_entry told (Idle s) →
-      TakesAnswer asset moment s None (take_state now rest letters idle told) (take_state now rest letters idle' told')
-  idle_answer short of_asset owed i e = record {
+module _ (dirs : Directions) (site : SiteValue) (moment most : ℕ) (s : Side) (rest : List ℕ) (letters : ℕ) (told told' : SessionTold) (idle idle' : ℕ) (now : State) (desk : DeskValue) where
+  idle_answer : length rest < 300 → IsLaneOf site now.lane → debt now.lane ≤ debt_limit site → idle' ≡ idle + 1 → told' ≡ with_entry told (Idle s) →
+      TakesAnswer site moment s None (take_state now rest letters idle told) (take_state now rest letters idle' told')
+  idle_answer short of_site owed i e = record {
     answer = Idle s;
     answers = record { is_taken = refl; tells = e; idles = i ∙ omega arith; letters = omega arith };
-    hears = hears_idle asset s rest now short of_asset owed;
+    hears = hears_idle site s rest now short of_site owed;
   }
 
-  pub takes_idle : (r : Result Unit Stop) → MayTakeNow dirs s now.to_client now.to_controller → length rest < 300 → IsLaneOf asset now.lane → debt now.lane ≤ 5300 →
+  pub takes_idle : (r : Result Unit Stop) → MayTakeNow dirs site s now.to_client now.to_controller → length rest < 300 → IsLaneOf site now.lane → debt now.lane ≤ debt_limit site →
       idle' ≡ idle + 1 → told' ≡ with_entry told (Idle s) → OnOk r (idle' < most) → OnErr r (idle' ≡ most) → OnErr r (r ≡ Err stop.Idle) →
-      TakesBy dirs asset moment most s (take_state now rest letters idle told) (take_state now rest letters idle' told') desk r
-  takes_idle (Ok x) may short of_asset owed i e goes stops error = inr (may, goes, idle_answer short of_asset owed i e)
-  takes_idle (Err x) may short of_asset owed i e goes stops error =
-      subst (λ r. TakesBy dirs asset moment most s (take_state now rest letters idle told) (take_state now rest letters idle' told') desk r) (sym error)
+      TakesBy dirs site moment most s (take_state now rest letters idle told) (take_state now rest letters idle' told') desk r
+  takes_idle (Ok x) may short of_site owed i e goes stops error = inr (may, goes, idle_answer short of_site owed i e)
+  takes_idle (Err x) may short of_site owed i e goes stops error =
+      subst (λ r. TakesBy dirs site moment most s (take_state now rest letters idle told) (take_state now rest letters idle' told') desk r) (sym error)
       (may, stops, ap (λ n. take_state now rest letters n told') i ∙ ap (λ t. take_state now rest letters (idle + 1) t) e)
 
 module _ (moment : ℕ) (s : Side) (told told' : SessionTold) (idle letters letters' : ℕ) where
@@ -84,12 +84,12 @@ module _ (moment : ℕ) (s : Side) (told told' : SessionTold) (idle letters lett
   end_answers tells more = record { is_taken = refl; tells = tells; idles = refl; letters = more ∙ ap (λ k. letters + k) (sym (own_end moment s)) }
 
 -- the answer cuts for this reason, or for none
-pub takes_as : (asset : Asset) (moment : ℕ) (s : Side) (answer : Entry) (cut why : Option CutReason) (old new : TakeState) → cut ≡ why → AnswersTo moment s answer old.told new.told old.idle new.idle old.letters new.letters →
-    Takes asset s (element_of moment answer) cut old.rest new.rest old.state new.state → TakesAnswer asset moment s why old new
-takes_as asset moment s answer cut why old new is answers hears = record {
+pub takes_as : (site : SiteValue) (moment : ℕ) (s : Side) (answer : Entry) (cut why : Option CutReason) (old new : TakeState) → cut ≡ why → AnswersTo moment s answer old.told new.told old.idle new.idle old.letters new.letters →
+    Takes site s (element_of moment answer) cut old.rest new.rest old.state new.state → TakesAnswer site moment s why old new
+takes_as site moment s answer cut why old new is answers hears = record {
   answer = answer;
   answers = answers;
-  hears = subst (λ k. Takes asset s (element_of moment answer) k old.rest new.rest old.state new.state) is hears;
+  hears = subst (λ k. Takes site s (element_of moment answer) k old.rest new.rest old.state new.state) is hears;
 }
 
 pub may_end : (s : Side) (c k : Queue) → queue_length c < 2 ^ 30 → queue_length k < 2 ^ 30 → MayEnd s c k

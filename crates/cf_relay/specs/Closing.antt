@@ -4,7 +4,7 @@ use Rattle.cf_lane.specs.Handled.{HasAdded, MayHaveAdded}
 use Rattle.cf_lane.specs.Log.{line_about, with_lines}
 use Rattle.cf_outside.specs.Desk.{DeskValue}
 use Rattle.cf_outside.specs.Faults.{Rose}
-use Rattle.cf_policy.specs.declared.Asset.{Asset}
+use Rattle.cf_policy.specs.Site.{SiteValue}
 use Rattle.cf_view.specs.declared.Endpoint.{Endpoint}
 use Rattle.std.specs.List.{concat}
 use Rattle.std.specs.Prelude.{Err, List, Ok, Option, Result, [], drop, take, true, ℕ, ◌∷◌, ◌≡◌}
@@ -29,18 +29,18 @@ EndsWith line done old new (Err fault.Write) = MayHaveAdded (line ∷ []) old ne
 EndsWith line done old new (Err fault.Link) = ⊥
 EndsWith line done old new (Err fault.NoMemory) = ⊥
 
-abbrev pub ClosesWith : Asset → Endpoint → RelayingValue → (old new : DeskValue) → Result RelayDone RelayFault → Type 0
-ClosesWith asset client now old new result =
-    EndsWith (line_about asset client now.moment (Close now.lane.admitted now.lane.refused))
+abbrev pub ClosesWith : SiteValue → Endpoint → RelayingValue → (old new : DeskValue) → Result RelayDone RelayFault → Type 0
+ClosesWith site client now old new result =
+    EndsWith (line_about site.first client now.moment (Close now.lane.admitted now.lane.refused))
     (done_by now ends.Done) old new result
 
 -- a relay that stopped puts a line for a cut alone
-abbrev pub StopsWith : Asset → Endpoint → RelayingValue → Stop → (old new : DeskValue) → Result RelayDone RelayFault → Type 0
-StopsWith asset client now stop.Idle old new result = (result ≡ Ok (done_by now ends.IdleEnd)) × (new ≡ old)
-StopsWith asset client now stop.Link old new result = (result ≡ Err fault.Link) × (new ≡ old)
-StopsWith asset client now stop.Write old new result = (result ≡ Err fault.Write) × (new ≡ old)
-StopsWith asset client now (stop.Cut reason) old new result =
-    EndsWith (line_about asset client now.moment (Cut reason)) (done_by now (ends.Cut reason)) old new result
+abbrev pub StopsWith : SiteValue → Endpoint → RelayingValue → Stop → (old new : DeskValue) → Result RelayDone RelayFault → Type 0
+StopsWith site client now stop.Idle old new result = (result ≡ Ok (done_by now ends.IdleEnd)) × (new ≡ old)
+StopsWith site client now stop.Link old new result = (result ≡ Err fault.Link) × (new ≡ old)
+StopsWith site client now stop.Write old new result = (result ≡ Err fault.Write) × (new ≡ old)
+StopsWith site client now (stop.Cut reason) old new result =
+    EndsWith (line_about site.first client now.moment (Cut reason)) (done_by now (ends.Cut reason)) old new result
 
 -- a log has, after what it had, the first of these lines, and then a beginning of the lines that follow
 abbrev pub BeginsLines : (base lines : Option (List (List ℕ))) → (part : List ℕ) → List (List ℕ) → Type 0

@@ -4,7 +4,7 @@ use Rattle.cf_lane.specs.Handled.{IsLaneOf, LaneValue, State, debt, debt_limit, 
 use Rattle.cf_lane.specs.Output.{other}
 use Rattle.cf_lane.specs.declared.limit.TheConstants.{LETTER_LIMIT}
 use Rattle.cf_outq.specs.SendQueue.{Queue, empty, queue_length}
-use Rattle.cf_policy.specs.declared.Asset.{Asset}
+use Rattle.cf_policy.specs.Site.{SiteValue}
 use Rattle.cf_view.specs.declared.Side.{Side}
 use Rattle.std.specs.Prelude.{Bool, List, Option, [], false, length, true, ℕ, ◌*◌, ◌+◌, ◌<◌, ◌≡◌, ◌≤◌, ◌⊎◌}
 use Rattle.cf_view.specs.declared.Side.TheVariants as side
@@ -88,9 +88,9 @@ pub record IsShort (now : RelayingValue) : Type 0 where
   pub to_controller : queue_length now.to_controller < LETTER_LIMIT
 
 -- what lets a relay be asked for one stage more, whatever its list
-pub record IsSound (asset : Asset) (most : ℕ) (now : RelayingValue) : Type 0 where
-  pub of_asset : IsLaneOf asset now.lane
-  pub debt : debt now.lane ≤ debt_limit
+pub record IsSound (site : SiteValue) (most : ℕ) (now : RelayingValue) : Type 0 where
+  pub of_site : IsLaneOf site now.lane
+  pub debt : debt now.lane ≤ debt_limit site
   pub short : IsShort now
   pub to_client : length now.to_client.kept + now.to_client.acked ≤ queue_length now.to_client
   pub to_controller : length now.to_controller.kept + now.to_controller.acked ≤ queue_length now.to_controller
@@ -125,9 +125,9 @@ ServesOrRests s most old new =
     ((queue_to s old).ended ≡ true → is_closed s new ≡ true))
 
 -- a side was asked; or it was passed over
-abbrev pub AsksOrRests : Directions → Side → (most : ℕ) → (old new : RelayingValue) → Type 0
-AsksOrRests directions s most old new = (progress most old < progress most new) ⊎
-    (Unmoved old new × (MayTakeNow directions s old.to_client old.to_controller → ⊥))
+abbrev pub AsksOrRests : Directions → SiteValue → Side → (most : ℕ) → (old new : RelayingValue) → Type 0
+AsksOrRests directions site s most old new = (progress most old < progress most new) ⊎
+    (Unmoved old new × (MayTakeNow directions site s old.to_client old.to_controller → ⊥))
 
 -- both sides are closed
 abbrev pub AreClosed : RelayingValue → Type 0

@@ -8,7 +8,7 @@ use Rattle.cf_outside.specs.Desk.{DeskValue}
 use Rattle.cf_outside.specs.Faults.{Rose}
 use Rattle.cf_outside.specs.Pair.{Entry}
 use Rattle.cf_outside.specs.declared.Desk.{Ghosts as DeskOf}
-use Rattle.cf_policy.specs.declared.Asset.{Asset}
+use Rattle.cf_policy.specs.Site.{SiteValue}
 use Rattle.std.specs.Prelude.{List, Option, min, ℕ, ◌++◌, ◌+◌, ◌-◌, ◌^◌, ◌≡◌, ◌≤◌}
 use Rattle.cf_relay.specs.Relaying.{RelayingValue, relaying_value}
 use Rattle.cf_relay.specs.Stands.{Apart, StandsFor, StandsStopped}
@@ -41,13 +41,13 @@ pub record AddsAnswers (old new : Scene) (answers : List Entry) : Type 0 where
   pub log : WritesLog old.desk new.desk
 
 -- the stages are done, whatever list and whatever lines of its own came before; no call on the links failed
-pub record DoesBetween (asset : Asset) (most : ℕ) (stages : List Stage) (old new : Scene) : Type 0 where
+pub record DoesBetween (site : SiteValue) (most : ℕ) (stages : List Stage) (old new : Scene) : Type 0 where
   pub answers : List Entry
   pub adds : AddsAnswers old new answers
   pub still : new.links.faults ≡ old.links.faults
-  pub does : (past : RateMoments) (first own : Option (List (List ℕ))) (es : List Entry) → StandsFor asset past first es old.relaying own →
-      DoesStages asset past most stages es answers
-      × Apart own old.desk.lines new.desk.lines (λ log. StandsFor asset past first (es ++ answers) new.relaying log)
+  pub does : (past : RateMoments) (first own : Option (List (List ℕ))) (es : List Entry) → StandsFor site past first es old.relaying own →
+      DoesStages site past most stages es answers
+      × Apart own old.desk.lines new.desk.lines (λ log. StandsFor site past first (es ++ answers) new.relaying log)
 
 -- a stop has its cause; a call on the links failed in one of them alone
 abbrev pub StopsBy : Stop → (old new : Scene) → Type 0
@@ -57,10 +57,10 @@ StopsBy stop.Link old new = Rose old.links.faults new.links.faults
 StopsBy stop.Write old new = (new.links.faults ≡ old.links.faults) × Rose old.desk.faults new.desk.faults
 
 -- the stages break off, whatever list and whatever lines of its own came before
-pub record StopsBetween (asset : Asset) (most : ℕ) (stages : List Stage) (stop : Stop) (old new : Scene) : Type 0 where
+pub record StopsBetween (site : SiteValue) (most : ℕ) (stages : List Stage) (stop : Stop) (old new : Scene) : Type 0 where
   pub answers : List Entry
   pub adds : AddsAnswers old new answers
   pub cause : StopsBy stop old new
-  pub does : (past : RateMoments) (first own : Option (List (List ℕ))) (es : List Entry) → StandsFor asset past first es old.relaying own →
-      BeginsStages asset past most stages es answers × Apart own old.desk.lines new.desk.lines
-      (λ log. StandsStopped asset past most first (es ++ answers) stop new.relaying log new.desk.line_part)
+  pub does : (past : RateMoments) (first own : Option (List (List ℕ))) (es : List Entry) → StandsFor site past first es old.relaying own →
+      BeginsStages site past most stages es answers × Apart own old.desk.lines new.desk.lines
+      (λ log. StandsStopped site past most first (es ++ answers) stop new.relaying log new.desk.line_part)

@@ -12,7 +12,7 @@ use Rattle.cf_lane.specs.declared.limit.TheConstants.{LETTER_LIMIT}
 use Rattle.cf_lane.specs.Rings.{KnowsRules}
 use Rattle.cf_outq.specs.SendQueue.{IsQueueOf, Queue}
 use Rattle.cf_outside.specs.Pair.{Entry}
-use Rattle.cf_policy.specs.declared.Asset.{Asset}
+use Rattle.cf_policy.specs.Site.{SiteValue}
 use Rattle.cf_stream.specs.Stream.{letter_count, no_letters}
 use Rattle.cf_view.specs.declared.Endpoint.{Endpoint}
 use Rattle.cf_view.specs.declared.Side.{Side}
@@ -31,15 +31,15 @@ pub record Apart (own old new : Option (List (List ℕ))) (Stands : Option (List
   pub stands : Stands (with_lines own more)
 
 -- lane, queues and log have the history of the list, which nothing cuts
-pub record StandsFor (asset : Asset) (past : RateMoments) (first : Option (List (List ℕ))) (es : List Entry) (now : RelayingValue)
+pub record StandsFor (site : SiteValue) (past : RateMoments) (first : Option (List (List ℕ))) (es : List Entry) (now : RelayingValue)
     (lines : Option (List (List ℕ))) : Type 0 where
-  pub follows : Follows asset past (history_of es) (rests_of now) None first (lane_state now lines)
-  pub uncut : limit_cut LETTER_LIMIT (history_of es) (stream_to asset side.Client follows.judged)
-      (stream_to asset side.Controller follows.judged) ≡ None
+  pub follows : Follows site past (history_of es) (rests_of now) None first (lane_state now lines)
+  pub uncut : limit_cut LETTER_LIMIT (history_of es) (stream_to site side.Client follows.judged)
+      (stream_to site side.Controller follows.judged) ≡ None
   pub client : now.lane.client ≡ client_of es
   -- the bytes given left their queue
   pub acked : (s : Side) → (queue_to s now).acked ≡ length (given s es)
-  pub front : (s : Side) → outputs asset s [] follows.judged ≡ given s es ++ (queue_to s now).kept
+  pub front : (s : Side) → outputs site s [] follows.judged ≡ given s es ++ (queue_to s now).kept
   -- a queue has its End where the other side has ended
   pub ended : (s : Side) → (queue_to s now).ended ≡ ended_of (other s) (history_of es)
   pub letters : (s : Side) → letters_from s now ≡ letter_count (taken s (history_of es))
@@ -49,21 +49,21 @@ pub record StandsFor (asset : Asset) (past : RateMoments) (first : Option (List 
   pub moment : now.moment ≡ moment_of es
   pub idle : now.idle ≡ idle_run es
 
--- a lane of an asset and a client that has handled nothing: with two empty queues it follows an empty history over any log
-pub record IsNewLane (asset : Asset) (past : RateMoments) (client : Endpoint) (lane : LaneValue) : Type 0 where
-  pub of_asset : IsLaneOf asset lane
+-- a lane of a site and a client that has handled nothing: with two empty queues it follows an empty history over any log
+pub record IsNewLane (site : SiteValue) (past : RateMoments) (client : Endpoint) (lane : LaneValue) : Type 0 where
+  pub of_site : IsLaneOf site lane
   pub of_client : lane.client ≡ client
   pub counts : (lane.admitted ≡ 0) × (lane.refused ≡ 0) × (debt lane ≡ 0)
   pub follows : (to_client to_controller : Queue) (first : Option (List (List ℕ))) → IsQueueOf to_client no_letters
-      → IsQueueOf to_controller no_letters → Follows asset past [] no_rests None first (state lane to_client to_controller first)
+      → IsQueueOf to_controller no_letters → Follows site past [] no_rests None first (state lane to_client to_controller first)
 
 -- each side was given a prefix of the stream to it
 abbrev pub IsPrefix : List ℕ → List ℕ → Type 0
 IsPrefix xs all = (more : List ℕ) × (all ≡ xs ++ more)
 
 -- each side was given a beginning of the stream to it
-abbrev pub GivenPrefixes : Asset → List Entry → List Judged → Type 0
-GivenPrefixes asset es js = (s : Side) → IsPrefix (given s es) (outputs asset s [] js)
+abbrev pub GivenPrefixes : SiteValue → List Entry → List Judged → Type 0
+GivenPrefixes site es js = (s : Side) → IsPrefix (given s es) (outputs site s [] js)
 
 -- the numbers of the lane are those of the items
 pub record IsCounted (js : List Judged) (admits refuses : ℕ) : Type 0 where
@@ -71,15 +71,15 @@ pub record IsCounted (js : List Judged) (admits refuses : ℕ) : Type 0 where
   pub refused : refuses ≡ count_by (λ j. is_refused j.fate) js
 
 -- the list is cut, and lane and log have its items
-pub record StandsCut (asset : Asset) (past : RateMoments) (first : Option (List (List ℕ))) (es : List Entry) (now : RelayingValue)
+pub record StandsCut (site : SiteValue) (past : RateMoments) (first : Option (List (List ℕ))) (es : List Entry) (now : RelayingValue)
     (log : Option (List (List ℕ))) (reason : CutReason) : Type 0 where
   pub judged : List Judged
-  pub are_items : AreItemsOf asset past es judged
-  pub is_cut : cut_at asset es judged ≡ Some reason
-  pub prefixes : GivenPrefixes asset es judged
+  pub are_items : AreItemsOf site past es judged
+  pub is_cut : cut_at site es judged ≡ Some reason
+  pub prefixes : GivenPrefixes site es judged
   pub counts : IsCounted judged now.lane.admitted now.lane.refused
-  pub rules : KnowsRules past now.lane.rules judged
-  pub of_lines : log ≡ with_lines first (lines asset (client_of es) [] judged)
+  pub rules : KnowsRules site past now.lane.rules judged
+  pub of_lines : log ≡ with_lines first (lines site (client_of es) [] judged)
   pub client : now.lane.client ≡ client_of es
   pub moment : now.moment ≡ moment_of es
 
@@ -91,17 +91,17 @@ IsCutShort short whole =
     × (short ≡ earlier ++ bytes_at moment s bytes ∷ []) × (whole ≡ earlier ++ bytes_at moment s (bytes ++ more) ∷ []))
 
 -- a line failed: the log has a beginning of the lines of the items up to there
-pub record StandsMissed (asset : Asset) (past : RateMoments) (first : Option (List (List ℕ))) (es : List Entry)
+pub record StandsMissed (site : SiteValue) (past : RateMoments) (first : Option (List (List ℕ))) (es : List Entry)
     (log : Option (List (List ℕ))) (part : List ℕ) : Type 0 where
   pub history : List Element
   pub is_short : IsCutShort history (history_of es)
-  pub began : Began asset past (client_of es) history first log part
-  pub prefixes : GivenPrefixes asset es began.judged
+  pub began : Began site past (client_of es) history first log part
+  pub prefixes : GivenPrefixes site es began.judged
 
 -- what a relay that stops stands for, with its list
-abbrev pub StandsStopped : Asset → (past : RateMoments) → (most : ℕ) → (first : Option (List (List ℕ))) → List Entry → Stop → RelayingValue
+abbrev pub StandsStopped : SiteValue → (past : RateMoments) → (most : ℕ) → (first : Option (List (List ℕ))) → List Entry → Stop → RelayingValue
     → (log : Option (List (List ℕ))) → (part : List ℕ) → Type 0
-StandsStopped asset past most first es stop.Idle now log part = StandsFor asset past first es now log × (now.idle ≡ most)
-StandsStopped asset past most first es stop.Link now log part = StandsFor asset past first es now log × (now.idle < most)
-StandsStopped asset past most first es stop.Write now log part = StandsMissed asset past first es log part
-StandsStopped asset past most first es (stop.Cut reason) now log part = StandsCut asset past first es now log reason
+StandsStopped site past most first es stop.Idle now log part = StandsFor site past first es now log × (now.idle ≡ most)
+StandsStopped site past most first es stop.Link now log part = StandsFor site past first es now log × (now.idle < most)
+StandsStopped site past most first es stop.Write now log part = StandsMissed site past first es log part
+StandsStopped site past most first es (stop.Cut reason) now log part = StandsCut site past first es now log reason

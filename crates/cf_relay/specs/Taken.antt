@@ -9,7 +9,7 @@ use Rattle.cf_links.specs.Links.{SessionTold, with_answers}
 use Rattle.cf_outq.specs.SendQueue.{Queue}
 use Rattle.cf_outside.specs.Desk.{DeskValue}
 use Rattle.cf_outside.specs.Pair.{Ended, Entry, Got, Idle}
-use Rattle.cf_policy.specs.declared.Asset.{Asset}
+use Rattle.cf_policy.specs.Site.{SiteValue}
 use Rattle.cf_stream.specs.Sizes.{window_size}
 use Rattle.cf_stream.specs.Stream.{letter_count}
 use Rattle.cf_view.specs.declared.Side.{Side}
@@ -36,20 +36,20 @@ abbrev pub WaitAtMost : ℕ → Queue → Type 0
 WaitAtMost most q = length q.kept + (if q.ended then 1 else 0) ≤ most
 
 -- a side has not ended, and neither queue has more letters than it may have as the side is read
-pub record MayTakeNow (directions : Directions) (s : Side) (to_client to_controller : Queue) : Type 0 where
+pub record MayTakeNow (directions : Directions) (site : SiteValue) (s : Side) (to_client to_controller : Queue) : Type 0 where
   pub open_still : IsOpen s to_client to_controller
   pub onward : WaitAtMost window_size (onward_of s to_client to_controller)
-  pub back : WaitAtMost (most_back directions) (back_of s to_client to_controller)
+  pub back : WaitAtMost (most_back directions site) (back_of s to_client to_controller)
 
 -- the letters of a side that an answer brings
 abbrev pub letters_brought : (moment : ℕ) → Side → Entry → ℕ
 letters_brought moment s answer = letter_count (taken s (element_of moment answer))
 
 -- a line of the bytes that a side gave failed, or that of its End
-abbrev pub MissesLine : Asset → (moment : ℕ) → Side → Entry → (rest : List ℕ) → (old : State) → DeskValue → Type 0
-MissesLine asset moment s answer rest old desk =
-    ((bytes : List ℕ) × (answer ≡ Got s bytes) × MissesPiece asset moment s bytes rest old desk.lines desk.line_part)
-    ⊎ ((answer ≡ Ended s) × MissesEnd asset moment s rest old desk.lines desk.line_part)
+abbrev pub MissesLine : SiteValue → (moment : ℕ) → Side → Entry → (rest : List ℕ) → (old : State) → DeskValue → Type 0
+MissesLine site moment s answer rest old desk =
+    ((bytes : List ℕ) × (answer ≡ Got s bytes) × MissesPiece site moment s bytes rest old desk.lines desk.line_part)
+    ⊎ ((answer ≡ Ended s) × MissesEnd site moment s rest old desk.lines desk.line_part)
 
 -- a side that was asked answered
 pub record AnswersTo (moment : ℕ) (s : Side) (answer : Entry) (told_before told_after : SessionTold)
@@ -71,33 +71,33 @@ abbrev pub take_state : State → (rest : List ℕ) → (letters idle : ℕ) →
 take_state state rest letters idle told = record { state = state; rest = rest; letters = letters; idle = idle; told = told }
 
 -- a side was asked, answered, and the lane handled it
-pub record TakesAnswer (asset : Asset) (moment : ℕ) (s : Side) (cut : Option CutReason) (old new : TakeState) : Type 0 where
+pub record TakesAnswer (site : SiteValue) (moment : ℕ) (s : Side) (cut : Option CutReason) (old new : TakeState) : Type 0 where
   pub answer : Entry
   pub answers : AnswersTo moment s answer old.told new.told old.idle new.idle old.letters new.letters
-  pub hears : Takes asset s (element_of moment answer) cut old.rest new.rest old.state new.state
+  pub hears : Takes site s (element_of moment answer) cut old.rest new.rest old.state new.state
 
 -- what came of asking a side, which happens exactly where it may be
-abbrev pub TakesBy : Directions → Asset → (moment most : ℕ) → Side → (old new : TakeState) → DeskValue → Result Unit Stop → Type 0
-TakesBy directions asset moment most s old new desk (Ok done) =
-    ((MayTakeNow directions s old.state.to_client old.state.to_controller → ⊥) × (new ≡ old))
-    ⊎ (MayTakeNow directions s old.state.to_client old.state.to_controller × (new.idle < most) × TakesAnswer asset moment s None old new)
-TakesBy directions asset moment most s old new desk (Err stop.Idle) =
-    MayTakeNow directions s old.state.to_client old.state.to_controller × (new.idle ≡ most)
+abbrev pub TakesBy : Directions → SiteValue → (moment most : ℕ) → Side → (old new : TakeState) → DeskValue → Result Unit Stop → Type 0
+TakesBy directions site moment most s old new desk (Ok done) =
+    ((MayTakeNow directions site s old.state.to_client old.state.to_controller → ⊥) × (new ≡ old))
+    ⊎ (MayTakeNow directions site s old.state.to_client old.state.to_controller × (new.idle < most) × TakesAnswer site moment s None old new)
+TakesBy directions site moment most s old new desk (Err stop.Idle) =
+    MayTakeNow directions site s old.state.to_client old.state.to_controller × (new.idle ≡ most)
     × (new ≡ record old { idle = old.idle + 1; told = with_answers old.told (Idle s ∷ []) })
-TakesBy directions asset moment most s old new desk (Err stop.Link) = new ≡ old
-TakesBy directions asset moment most s old new desk (Err stop.Write) =
-    MayTakeNow directions s old.state.to_client old.state.to_controller
+TakesBy directions site moment most s old new desk (Err stop.Link) = new ≡ old
+TakesBy directions site moment most s old new desk (Err stop.Write) =
+    MayTakeNow directions site s old.state.to_client old.state.to_controller
     × ((answer : Entry) × AnswersTo moment s answer old.told new.told old.idle new.idle old.letters new.letters
-    × MissesLine asset moment s answer old.rest old.state desk)
-TakesBy directions asset moment most s old new desk (Err (stop.Cut reason)) =
-    MayTakeNow directions s old.state.to_client old.state.to_controller × TakesAnswer asset moment s (Some reason) old new
+    × MissesLine site moment s answer old.rest old.state desk)
+TakesBy directions site moment most s old new desk (Err (stop.Cut reason)) =
+    MayTakeNow directions site s old.state.to_client old.state.to_controller × TakesAnswer site moment s (Some reason) old new
 
--- the lane of a relay that stopped is one of the asset still, unless a write failed
-abbrev pub KeepsLane : Asset → LaneValue → Stop → Type 0
-KeepsLane asset lane stop.Idle = IsLaneOf asset lane
-KeepsLane asset lane stop.Link = IsLaneOf asset lane
-KeepsLane asset lane stop.Write = Unit {0}
-KeepsLane asset lane (stop.Cut reason) = IsLaneOf asset lane
+-- the lane of a relay that stopped is one of the site still, unless a write failed
+abbrev pub KeepsLane : SiteValue → LaneValue → Stop → Type 0
+KeepsLane site lane stop.Idle = IsLaneOf site lane
+KeepsLane site lane stop.Link = IsLaneOf site lane
+KeepsLane site lane stop.Write = Unit {0}
+KeepsLane site lane (stop.Cut reason) = IsLaneOf site lane
 
 -- the desk may be called again, unless a write failed
 abbrev pub StaysWhole : Result Unit Stop → DeskValue → Type 0

@@ -4,7 +4,7 @@ use Rattle.cf_lane.specs.Caller.{RateMoments}
 use Rattle.cf_audit.specs.Line.{Begun}
 use Rattle.cf_lane.specs.Log.{line_about, with_lines}
 use Rattle.cf_outside.specs.Pair.{Entry, Moment, met_at}
-use Rattle.cf_policy.specs.declared.Asset.{Asset}
+use Rattle.cf_policy.specs.Site.{SiteValue}
 use Rattle.cf_view.specs.declared.Endpoint.{Endpoint}
 use Rattle.std.specs.Prelude.{List, Option, [], ℕ, ◌<◌, ◌∷◌}
 use Rattle.cf_relay.specs.Relaying.{RelayingValue}
@@ -14,27 +14,27 @@ use Rattle.cf_relay.specs.declared.directions.Directions.{Directions}
 use Rattle.cf_relay.specs.declared.stop.Stop.{Stop}
 
 -- the list of a relay of a port: a client is met beside the controller, a moment is told, and then there are these answers
-abbrev pub begun_list : Asset → (listen : ℕ) → Endpoint → (moment : ℕ) → List Entry → List Entry
-begun_list asset listen client moment answers = met_at listen asset.endpoint client ∷ Moment moment ∷ answers
+abbrev pub begun_list : SiteValue → (listen : ℕ) → Endpoint → (moment : ℕ) → List Entry → List Entry
+begun_list site listen client moment answers = met_at listen site.first.endpoint client ∷ Moment moment ∷ answers
 
 -- the lines with which it begins: what stood there, and the line of its beginning
-abbrev pub begun_lines : Asset → Endpoint → (moment : ℕ) → (base : Option (List (List ℕ))) → Option (List (List ℕ))
-begun_lines asset client moment base = with_lines base (line_about asset client moment Begun ∷ [])
+abbrev pub begun_lines : SiteValue → Endpoint → (moment : ℕ) → (base : Option (List (List ℕ))) → Option (List (List ℕ))
+begun_lines site client moment base = with_lines base (line_about site.first client moment Begun ∷ [])
 
 -- a relay that has made so many turns, and goes on
-pub record HasTurned (directions : Directions) (asset : Asset) (past : RateMoments) (listen most : ℕ) (client : Endpoint)
+pub record HasTurned (directions : Directions) (site : SiteValue) (past : RateMoments) (listen most : ℕ) (client : Endpoint)
     (moment : ℕ) (base : Option (List (List ℕ))) (answers : List Entry) (now : RelayingValue) (own : Option (List (List ℕ))) : Type 0 where
   pub count : ℕ
-  pub does : DoesStages asset past most (turns directions count) (begun_list asset listen client moment []) answers
-  pub stands : StandsFor asset past (begun_lines asset client moment base) (begun_list asset listen client moment answers) now own
+  pub does : DoesStages site past most (turns directions count) (begun_list site listen client moment []) answers
+  pub stands : StandsFor site past (begun_lines site client moment base) (begun_list site listen client moment answers) now own
   pub few : now.idle < most
 
 -- a relay that stopped within a turn; a line that failed left a part after its own lines
-pub record HasStopped (directions : Directions) (asset : Asset) (past : RateMoments) (listen most : ℕ) (client : Endpoint)
+pub record HasStopped (directions : Directions) (site : SiteValue) (past : RateMoments) (listen most : ℕ) (client : Endpoint)
     (moment : ℕ) (base : Option (List (List ℕ))) (answers : List Entry) (why : Stop) (now : RelayingValue)
     (own : Option (List (List ℕ))) (part : List ℕ) : Type 0 where
   pub count : ℕ
-  pub breaks : BeginsStages asset past most (turns directions count) (begun_list asset listen client moment []) answers
+  pub breaks : BeginsStages site past most (turns directions count) (begun_list site listen client moment []) answers
   pub some : 0 < most
-  pub stands : StandsStopped asset past most (begun_lines asset client moment base) (begun_list asset listen client moment answers) why now
+  pub stands : StandsStopped site past most (begun_lines site client moment base) (begun_list site listen client moment answers) why now
       own part

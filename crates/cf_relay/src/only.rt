@@ -1,7 +1,7 @@
 //! A lent pair as the links of one session.
 ghost use Rattle.std.specs.Prelude.{◌≡◌, ℕ, ◌<◌, ◌==◌, Some, true, IfErr, OnOk, length};
 ghost use Rattle.cf_outside.specs.Desk.{DeskValue};
-ghost use Rattle.cf_policy.specs.Within.{IsAssetWithin};
+ghost use Rattle.cf_policy.specs.Site.{IsSiteWithin};
 ghost use Rattle.cf_relay.specs.declared.limit.TheConstants.{MOST_BYTES};
 ghost use Rattle.cf_relay.specs.Only.{only_links, only_told};
 ghost use Rattle.cf_relay.specs.Relaying.{AreClosed, IsSound, relaying_value};
@@ -14,7 +14,7 @@ use crate::relaying::Relaying;
 use crate::stop::Stop;
 use cf_links::{Links, ReachAnswer};
 use cf_outside::{Desk, GiveAnswer, MeetAnswer, MomentAnswer, Pair, TakeAnswer, WriteAnswer};
-use cf_policy::Asset;
+use cf_policy::Site;
 use cf_view::{Endpoint, Side};
 
 /// A lent pair, as the links of the session 0, the only one.
@@ -61,21 +61,21 @@ impl Relaying {
     /// Turns between the two streams of a pair, until both sides are closed or the relay stops.
     pub(crate) fn run_pair<P: Pair, D: Desk>(
         &mut self,
-        asset: &Asset,
+        site: &Site<'_>,
         most: u64,
         buf: &mut [u8],
         pair: &mut P,
         desk: &mut D,
     ) -> Result<(), Stop>
-        requires within { IsAssetWithin asset.now }
-        requires sound { IsSound asset.now most (relaying_value self.old) }
+        requires within { IsSiteWithin site.now }
+        requires sound { IsSound site.now most (relaying_value self.old) }
         requires still { AreClosed (relaying_value self.old) → ⊥ }
         requires whole { DeskValue.whole (D.value desk.old) ≡ true }
         requires buffer { length buf.old ≡ MOST_BYTES }
-        ensures goes { OnOk result ((n : ℕ) × DoesBetween asset.now most (turns Directions.Together n)
+        ensures goes { OnOk result ((n : ℕ) × DoesBetween site.now most (turns Directions.Together n)
             (scene (relaying_value self.old) (only_links P.Pair pair.old) (D.value desk.old))
             (scene (relaying_value self.new) (only_links P.Pair pair.new) (D.value desk.new))) }
-        ensures stops { IfErr result (λ stop. (n : ℕ) × StopsBetween asset.now most (turns Directions.Together n) stop
+        ensures stops { IfErr result (λ stop. (n : ℕ) × StopsBetween site.now most (turns Directions.Together n) stop
             (scene (relaying_value self.old) (only_links P.Pair pair.old) (D.value desk.old))
             (scene (relaying_value self.new) (only_links P.Pair pair.new) (D.value desk.new))) }
         ensures closed { OnOk result (AreClosed (relaying_value self.new)) }
@@ -83,6 +83,6 @@ impl Relaying {
         ensures whole { StaysWhole result (D.value desk.new) }
     {
         let mut links = OnlyPair { pair };
-        self.run(asset, most, buf, 0, &mut links, desk)
+        self.run(site, most, buf, 0, &mut links, desk)
     }
 }

@@ -7,8 +7,7 @@ ghost use Rattle.cf_links.specs.Links.{LinksPlace};
 ghost use Rattle.cf_outq.specs.SendQueue.{IsQueue, empty, queue_length};
 ghost use Rattle.cf_outside.specs.Desk.{DeskValue};
 ghost use Rattle.cf_outside.specs.Pair.{Moment, met_at};
-ghost use Rattle.cf_policy.specs.Within.{IsAssetWithin};
-ghost use Rattle.cf_policy.specs.declared.Asset.{Asset as AssetOf};
+ghost use Rattle.cf_policy.specs.Site.{IsSiteWithin, SiteValue};
 ghost use Rattle.cf_relay.specs.declared.limit.TheConstants.{MOST_BYTES};
 ghost use Rattle.cf_relay.specs.Relaying.{AreClosed, AsksOrRests, IsShort, IsSound, RelayingValue, ServesOrRests, Unmoved, begun_value};
 ghost use Rattle.cf_relay.specs.Relaying.{relaying_value};
@@ -28,7 +27,7 @@ use cf_lane::{LETTER_LIMIT, Lane, streams_go_on};
 use cf_links::Links;
 use cf_outq::Outq;
 use cf_outside::{Desk, MomentAnswer};
-use cf_policy::Asset;
+use cf_policy::Site;
 use cf_view::Side;
 
 /// A relay between two stages: its lane, and for each side the queue to it, the bytes of it that are no whole unit, and how
@@ -54,11 +53,11 @@ impl Relaying {
         requires to_client { to_client ≡ empty }
         requires to_controller { to_controller ≡ empty }
         ensures value { relaying_value result ≡ begun_value lane moment }
-        ensures stands { (asset : AssetOf) (past : RateMoments) (listen : ℕ) (client : EndpointOf) (first : Option (List (List ℕ)))
-            → IsNewLane asset past client lane → StandsFor asset past first (met_at listen asset.endpoint client ∷ Moment moment ∷ [])
+        ensures stands { (site : SiteValue) (past : RateMoments) (listen : ℕ) (client : EndpointOf) (first : Option (List (List ℕ)))
+            → IsNewLane site past client lane → StandsFor site past first (met_at listen site.first.endpoint client ∷ Moment moment ∷ [])
             (relaying_value result) first }
-        ensures sound { (asset : AssetOf) (past : RateMoments) (client : EndpointOf) (most : ℕ) → 0 < most
-            → IsNewLane asset past client lane → IsSound asset most (relaying_value result) }
+        ensures sound { (site : SiteValue) (past : RateMoments) (client : EndpointOf) (most : ℕ) → 0 < most
+            → IsNewLane site past client lane → IsSound site most (relaying_value result) }
         ensures still { AreClosed (relaying_value result) → ⊥ }
     {
         Relaying {
@@ -85,15 +84,15 @@ impl Relaying {
         requires serves { LinksPlace.serves (L.place links.old) session ≡ true }
         requires still { AreClosed (relaying_value self.old) → ⊥ }
         ensures place { L.place links.new ≡ L.place links.old }
-        ensures goes { OnOk result ((asset : AssetOf) (most : ℕ) (desk : DeskValue) → self.old.idle < most →
-            DoesBetween asset most (Telling ∷ [])
+        ensures goes { OnOk result ((site : SiteValue) (most : ℕ) (desk : DeskValue) → self.old.idle < most →
+            DoesBetween site most (Telling ∷ [])
             (scene (relaying_value self.old) (link_value L.Links session links.old) desk)
             (scene (relaying_value self.new) (link_value L.Links session links.new) desk)) }
-        ensures stops { IfErr result (λ stop. (asset : AssetOf) (most : ℕ) (desk : DeskValue) → self.old.idle < most →
-            StopsBetween asset most (Telling ∷ []) stop
+        ensures stops { IfErr result (λ stop. (site : SiteValue) (most : ℕ) (desk : DeskValue) → self.old.idle < most →
+            StopsBetween site most (Telling ∷ []) stop
             (scene (relaying_value self.old) (link_value L.Links session links.old) desk)
             (scene (relaying_value self.new) (link_value L.Links session links.new) desk)) }
-        ensures sound { (asset : AssetOf) (most : ℕ) → IsSound asset most (relaying_value self.old) → IsSound asset most
+        ensures sound { (site : SiteValue) (most : ℕ) → IsSound site most (relaying_value self.old) → IsSound site most
             (relaying_value self.new) }
         ensures unmoved { Unmoved (relaying_value self.old) (relaying_value self.new) }
         ensures lane { RelayingValue.lane (relaying_value self.new) ≡ RelayingValue.lane (relaying_value self.old) }
@@ -110,7 +109,7 @@ impl Relaying {
     /// Asks a side for bytes, where it may be read, and hands the lane what comes.
     pub(crate) fn take<L: Links, D: Desk>(
         &mut self,
-        asset: &Asset,
+        site: &Site<'_>,
         directions: Directions,
         side: Side,
         most: u64,
@@ -120,26 +119,26 @@ impl Relaying {
         desk: &mut D,
     ) -> Result<(), Stop>
         requires serves { LinksPlace.serves (L.place links.old) session ≡ true }
-        requires within { IsAssetWithin asset.now }
-        requires sound { IsSound asset.now most (relaying_value self.old) }
+        requires within { IsSiteWithin site.now }
+        requires sound { IsSound site.now most (relaying_value self.old) }
         requires whole { DeskValue.whole (D.value desk.old) ≡ true }
         requires buffer { length buf.old ≡ MOST_BYTES }
         ensures place { L.place links.new ≡ L.place links.old }
-        ensures goes { OnOk result (DoesBetween asset.now most (Taking directions side ∷ [])
+        ensures goes { OnOk result (DoesBetween site.now most (Taking directions side ∷ [])
             (scene_of L.Links session D.Desk self.old links.old desk.old)
             (scene_of L.Links session D.Desk self.new links.new desk.new)) }
-        ensures stops { IfErr result (λ stop. StopsBetween asset.now most (Taking directions side ∷ []) stop
+        ensures stops { IfErr result (λ stop. StopsBetween site.now most (Taking directions side ∷ []) stop
             (scene_of L.Links session D.Desk self.old links.old desk.old)
             (scene_of L.Links session D.Desk self.new links.new desk.new)) }
-        ensures sound { OnOk result (IsSound asset.now most (relaying_value self.new)) }
-        ensures moves { OnOk result (AsksOrRests directions side most (relaying_value self.old) (relaying_value self.new)) }
-        ensures lane { IfErr result (KeepsLane asset.now (RelayingValue.lane (relaying_value self.new))) }
+        ensures sound { OnOk result (IsSound site.now most (relaying_value self.new)) }
+        ensures moves { OnOk result (AsksOrRests directions site.now side most (relaying_value self.old) (relaying_value self.new)) }
+        ensures lane { IfErr result (KeepsLane site.now (RelayingValue.lane (relaying_value self.new))) }
         ensures whole { StaysWhole result (D.value desk.new) }
         ensures buffer { length buf.new ≡ MOST_BYTES }
     {
         streams_go_on();
         take_from(
-            asset,
+            site,
             directions,
             self.moment,
             side,
@@ -191,15 +190,15 @@ impl Relaying {
         requires few { self.old.idle < most }
         requires buffer { length buf.old ≡ MOST_BYTES }
         ensures place { L.place links.new ≡ L.place links.old }
-        ensures goes { OnOk result ((asset : AssetOf) (desk : DeskValue) → DoesBetween asset most
+        ensures goes { OnOk result ((site : SiteValue) (desk : DeskValue) → DoesBetween site most
             (Giving side ∷ Finishing side ∷ [])
             (scene (relaying_value self.old) (link_value L.Links session links.old) desk)
             (scene (relaying_value self.new) (link_value L.Links session links.new) desk)) }
-        ensures stops { IfErr result (λ stop. (asset : AssetOf) (desk : DeskValue) → StopsBetween asset most
+        ensures stops { IfErr result (λ stop. (site : SiteValue) (desk : DeskValue) → StopsBetween site most
             (Giving side ∷ Finishing side ∷ []) stop
             (scene (relaying_value self.old) (link_value L.Links session links.old) desk)
             (scene (relaying_value self.new) (link_value L.Links session links.new) desk)) }
-        ensures sound { OnOk result ((asset : AssetOf) → IsSound asset most (relaying_value self.old) → IsSound asset most
+        ensures sound { OnOk result ((site : SiteValue) → IsSound site most (relaying_value self.old) → IsSound site most
             (relaying_value self.new)) }
         ensures moves { OnOk result (ServesOrRests side most (relaying_value self.old) (relaying_value self.new)) }
         ensures lane { RelayingValue.lane (relaying_value self.new) ≡ RelayingValue.lane (relaying_value self.old) }

@@ -2,15 +2,14 @@
 ghost use Rattle.std.specs.Prelude.{◌≡◌, ℕ, ◌<◌, ◌⊎◌, true, ◌↔◌, IfErr, IsTrue, List, OnOk, length};
 ghost use Rattle.cf_links.specs.Links.{LinksPlace};
 ghost use Rattle.cf_outside.specs.Desk.{DeskValue};
-ghost use Rattle.cf_policy.specs.Within.{IsAssetWithin};
+ghost use Rattle.cf_policy.specs.Site.{IsSiteWithin, SiteValue};
 ghost use Rattle.cf_relay.specs.declared.limit.TheConstants.{MOST_BYTES};
 ghost use Rattle.cf_relay.specs.Relaying.{AreClosed, IsSound, RelayingValue, progress, relaying_value};
 ghost use Rattle.cf_lane.specs.Caller.{RateMoments};
 ghost use Rattle.cf_lane.specs.Handled.{IsLaneOf, LaneValue};
 ghost use Rattle.cf_lane.specs.Judged.{Judged};
-ghost use Rattle.cf_lane.specs.Rates.{used_at};
 ghost use Rattle.cf_lane.specs.Rings.{AreRingsOf, KnowRings, KnowsRules};
-ghost use Rattle.cf_policy.specs.declared.Asset.{Asset as AssetOf};
+ghost use Rattle.cf_lane.specs.SiteRates.{used_at};
 ghost use Rattle.cf_relay.specs.Scene.{DoesBetween, StopsBetween, scene_of};
 ghost use Rattle.cf_relay.specs.Taken.{KeepsLane, StaysWhole};
 ghost use Rattle.cf_relay.specs.Turn.{turn, turns};
@@ -21,14 +20,14 @@ use crate::stop::Stop;
 use cf_lane::Rings;
 use cf_links::Links;
 use cf_outside::Desk;
-use cf_policy::Asset;
+use cf_policy::Site;
 use cf_view::Side;
 
 impl Relaying {
     /// Turns, until both sides are closed or the relay stops. Its directions are together.
     pub(crate) fn run<L: Links, D: Desk>(
         &mut self,
-        asset: &Asset,
+        site: &Site<'_>,
         most: u64,
         buf: &mut [u8],
         session: u64,
@@ -36,16 +35,16 @@ impl Relaying {
         desk: &mut D,
     ) -> Result<(), Stop>
         requires serves { LinksPlace.serves (L.place links.old) session ≡ true }
-        requires within { IsAssetWithin asset.now }
-        requires sound { IsSound asset.now most (relaying_value self.old) }
+        requires within { IsSiteWithin site.now }
+        requires sound { IsSound site.now most (relaying_value self.old) }
         requires still { AreClosed (relaying_value self.old) → ⊥ }
         requires whole { DeskValue.whole (D.value desk.old) ≡ true }
         requires buffer { length buf.old ≡ MOST_BYTES }
         ensures place { L.place links.new ≡ L.place links.old }
-        ensures goes { OnOk result ((n : ℕ) × DoesBetween asset.now most (turns Directions.Together n)
+        ensures goes { OnOk result ((n : ℕ) × DoesBetween site.now most (turns Directions.Together n)
             (scene_of L.Links session D.Desk self.old links.old desk.old)
             (scene_of L.Links session D.Desk self.new links.new desk.new)) }
-        ensures stops { IfErr result (λ stop. (n : ℕ) × StopsBetween asset.now most (turns Directions.Together n) stop
+        ensures stops { IfErr result (λ stop. (n : ℕ) × StopsBetween site.now most (turns Directions.Together n) stop
             (scene_of L.Links session D.Desk self.old links.old desk.old)
             (scene_of L.Links session D.Desk self.new links.new desk.new)) }
         ensures closed { OnOk result (AreClosed (relaying_value self.new)) }
@@ -53,7 +52,7 @@ impl Relaying {
         ensures whole { StaysWhole result (D.value desk.new) }
     {
         'turns: loop {
-            self.turn(asset, Directions::Together, most, buf, session, links, desk)?;
+            self.turn(site, Directions::Together, most, buf, session, links, desk)?;
             if self.is_closed() {
                 return Ok(());
             }
@@ -90,9 +89,10 @@ impl Relaying {
 
     /// The rings that the session leaves, as it ends, to a later one of its client.
     pub fn into_rings(self) -> Rings
-        ensures of_asset { (asset : AssetOf) → IsLaneOf asset (RelayingValue.lane (relaying_value self)) → AreRingsOf asset result }
-        ensures know { (past : RateMoments) (judged : List Judged)
-            → KnowsRules past (LaneValue.rules (RelayingValue.lane (relaying_value self))) judged → KnowRings result (used_at past judged) }
+        ensures of_site { (site : SiteValue) → IsLaneOf site (RelayingValue.lane (relaying_value self)) → AreRingsOf site result }
+        ensures know { (site : SiteValue) (past : RateMoments) (judged : List Judged)
+            → KnowsRules site past (LaneValue.rules (RelayingValue.lane (relaying_value self))) judged
+            → KnowRings result (used_at site past judged) }
     {
         self.lane.into_rings()
     }
@@ -104,7 +104,7 @@ impl Relaying {
     /// error no further turn is made, and the last line, such as that of a cut, is the caller's to write.
     pub fn turn<L: Links, D: Desk>(
         &mut self,
-        asset: &Asset,
+        site: &Site<'_>,
         directions: Directions,
         most: u64,
         buf: &mut [u8],
@@ -113,20 +113,20 @@ impl Relaying {
         desk: &mut D,
     ) -> Result<(), Stop>
         requires serves { LinksPlace.serves (L.place links.old) session ≡ true }
-        requires within { IsAssetWithin asset.now }
-        requires sound { IsSound asset.now most (relaying_value self.old) }
+        requires within { IsSiteWithin site.now }
+        requires sound { IsSound site.now most (relaying_value self.old) }
         requires still { AreClosed (relaying_value self.old) → ⊥ }
         requires whole { DeskValue.whole (D.value desk.old) ≡ true }
         requires buffer { length buf.old ≡ MOST_BYTES }
         ensures place { L.place links.new ≡ L.place links.old }
-        ensures goes { OnOk result (DoesBetween asset.now most (turn directions)
+        ensures goes { OnOk result (DoesBetween site.now most (turn directions)
             (scene_of L.Links session D.Desk self.old links.old desk.old)
             (scene_of L.Links session D.Desk self.new links.new desk.new)) }
-        ensures stops { IfErr result (λ stop. StopsBetween asset.now most (turn directions) stop
+        ensures stops { IfErr result (λ stop. StopsBetween site.now most (turn directions) stop
             (scene_of L.Links session D.Desk self.old links.old desk.old)
             (scene_of L.Links session D.Desk self.new links.new desk.new)) }
-        ensures sound { OnOk result (IsSound asset.now most (relaying_value self.new)) }
-        ensures lane { IfErr result (KeepsLane asset.now (RelayingValue.lane (relaying_value self.new))) }
+        ensures sound { OnOk result (IsSound site.now most (relaying_value self.new)) }
+        ensures lane { IfErr result (KeepsLane site.now (RelayingValue.lane (relaying_value self.new))) }
         ensures moves { OnOk result ((progress most (relaying_value self.old) < progress most (relaying_value self.new))
             ⊎ AreClosed (relaying_value self.new)) }
         ensures whole { StaysWhole result (D.value desk.new) }
@@ -134,7 +134,7 @@ impl Relaying {
     {
         self.tell(session, links)?;
         self.take(
-            asset,
+            site,
             directions,
             Side::Client,
             most,
@@ -144,7 +144,7 @@ impl Relaying {
             desk,
         )?;
         self.take(
-            asset,
+            site,
             directions,
             Side::Controller,
             most,

@@ -9,7 +9,8 @@
 //! - A gap of a connection is before data at which no packet of the capture has the octets that come first: what stands behind it a review
 //!   reads alone. A wrong TCP sum is partial where its field is the folded sum of the pseudo header alone; a review takes it as right.
 //! - After `learn` the commands of each client to each asset are those with the asset's station whose form is read, up to where its
-//!   connection breaks; what is left out beside them is counted by why.
+//!   connection breaks; what is left out beside them is counted by why. Where several assets have one address and port, what is for none
+//!   of them is counted with the first.
 #![tactic(auto)]
 
 mod dropped;

@@ -1,22 +1,23 @@
 -- The other stretches of flows, reviewed one after the other.
-use Rattle.std.proofs.Common.{◌≡◌, ◌+◌, ◌-◌, ◌<◌, ◌∙◌, ℕ, List, [], ◌∷◌, ◌++◌, length, map, get_or, slice_get, Option, Some, min, ◌^◌, refl, sym, ap, subst, arith, append_assoc}
+use Rattle.std.proofs.Common.{◌≡◌, ◌+◌, ◌-◌, ◌<◌, ◌∙◌, ℕ, List, [], ◌∷◌, ◌++◌, length, map, get_or, Option, Some, min, ◌^◌, refl, sym, ap, subst, arith, append_assoc}
 use Rattle.std.proofs.lemmas.List.{append-nil, get_or-map, length-map, map-append}
 use Rattle.cf_lane.specs.Judged.{in_turn}
+use Rattle.cf_policy.specs.Site.{SiteValue, site_from}
 use Rattle.cf_policy.specs.declared.Asset.{Asset}
 use Rattle.cf_watch.specs.FlowValue.{AreStretchesFor, IsForAsset, StretchValue, flow_value, stretch_value}
 use Rattle.cf_watch.specs.declared.Stretch.{Stretch}
 use Rattle.cf_judge.specs.Objections.{IsReadBy, commands_in}
-use Rattle.cf_review.proofs.Reading.{commands_more, same_asset}
+use Rattle.cf_review.proofs.Reading.{commands_more, same_place}
 use Rattle.cf_review.specs.FirstUnit.{IsReadPart, IsReadPartAt, from_place}
 use Rattle.cf_review.specs.Remark.{RemarkValue}
 use Rattle.cf_review.specs.Review.{AddsStretch, AddsStretches, AddsUnits, AreReadStretches, IsReadStretch, StretchReading, end_remarks, gap_remarks, remarks_behind, stretch_remarks, stretch_remarks_by, unit_remarks}
 
 -- the remarks on a stretch are that of its gap, and those on the bytes that are read
-pub adds_stretch : (asset : Asset) (s : StretchValue) (place : ℕ) (start first now : List RemarkValue) (admitted : ℕ) → IsReadPart asset.protocol s.flow (from_place place s.flow) →
-    first ≡ start ++ gap_remarks s.flow s.gap s.flow.midstream → AddsUnits asset (from_place place s.flow) first now admitted → AddsStretch asset s start now admitted
-adds_stretch asset s place start first now admitted part one units =
+pub adds_stretch : (site : SiteValue) (s : StretchValue) (place : ℕ) (start first now : List RemarkValue) (admitted : ℕ) → IsReadPart site.first.protocol s.flow (from_place place s.flow) →
+    first ≡ start ++ gap_remarks s.flow s.gap s.flow.midstream → AddsUnits site (from_place place s.flow) first now admitted → AddsStretch site s start now admitted
+adds_stretch site s place start first now admitted part one units =
     let f = s.flow in
-    let us = in_turn (unit_remarks asset f) [] units.judged ++ end_remarks f units.ending in
+    let us = in_turn (unit_remarks site f) [] units.judged ++ end_remarks f units.ending in
     let g = gap_remarks f s.gap f.midstream in
     record {
       behind = record { gap = s.gap; reading = record { flow = from_place place f; judged = units.judged; ending = units.ending } };
@@ -34,26 +35,26 @@ stretches_more assets (t ∷ ss) [] s b are is = absurd are
 stretches_more assets (t ∷ ss) (c ∷ bs) s b are is = (are.0, stretches_more assets ss bs s b are.1 is)
 
 behind_more : (assets : List Asset) (bs : List StretchReading) (b : StretchReading) →
-    remarks_behind assets (bs ++ b ∷ []) ≡ remarks_behind assets bs ++ stretch_remarks_by (slice_get assets b.reading.flow.asset) b
-behind_more assets [] b = append-nil (stretch_remarks_by (slice_get assets b.reading.flow.asset) b)
+    remarks_behind assets (bs ++ b ∷ []) ≡ remarks_behind assets bs ++ stretch_remarks_by (site_from assets b.reading.flow.asset) b
+behind_more assets [] b = append-nil (stretch_remarks_by (site_from assets b.reading.flow.asset) b)
 behind_more assets (c ∷ bs) b =
-    ap (λ (xs : List RemarkValue). stretch_remarks_by (slice_get assets c.reading.flow.asset) c ++ xs) (behind_more assets bs b)
-    ∙ sym (append_assoc (stretch_remarks_by (slice_get assets c.reading.flow.asset) c) (remarks_behind assets bs) (stretch_remarks_by (slice_get assets b.reading.flow.asset) b))
+    ap (λ (xs : List RemarkValue). stretch_remarks_by (site_from assets c.reading.flow.asset) c ++ xs) (behind_more assets bs b)
+    ∙ sym (append_assoc (stretch_remarks_by (site_from assets c.reading.flow.asset) c) (remarks_behind assets bs) (stretch_remarks_by (site_from assets b.reading.flow.asset) b))
 
 pub stretches_first : (assets : List Asset) (before : ℕ) (start : List RemarkValue) → AddsStretches assets [] before start start before
 stretches_first assets before start = record { behind = []; are_read = refl; admitted_is = refl; remarks = sym (append-nil start) }
 
-pub stretches_on : (assets : List Asset) (stretches : List StretchValue) (before admitted more : ℕ) (start old new : List RemarkValue) (s : StretchValue) (asset : Asset) →
-    AddsStretches assets stretches before start old admitted → slice_get assets s.flow.asset ≡ Some asset → AddsStretch asset s old new more →
+pub stretches_on : (assets : List Asset) (stretches : List StretchValue) (before admitted more : ℕ) (start old new : List RemarkValue) (s : StretchValue) (site : SiteValue) →
+    AddsStretches assets stretches before start old admitted → site_from assets s.flow.asset ≡ Some site → AddsStretch site s old new more →
     AddsStretches assets (stretches ++ s ∷ []) before start new (min (admitted + more) (2 ^ 64 - 1))
-stretches_on assets stretches before admitted more start old new s asset so at is =
+stretches_on assets stretches before admitted more start old new s site so at is =
     let b = is.behind in
-    let there : slice_get assets b.reading.flow.asset ≡ Some asset =
-    ap (slice_get assets) (same_asset asset.protocol s.flow.midstream s.flow b.reading.flow is.is_part) ∙ at in
+    let there : site_from assets b.reading.flow.asset ≡ Some site =
+    ap (site_from assets) (same_place site.first.protocol s.flow.midstream s.flow b.reading.flow is.is_part) ∙ at in
     let read : IsReadStretch assets s b = (
       is.gap,
-      subst (λ (o : Option Asset). IsReadPartAt o s.flow b.reading.flow) (sym at) is.is_part,
-      subst (λ (o : Option Asset). IsReadBy o b.reading) (sym there) is.are_read,
+      subst (λ (o : Option SiteValue). IsReadPartAt o s.flow b.reading.flow) (sym at) is.is_part,
+      subst (λ (o : Option SiteValue). IsReadBy o b.reading) (sym there) is.are_read,
     ) in
     let readings = map (λ (x : StretchReading). x.reading) so.behind in
     record {
@@ -61,11 +62,11 @@ stretches_on assets stretches before admitted more start old new s asset so at i
       are_read = stretches_more assets stretches so.behind s b so.are_read read;
       admitted_is = ap (λ n. min (n + more) (2 ^ 64 - 1)) so.admitted_is ∙ ap (λ n. min (commands_in before readings + n) (2 ^ 64 - 1)) is.admitted_is
           ∙ sym (commands_more before readings b.reading) ∙ ap (commands_in before) (sym (map-append (λ (x : StretchReading). x.reading) so.behind (b ∷ [])));
-      remarks = is.remarks ∙ ap (λ (xs : List RemarkValue). xs ++ stretch_remarks asset b) so.remarks ∙ append_assoc start (remarks_behind assets so.behind) (stretch_remarks asset b)
-          ∙ ap (λ (o : Option Asset). start ++ (remarks_behind assets so.behind ++ stretch_remarks_by o b)) (sym there) ∙ ap (λ (xs : List RemarkValue). start ++ xs) (sym (behind_more assets so.behind b));
+      remarks = is.remarks ∙ ap (λ (xs : List RemarkValue). xs ++ stretch_remarks site b) so.remarks ∙ append_assoc start (remarks_behind assets so.behind) (stretch_remarks site b)
+          ∙ ap (λ (o : Option SiteValue). start ++ (remarks_behind assets so.behind ++ stretch_remarks_by o b)) (sym there) ∙ ap (λ (xs : List RemarkValue). start ++ xs) (sym (behind_more assets so.behind b));
     }
 
--- each stretch is of a flow to an asset of the policy
+-- each stretch is of a flow to a site of the policy
 pub for_stretch : (assets : List Asset) (stretches : List Stretch) → AreStretchesFor assets (map stretch_value stretches) → (i : ℕ) (s : Stretch) → i < length stretches → s ≡ get_or stretches i s →
     IsForAsset assets (flow_value s.flow)
 for_stretch assets stretches all i s inside is =

@@ -1,5 +1,5 @@
 -- The first of all remarks, and the judge's objection.
-use Rattle.std.proofs.Common.{option_and_then, pos, ◌≡◌, ◌+◌, ◌-◌, ◌<◌, ◌≤◌, ◌∙◌, ◌==◌, ℕ, List, [], ◌∷◌, ◌++◌, Bool, true, false, cond, if◌then◌else◌, length, map, drop, take, get_or, slice_get, nat_lt, Option, Some, None, option_map, refl, sym, ap, subst, arith, inl, inr, append-nil, append_assoc, eq-eqb, suc}
+use Rattle.std.proofs.Common.{option_and_then, pos, ◌≡◌, ◌+◌, ◌-◌, ◌<◌, ◌≤◌, ◌∙◌, ◌==◌, ℕ, List, [], ◌∷◌, ◌++◌, Bool, true, false, cond, if◌then◌else◌, length, map, drop, take, get_or, nat_lt, Option, Some, None, option_map, refl, sym, ap, subst, arith, inl, inr, append-nil, append_assoc, eq-eqb, suc}
 use Rattle.std.specs.Option.{option_or}
 use Rattle.std.specs.List.{AllByRecursion, filter}
 use Rattle.std.specs.List.Sorted.{IsNonDecreasingBy}
@@ -8,12 +8,14 @@ use Rattle.std.proofs.lemmas.Bool.Decides.{nat_tests}
 use Rattle.std.proofs.lemmas.List.{get_or-drop, length-drop}
 use Rattle.std.proofs.lemmas.List.Sorted.{IsNonDecreasingBy-drop}
 use Rattle.cf_lane.specs.Judged.{Judged, in_turn}
+use Rattle.cf_lane.specs.Site.{item_place}
 use Rattle.cf_lane.specs.declared.fate.Fate.{Fate}
 use Rattle.cf_lane.specs.declared.fate.Fate.TheVariants as fate
+use Rattle.cf_policy.specs.Site.{SiteValue, site_from}
 use Rattle.cf_policy.specs.declared.Asset.{Asset}
 use Rattle.cf_watch.specs.FlowValue.{FlowValue}
 use Rattle.cf_watch.specs.declared.flow.Conflict.{Conflict as Conflict_}
-use Rattle.cf_judge.specs.Objections.{AreReadBy, IsReadBy, Reading, earlier, first_wrong, objected, objection_of, objection_to, sooner, wrong_by, wrong_by_fate}
+use Rattle.cf_judge.specs.Objections.{AreReadBy, IsReadBy, Reading, earlier, first_wrong, objected, objection_in, objection_of, objection_to, sooner, wrong_by, wrong_by_fate}
 use Rattle.cf_judge.specs.Plain.{AreRead, Breaks, Ending, Whole}
 use Rattle.cf_judge.specs.declared.Objection.{Objection}
 use Rattle.cf_review.proofs.Alls.{all_append}
@@ -22,7 +24,7 @@ use Rattle.cf_judge.specs.declared.Complaint.{Complaint}
 use Rattle.cf_judge.specs.declared.Complaint.TheVariants as complaint
 use Rattle.cf_review.specs.Remark.{Broken, Conflict, Gap, MatterValue, Midstream, Refused, RemarkValue, Stray}
 use Rattle.cf_review.specs.declared.remark.TheConstants.{SHOWN}
-use Rattle.cf_review.specs.Review.{AreInOrder, conflict_remarks, end_remarks, flow_remarks, is_at, matters, midstream_remarks, octets_of, remark_on, remarks_by, remarks_on, unit_remarks}
+use Rattle.cf_review.specs.Review.{AreInOrder, conflict_remarks, end_remarks, flow_remarks, is_at, matters, midstream_remarks, octets_by, remark_on, remarks_by, remarks_on, unit_remarks}
 
 -- ---- what is remarked, as the judge tells it
 
@@ -90,15 +92,15 @@ before low r (Some o) rs h is = (ap (earlier (Some (told_as r))) is.0 ∙ first_
 abbrev IsFrom : (low : ℕ) → (born : List ℕ) → Type 0
 IsFrom low born = (i : ℕ) → i < length born → low ≤ get_or born i 0
 
-module _ (asset : Asset) (f : FlowValue) where
-  by_fate : (low number : ℕ) (octets : List ℕ) (fate_ : Fate) (j_first : _) (rest : List RemarkValue) → low ≤ number → IsFirst number (option_map (objected f) j_first) rest →
-      IsFirst low (option_map (objected f) (option_or (wrong_by_fate number fate_) j_first)) (map (remark_on f number) (matters octets fate_) ++ rest)
-  by_fate low number octets (fate.Refused refusal) later rest h is = before low (remark_on f number (Refused refusal (take SHOWN octets))) (option_map (objected f) later) rest h is
-  by_fate low number octets (fate.Stray because) later rest h is = before low (remark_on f number (Stray because)) (option_map (objected f) later) rest h is
-  by_fate low number octets fate_ later rest h is = lower low number (option_map (objected f) later) rest h is
+module _ (site : SiteValue) (f : FlowValue) where
+  by_fate : (low number place : ℕ) (octets : List ℕ) (fate_ : Fate) (j_first : _) (rest : List RemarkValue) → low ≤ number → IsFirst number (option_map (objected f) j_first) rest →
+      IsFirst low (option_map (objected f) (option_or (wrong_by_fate number place fate_) j_first)) (map (remark_on f number place) (matters octets fate_) ++ rest)
+  by_fate low number place octets (fate.Refused refusal) later rest h is = before low (remark_on f number place (Refused refusal (take SHOWN octets))) (option_map (objected f) later) rest h is
+  by_fate low number place octets (fate.Stray because) later rest h is = before low (remark_on f number place (Stray because)) (option_map (objected f) later) rest h is
+  by_fate low number place octets fate_ later rest h is = lower low number (option_map (objected f) later) rest h is
 
   units_first : (low : ℕ) (earlier_ : List Judged) (bytes born : List ℕ) (js : List Judged) (ending : Ending) → length born ≡ length bytes → IsNonDecreasingBy (λ n. n) born → IsFrom low born →
-      AreRead asset f.client.address earlier_ bytes born js ending → IsFirst low (option_map (objected f) (first_wrong js ending)) (in_turn (unit_remarks asset f) earlier_ js ++ end_remarks f ending)
+      AreRead site f.client.address earlier_ bytes born js ending → IsFirst low (option_map (objected f) (first_wrong site js ending)) (in_turn (unit_remarks site f) earlier_ js ++ end_remarks f ending)
   units_first low earlier_ bytes born [] Whole sizes rises from are = refl
   units_first low earlier_ bytes born [] (Breaks number reason) sizes rises from (place, breaks, is, number_is) =
       let inside : place < length bytes = breaks.inside in
@@ -114,9 +116,9 @@ module _ (asset : Asset) (f : FlowValue) where
       (λ i below. let at : get_or (drop n born) i 0 ≡ get_or born (n + i) 0 = get_or-drop n born i 0 in
       let le : get_or born (n - 1) 0 ≤ get_or born (n + i) 0 = rises (n - 1) (n + i) 0 (omega arith) (omega (arith, below, born_left)) in
       omega (arith, at, le, moment)) rest in
-      subst (IsFirst low (option_map (objected f) (first_wrong (j ∷ js) ending)))
-      (sym (append_assoc (unit_remarks asset f earlier_ j) (in_turn (unit_remarks asset f) (earlier_ ++ j ∷ []) js) (end_remarks f ending)))
-      (by_fate low j.moment (octets_of asset earlier_ j.item) j.fate (first_wrong js ending) (in_turn (unit_remarks asset f) (earlier_ ++ j ∷ []) js ++ end_remarks f ending)
+      subst (IsFirst low (option_map (objected f) (first_wrong site (j ∷ js) ending)))
+      (sym (append_assoc (unit_remarks site f earlier_ j) (in_turn (unit_remarks site f) (earlier_ ++ j ∷ []) js) (end_remarks f ending)))
+      (by_fate low j.moment (item_place site j.item) (octets_by site (item_place site j.item) earlier_ j.item) j.fate (first_wrong site js ending) (in_turn (unit_remarks site f) (earlier_ ++ j ∷ []) js ++ end_remarks f ending)
       (omega (arith, moment, above)) next)
 
   chosen : (b : Bool) (v w : _) → option_map (objected f) (if b then Some w else Some v) ≡ (if b then Some (objected f w) else Some (objected f v))
@@ -129,25 +131,25 @@ module _ (asset : Asset) (f : FlowValue) where
   by_conflict (Some c) None rs e = sym (ap (earlier (Some (objected f (wrong_by c)))) e)
   by_conflict (Some c) (Some w) rs e = chosen (nat_lt w.number c.at_record) (wrong_by c) w ∙ sym (ap (earlier (Some (objected f (wrong_by c)))) e)
 
-  flow_first : (js : List Judged) (ending : Ending) → BeginsWithSyn f → IsRising f → AreRead asset f.client.address [] f.bytes f.born js ending → objection_of f js ending ≡ least (flow_remarks asset f js ending)
+  flow_first : (js : List Judged) (ending : Ending) → BeginsWithSyn f → IsRising f → AreRead site f.client.address [] f.bytes f.born js ending → objection_of site f js ending ≡ least (flow_remarks site f js ending)
   flow_first js ending syn rising are =
       let u = units_first 0 [] f.bytes f.born js ending rising.count rising.rises (λ i below. omega arith) are in
-      let items = in_turn (unit_remarks asset f) [] js ++ end_remarks f ending in
-      by_conflict f.conflict (first_wrong js ending) items (first_is 0 (option_map (objected f) (first_wrong js ending)) items u)
+      let items = in_turn (unit_remarks site f) [] js ++ end_remarks f ending in
+      by_conflict f.conflict (first_wrong site js ending) items (first_is 0 (option_map (objected f) (first_wrong site js ending)) items u)
       ∙ ap (λ m. least (midstream_remarks f m ++ (conflict_remarks f f.conflict ++ items))) (sym syn)
 
   -- each of them is an objection
   abbrev Objections : List RemarkValue → Type 0
   Objections rs = AllByRecursion IsObjection rs
 
-  by_matters : (number : ℕ) (octets : List ℕ) (fate_ : Fate) → Objections (map (remark_on f number) (matters octets fate_))
-  by_matters number octets (fate.Refused refusal) = (refl, tt)
-  by_matters number octets (fate.Stray because) = (refl, tt)
-  by_matters number octets fate_ = tt
+  by_matters : (number place : ℕ) (octets : List ℕ) (fate_ : Fate) → Objections (map (remark_on f number place) (matters octets fate_))
+  by_matters number place octets (fate.Refused refusal) = (refl, tt)
+  by_matters number place octets (fate.Stray because) = (refl, tt)
+  by_matters number place octets fate_ = tt
 
-  by_units : (earlier_ js : List Judged) → Objections (in_turn (unit_remarks asset f) earlier_ js)
+  by_units : (earlier_ js : List Judged) → Objections (in_turn (unit_remarks site f) earlier_ js)
   by_units earlier_ [] = tt
-  by_units earlier_ (j ∷ js) = all_append IsObjection (unit_remarks asset f earlier_ j) (in_turn (unit_remarks asset f) (earlier_ ++ j ∷ []) js) (by_matters j.moment (octets_of asset earlier_ j.item) j.fate) (by_units (earlier_ ++ j ∷ []) js)
+  by_units earlier_ (j ∷ js) = all_append IsObjection (unit_remarks site f earlier_ j) (in_turn (unit_remarks site f) (earlier_ ++ j ∷ []) js) (by_matters j.moment (item_place site j.item) (octets_by site (item_place site j.item) earlier_ j.item) j.fate) (by_units (earlier_ ++ j ∷ []) js)
 
   by_end : (ending : Ending) → Objections (end_remarks f ending)
   by_end Whole = tt
@@ -157,35 +159,35 @@ module _ (asset : Asset) (f : FlowValue) where
   by_one_conflict None = tt
   by_one_conflict (Some c) = (refl, tt)
 
-  flow_objections : (js : List Judged) (ending : Ending) → BeginsWithSyn f → Objections (flow_remarks asset f js ending)
+  flow_objections : (js : List Judged) (ending : Ending) → BeginsWithSyn f → Objections (flow_remarks site f js ending)
   flow_objections js ending syn =
-      let items = in_turn (unit_remarks asset f) [] js ++ end_remarks f ending in
-      let rest = all_append IsObjection (conflict_remarks f f.conflict) items (by_one_conflict f.conflict) (all_append IsObjection (in_turn (unit_remarks asset f) [] js) (end_remarks f ending) (by_units [] js) (by_end ending)) in
+      let items = in_turn (unit_remarks site f) [] js ++ end_remarks f ending in
+      let rest = all_append IsObjection (conflict_remarks f f.conflict) items (by_one_conflict f.conflict) (all_append IsObjection (in_turn (unit_remarks site f) [] js) (end_remarks f ending) (by_units [] js) (by_end ending)) in
       subst (λ m. Objections (midstream_remarks f m ++ (conflict_remarks f f.conflict ++ items))) (sym syn) rest
 
 -- ---- those of all flows
 
-one_first : (o : Option Asset) (r : Reading) → IsReadBy o r → IsRising r.flow → BeginsWithSyn r.flow → objection_of r.flow r.judged r.ending ≡ least (remarks_by o r)
+one_first : (o : Option SiteValue) (r : Reading) → IsReadBy o r → IsRising r.flow → BeginsWithSyn r.flow → objection_in o r ≡ least (remarks_by o r)
 one_first None r are rising syn = absurd are
-one_first (Some asset) r are rising syn = flow_first asset r.flow r.judged r.ending syn rising are
+one_first (Some site) r are rising syn = flow_first site r.flow r.judged r.ending syn rising are
 
-one_objects : (o : Option Asset) (r : Reading) → BeginsWithSyn r.flow → AllByRecursion IsObjection (remarks_by o r)
+one_objects : (o : Option SiteValue) (r : Reading) → BeginsWithSyn r.flow → AllByRecursion IsObjection (remarks_by o r)
 one_objects None r syn = tt
-one_objects (Some asset) r syn = flow_objections asset r.flow r.judged r.ending syn
+one_objects (Some site) r syn = flow_objections site r.flow r.judged r.ending syn
 
 all_object : (assets : List Asset) (rs : List Reading) → AllByRecursion (λ r. BeginsWithSyn r.flow) rs → AllByRecursion IsObjection (remarks_on assets rs)
 all_object assets [] syn = tt
-all_object assets (r ∷ rs) syn = all_append IsObjection (remarks_by (slice_get assets r.flow.asset) r) (remarks_on assets rs) (one_objects (slice_get assets r.flow.asset) r syn.0) (all_object assets rs syn.1)
+all_object assets (r ∷ rs) syn = all_append IsObjection (remarks_by (site_from assets r.flow.asset) r) (remarks_on assets rs) (one_objects (site_from assets r.flow.asset) r syn.0) (all_object assets rs syn.1)
 
 all_first : (assets : List Asset) (first : Option Objection) (rs : List Reading) → AreReadBy assets rs → AllByRecursion (λ r. IsRising r.flow) rs →
-    AllByRecursion (λ r. BeginsWithSyn r.flow) rs → objection_to first rs ≡ earlier first (least (remarks_on assets rs))
+    AllByRecursion (λ r. BeginsWithSyn r.flow) rs → objection_to assets first rs ≡ earlier first (least (remarks_on assets rs))
 all_first assets first [] are rising syn = sym (earlier_none first)
 all_first assets first (r ∷ rs) are rising syn =
-    let here = one_first (slice_get assets r.flow.asset) r are.0 rising.0 syn.0 in
-    all_first assets (earlier first (objection_of r.flow r.judged r.ending)) rs are.1 rising.1 syn.1
-    ∙ earlier_assoc first (objection_of r.flow r.judged r.ending) (least (remarks_on assets rs))
+    let here = one_first (site_from assets r.flow.asset) r are.0 rising.0 syn.0 in
+    all_first assets (earlier first (objection_in (site_from assets r.flow.asset) r)) rs are.1 rising.1 syn.1
+    ∙ earlier_assoc first (objection_in (site_from assets r.flow.asset) r) (least (remarks_on assets rs))
     ∙ ap (λ o. earlier first (earlier o (least (remarks_on assets rs)))) here
-    ∙ ap (earlier first) (sym (least_append (remarks_by (slice_get assets r.flow.asset) r) (remarks_on assets rs)))
+    ∙ ap (earlier first) (sym (least_append (remarks_by (site_from assets r.flow.asset) r) (remarks_on assets rs)))
 
 -- ---- in the order of their records
 

@@ -7,4 +7,5 @@ mod Ordering
 mod Reading
 mod Rising
 mod SynFlows
+mod Told
 mod Writing

@@ -10,6 +10,7 @@ use Rattle.cf_policy.specs.declared.Asset.{Asset}
 use Rattle.cf_records.specs.Capture.{Record}
 use Rattle.cf_leg.specs.Segment.{is_opening}
 use Rattle.cf_policy.specs.AtEndpoint.{asset_place}
+use Rattle.cf_policy.specs.Site.{SiteValue, site_from}
 use Rattle.cf_stream.proofs.FirstCopy.{first_copy-append}
 use Rattle.cf_stream.proofs.Taken.{taken_extends}
 use Rattle.cf_stream.specs.FirstCopy.{first_copy}
@@ -145,14 +146,14 @@ part_rises : (protocol : Protocol) (midstream : Option ℕ) (f read : FlowValue)
 part_rises protocol None f read is h = subst IsRising (sym is) h
 part_rises protocol (Some number) f read is h = subst IsRising (sym is.2) (rises_from is.0 f h)
 
-one_part : (o : Option Asset) (f read : FlowValue) → IsReadPartAt o f read → IsRising f → IsRising read
+one_part : (o : Option SiteValue) (f read : FlowValue) → IsReadPartAt o f read → IsRising f → IsRising read
 one_part None f read is h = absurd is
-one_part (Some asset) f read is h = part_rises asset.protocol f.midstream f read is h
+one_part (Some site) f read is h = part_rises site.first.protocol f.midstream f read is h
 
 parts_rise : (assets : List Asset) (flows read : List FlowValue) → AreReadParts assets flows read → AllByRecursion IsRising flows → AllByRecursion IsRising read
 parts_rise assets [] read are h = subst (AllByRecursion IsRising) (sym are) tt
 parts_rise assets (f ∷ flows) [] are h = absurd are
-parts_rise assets (f ∷ flows) (r ∷ read) are h = (one_part (slice_get assets f.asset) f r are.0 h.0, parts_rise assets flows read are.1 h.1)
+parts_rise assets (f ∷ flows) (r ∷ read) are h = (one_part (site_from assets f.asset) f r are.0 h.0, parts_rise assets flows read are.1 h.1)
 
 pub come_in_order : BytesComeInOrder
 come_in_order scope assets newest flows read are parts =

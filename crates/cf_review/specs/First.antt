@@ -60,4 +60,4 @@ JudgeTellsTheFirst =
     (assets : List Asset) (readings : List Reading) (told : List RemarkValue) → AreReadBy assets readings
     → AllByRecursion (λ r. IsRising r.flow) readings →
     AllByRecursion (λ r. BeginsWithSyn r.flow) readings → AreInOrder (all_remarks assets readings []) told →
-    objection_to None readings ≡ option_and_then objection_by (first_of told)
+    objection_to assets None readings ≡ option_and_then objection_by (first_of told)

@@ -1,7 +1,8 @@
 -- From which byte on a flow is read: IsReadPart. One that begins with its SYN is read from its first byte on; one that begins amid its
 -- stream from the first byte at which a unit of the protocol begins.
-use Rattle.std.specs.Prelude.{◌≡◌, ◌<◌, ◌⊎◌, ℕ, List, [], ◌∷◌, drop, slice_get, Option, Some, None}
+use Rattle.std.specs.Prelude.{◌≡◌, ◌<◌, ◌⊎◌, ℕ, List, [], ◌∷◌, drop, Option, Some, None}
 use Rattle.cf_lane.specs.Unit.{SpellsUnit, UnitValue}
+use Rattle.cf_policy.specs.Site.{SiteValue, site_from}
 use Rattle.cf_policy.specs.declared.Asset.{Asset}
 use Rattle.cf_policy.specs.declared.Protocol.{Protocol}
 use Rattle.cf_view.specs.Framing.{Begins}
@@ -37,13 +38,13 @@ IsReadPartBy protocol (Some number) f read = (place : ℕ) × IsReadFrom protoco
 abbrev pub IsReadPart : Protocol → (f read : FlowValue) → Type 0
 IsReadPart protocol f read = IsReadPartBy protocol f.midstream f read
 
--- the part that is read of a flow to the asset at its place
-abbrev pub IsReadPartAt : Option Asset → (f read : FlowValue) → Type 0
+-- the part that is read of a flow to the site at its place
+abbrev pub IsReadPartAt : Option SiteValue → (f read : FlowValue) → Type 0
 IsReadPartAt None f read = ⊥
-IsReadPartAt (Some asset) f read = IsReadPart asset.protocol f read
+IsReadPartAt (Some site) f read = IsReadPart site.first.protocol f read
 
 -- flow by flow
 abbrev pub AreReadParts : List Asset → (flows read : List FlowValue) → Type 0
 AreReadParts assets [] read = read ≡ []
 AreReadParts assets (f ∷ flows) [] = ⊥
-AreReadParts assets (f ∷ flows) (r ∷ read) = IsReadPartAt (slice_get assets f.asset) f r × AreReadParts assets flows read
+AreReadParts assets (f ∷ flows) (r ∷ read) = IsReadPartAt (site_from assets f.asset) f r × AreReadParts assets flows read

@@ -36,7 +36,7 @@ pub struct Remark {
     /// The number, counted from 1, of the record with which it was whole.
     pub at_record: u64,
     pub client: Endpoint,
-    /// The place of the asset in the policy, counted from 0.
+    /// The place in the policy, counted from 0, of the asset that it is about: that of a unit, or else the first of the flow's site.
     pub asset: u32,
     pub what: Matter,
 }

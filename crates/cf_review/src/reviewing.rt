@@ -1,25 +1,28 @@
 //! All that a policy objects to in watched flows.
-ghost use Rattle.std.specs.Prelude.{◌≡◌, ◌≤◌, ◌++◌, ◌∷◌, [], ℕ, List, IfOk, OnOk, All, drop, length, map, slice_range, take};
+ghost use Rattle.std.specs.Prelude.{◌≡◌, ◌+◌, ◌^◌, ◌<◌, ◌≤◌, ◌++◌, ◌∷◌, [], ℕ, List, IfOk, OnOk, All, drop, length, map, slice_range, take};
 ghost use Rattle.cf_lane.specs.Judged.{Judged as JudgedItem, is_admitted, one_if};
 ghost use Rattle.cf_lane.specs.Unit.{SpellsUnit, UnitValue};
 ghost use Rattle.cf_lane.specs.declared.fate.Fate.{Fate};
 ghost use Rattle.cf_lane.specs.declared.fate.Refusal.{Refusal};
 ghost use Rattle.cf_judge.specs.Front.{HasWhole, IsReaderOf};
-ghost use Rattle.cf_judge.specs.Plain.{HasPlainFate, completed_in};
+ghost use Rattle.cf_judge.specs.Plain.{HasSiteFate, completed_in};
 ghost use Rattle.cf_judge.specs.Ruling.{ruling_of};
-ghost use Rattle.cf_policy.specs.Within.{AreAssetsWithin, IsAssetWithin};
+ghost use Rattle.cf_lane.specs.Site.{place_for};
+ghost use Rattle.cf_policy.specs.Site.{IsSiteWithin, assets_of};
+ghost use Rattle.cf_policy.specs.Within.{AreAssetsWithin};
 ghost use Rattle.cf_watch.specs.FlowValue.{AreStretchesFor, IsForAsset, flow_value, stretch_value};
 ghost use Rattle.cf_review.specs.Remark.{matter_value, remark_value};
 ghost use Rattle.cf_review.specs.declared.remark.TheConstants.{SHOWN};
 ghost use Rattle.cf_review.specs.FirstUnit.{from_place};
 ghost use Rattle.cf_review.specs.Review.{AddsReview, AddsStretch, AddsStretches, AddsUnits, AreReviewed, IsReviewOf, conflict_remarks, gap_remarks};
-ghost use Rattle.cf_review.specs.Review.{midstream_remarks, remark_on, unit_remarks};
+ghost use Rattle.cf_review.specs.Review.{midstream_remarks, remark_on, unit_remarks_by};
+ghost use Rattle.cf_view.specs.declared.Side.TheVariants as side;
 
 use crate::first_unit::first_place;
 use crate::remark::{Matter, Remark, SHOWN};
 use arrayvec::ArrayVec;
 use cf_judge::{Front, Reader, Ruling};
-use cf_policy::{Asset, Policy};
+use cf_policy::{Policy, Site, site_at_place};
 use cf_view::{NoMemory, View, push_view};
 use cf_watch::{Flow, Stretch};
 use std::alloc::Global;
@@ -34,7 +37,7 @@ pub struct Reviewed {
     pub remarks: Vec<Remark>,
 }
 
-/// Judges flows, each of which is to an asset of the policy, and keeps all that the policy objects to. A flow that begins amid its stream
+/// Judges flows, each of which is to a site of the policy, and keeps all that the policy objects to. A flow that begins amid its stream
 /// is told, and read from its first unit on. So is each other stretch of a flow, the first of which tells the gap. Rates and the numbers of
 /// IEC 60870-5-104 are not judged. The flows and the stretches are those of a whole capture.
 pub fn review(
@@ -76,7 +79,8 @@ fn review_flows(
     let assets = policy.assets.as_slice();
     let mut admitted: u64 = 0;
     for flow in flows {
-        let more = review_flow(alloc, &assets[flow.asset as usize], flow, remarks)?;
+        let site = site_at_place(assets, flow.asset as usize);
+        let more = review_flow(alloc, &site, flow, remarks)?;
         admitted = admitted.saturating_add(more);
     }
     Ok(admitted)
@@ -98,60 +102,63 @@ fn review_stretches(
     let assets = policy.assets.as_slice();
     let mut admitted = before;
     for stretch in stretches {
-        let asset = &assets[stretch.flow.asset as usize];
-        let more = review_stretch(alloc, asset, stretch, remarks)?;
+        let site = site_at_place(assets, stretch.flow.asset as usize);
+        let more = review_stretch(alloc, &site, stretch, remarks)?;
         admitted = admitted.saturating_add(more);
     }
     Ok(admitted)
 }
 
-/// Adds the remarks on a stretch of a flow to an asset, and answers how many of its commands are allowed.
+/// Adds the remarks on a stretch of a flow to a site, and answers how many of its commands are allowed.
 fn review_stretch(
     alloc: Global,
-    asset: &Asset,
+    site: &Site<'_>,
     stretch: &Stretch,
     remarks: &mut Vec<Remark>,
 ) -> Result<u64, NoMemory>
-    requires within { IsAssetWithin asset.now }
+    requires within { IsSiteWithin site.now }
+    requires places { stretch.now.flow.asset + length (assets_of site.now) < 2 ^ 32 }
     requires born { length stretch.now.flow.born ≡ length stretch.now.flow.bytes.items }
-    ensures { IfOk result (λ admitted. AddsStretch asset.now (stretch_value stretch.now) (map remark_value remarks.old.items)
+    ensures { IfOk result (λ admitted. AddsStretch site.now (stretch_value stretch.now) (map remark_value remarks.old.items)
         (map remark_value remarks.new.items) admitted) }
 {
     add_gap(stretch, remarks)?;
-    let start = first_place(&asset.protocol, &stretch.flow);
-    review_units(alloc, asset, &stretch.flow, start, remarks)
+    let start = first_place(&site.first().protocol, &stretch.flow);
+    review_units(alloc, site, &stretch.flow, start, remarks)
 }
 
-/// Adds the remarks on a flow to an asset, and answers how many of its commands are allowed.
+/// Adds the remarks on a flow to a site, and answers how many of its commands are allowed.
 fn review_flow(
     alloc: Global,
-    asset: &Asset,
+    site: &Site<'_>,
     flow: &Flow,
     remarks: &mut Vec<Remark>,
 ) -> Result<u64, NoMemory>
-    requires within { IsAssetWithin asset.now }
+    requires within { IsSiteWithin site.now }
+    requires places { flow.now.asset + length (assets_of site.now) < 2 ^ 32 }
     requires born { length flow.now.born ≡ length flow.now.bytes.items }
-    ensures { IfOk result (λ admitted. AddsReview asset.now (flow_value flow.now) (map remark_value remarks.old.items)
+    ensures { IfOk result (λ admitted. AddsReview site.now (flow_value flow.now) (map remark_value remarks.old.items)
         (map remark_value remarks.new.items) admitted) }
 {
     add_midstream(flow, remarks)?;
     add_conflict(flow, remarks)?;
-    let start = first_place(&asset.protocol, flow);
-    review_units(alloc, asset, flow, start, remarks)
+    let start = first_place(&site.first().protocol, flow);
+    review_units(alloc, site, flow, start, remarks)
 }
 
 /// Adds the remarks on the bytes of a flow from a place on, and answers how many of its commands are allowed.
 fn review_units(
     alloc: Global,
-    asset: &Asset,
+    site: &Site<'_>,
     flow: &Flow,
     start: usize,
     remarks: &mut Vec<Remark>,
 ) -> Result<u64, NoMemory>
-    requires within { IsAssetWithin asset.now }
+    requires within { IsSiteWithin site.now }
+    requires places { flow.now.asset + length (assets_of site.now) < 2 ^ 32 }
     requires born { length flow.now.born ≡ length flow.now.bytes.items }
     requires inside { start ≤ length flow.now.bytes.items }
-    ensures { IfOk result (λ admitted. AddsUnits asset.now (from_place start (flow_value flow.now)) (map remark_value remarks.old.items)
+    ensures { IfOk result (λ admitted. AddsUnits site.now (from_place start (flow_value flow.now)) (map remark_value remarks.old.items)
         (map remark_value remarks.new.items) admitted) }
 {
     let bytes = bytes_from(flow, start);
@@ -159,22 +166,26 @@ fn review_units(
     if bytes.is_empty() {
         return Ok(admitted);
     }
-    let mut reader = Reader::new(alloc, asset, flow.client.address)?;
+    let mut reader = Reader::new(alloc, site, flow.client.address)?;
     let mut at = 0;
     'units: while at < bytes.len() {
-        match reader.next(asset, &octets_of(bytes, at, bytes.len())) {
+        match reader.next(site, &octets_of(bytes, at, bytes.len())) {
             Front::Rest => return Ok(admitted),
             Front::Broken { reason, place } => {
                 let number = flow.record_at(start + at + place);
-                add(flow, number, Matter::Broken(reason), remarks)?;
+                add(flow, number, 0, Matter::Broken(reason), remarks)?;
                 return Ok(admitted);
             }
-            Front::Took { ruling, used } => {
+            Front::Took {
+                ruling,
+                place,
+                used,
+            } => {
                 let unit = octets_of(bytes, at, at + used);
                 at += used;
                 admitted += allowed_by(&ruling);
                 let number = flow.record_at(start + at - 1);
-                add_unit(&reader, asset, flow, unit, number, ruling, remarks)?;
+                add_unit(&reader, site, flow, unit, number, place, ruling, remarks)?;
             }
         }
     }
@@ -209,15 +220,22 @@ fn allowed_by(ruling: &Ruling) -> u64
     }
 }
 
-/// Adds a remark on a flow.
-fn add(flow: &Flow, number: u64, what: Matter, remarks: &mut Vec<Remark>) -> Result<(), NoMemory>
+/// Adds a remark on a flow, about the asset of a place of its site.
+fn add(
+    flow: &Flow,
+    number: u64,
+    place: usize,
+    what: Matter,
+    remarks: &mut Vec<Remark>,
+) -> Result<(), NoMemory>
+    requires { flow.now.asset + place < 2 ^ 32 }
     ensures { OnOk result (map remark_value remarks.new.items ≡ map remark_value remarks.old.items ++ remark_on (flow_value flow.now) number
-        (matter_value what) ∷ []) }
+        place (matter_value what) ∷ []) }
 {
     let remark = Remark {
         at_record: number,
         client: flow.client,
-        asset: flow.asset,
+        asset: flow.asset + place as u32,
         what,
     };
     match remarks.push(remark) {
@@ -228,13 +246,14 @@ fn add(flow: &Flow, number: u64, what: Matter, remarks: &mut Vec<Remark>) -> Res
 
 /// Adds that a flow begins amid its stream, if it does.
 fn add_midstream(flow: &Flow, remarks: &mut Vec<Remark>) -> Result<(), NoMemory>
+    requires { flow.now.asset < 2 ^ 32 }
     ensures { OnOk result (map remark_value remarks.new.items ≡ map remark_value remarks.old.items
         ++ midstream_remarks (flow_value flow.now) flow.now.midstream) }
 {
     match flow.midstream {
         None => Ok(()),
         Some(number) => {
-            add(flow, number, Matter::Midstream, remarks)?;
+            add(flow, number, 0, Matter::Midstream, remarks)?;
             Ok(())
         }
     }
@@ -242,12 +261,13 @@ fn add_midstream(flow: &Flow, remarks: &mut Vec<Remark>) -> Result<(), NoMemory>
 
 /// Adds the gap that a stretch tells, if it does.
 fn add_gap(stretch: &Stretch, remarks: &mut Vec<Remark>) -> Result<(), NoMemory>
+    requires { stretch.now.flow.asset < 2 ^ 32 }
     ensures { OnOk result (map remark_value remarks.new.items ≡ map remark_value remarks.old.items
         ++ gap_remarks (flow_value stretch.now.flow) stretch.now.gap stretch.now.flow.midstream) }
 {
     match (stretch.gap, stretch.flow.midstream) {
         (Some(position), Some(number)) => {
-            add(&stretch.flow, number, Matter::Gap(position), remarks)?;
+            add(&stretch.flow, number, 0, Matter::Gap(position), remarks)?;
             Ok(())
         }
         (None, _) | (Some(_), None) => Ok(()),
@@ -256,6 +276,7 @@ fn add_gap(stretch: &Stretch, remarks: &mut Vec<Remark>) -> Result<(), NoMemory>
 
 /// Adds that a flow has a conflict, if it has one.
 fn add_conflict(flow: &Flow, remarks: &mut Vec<Remark>) -> Result<(), NoMemory>
+    requires { flow.now.asset < 2 ^ 32 }
     ensures { OnOk result (map remark_value remarks.new.items ≡ map remark_value remarks.old.items ++ conflict_remarks (flow_value flow.now)
         flow.now.conflict) }
 {
@@ -265,6 +286,7 @@ fn add_conflict(flow: &Flow, remarks: &mut Vec<Remark>) -> Result<(), NoMemory>
             add(
                 flow,
                 conflict.at_record,
+                0,
                 Matter::Conflict(conflict.position),
                 remarks,
             )?;
@@ -273,33 +295,42 @@ fn add_conflict(flow: &Flow, remarks: &mut Vec<Remark>) -> Result<(), NoMemory>
     }
 }
 
-/// Adds what is objected to in a unit of these octets, after which the reader stands.
+/// Adds what is objected to in a unit of these octets for the asset of a place, after which the reader stands.
 fn add_unit(
     reader: &Reader,
-    asset: &Asset,
+    site: &Site<'_>,
     flow: &Flow,
     unit: View<'_>,
     number: u64,
+    place: usize,
     ruling: Ruling,
     remarks: &mut Vec<Remark>,
 ) -> Result<(), NoMemory>
-    requires whole { (refusal : Refusal) → ruling ≡ Ruling.Refused refusal → HasWhole asset.now reader.now }
+    requires places { flow.now.asset + place < 2 ^ 32 }
+    requires whole { (refusal : Refusal) → ruling ≡ Ruling.Refused refusal → HasWhole site.now place reader.now }
     ensures { OnOk result ((client : ℕ) (earlier : List JudgedItem) (u : UnitValue) (f : Fate)
-        → IsReaderOf asset.now client (earlier ++ completed_in number u f ∷ []) reader.now
-        → SpellsUnit asset.now.protocol u unit.entry.bytes
-        → HasPlainFate asset.now client earlier u f → ruling ≡ ruling_of f
-        → map remark_value remarks.new.items ≡ map remark_value remarks.old.items ++ unit_remarks asset.now (flow_value flow.now) earlier
+        → IsReaderOf site.now client (earlier ++ completed_in number u f ∷ []) reader.now
+        → place ≡ place_for site.now side.Client u
+        → SpellsUnit site.now.first.protocol u unit.entry.bytes
+        → HasSiteFate site.now client earlier u f → ruling ≡ ruling_of f
+        → map remark_value remarks.new.items ≡ map remark_value remarks.old.items ++ unit_remarks_by site.now place (flow_value flow.now) earlier
         (completed_in number u f)) }
 {
     match ruling {
         Ruling::Nothing | Ruling::Allowed => Ok(()),
         Ruling::Stray(why) => {
-            add(flow, number, Matter::Stray(why), remarks)?;
+            add(flow, number, place, Matter::Stray(why), remarks)?;
             Ok(())
         }
         Ruling::Refused(refusal) => {
-            let octets = shown(&reader.command_octets(asset, unit));
-            add(flow, number, Matter::Refused { refusal, octets }, remarks)?;
+            let octets = shown(&reader.command_octets(site, place, unit));
+            add(
+                flow,
+                number,
+                place,
+                Matter::Refused { refusal, octets },
+                remarks,
+            )?;
             Ok(())
         }
     }

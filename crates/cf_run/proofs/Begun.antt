@@ -1,11 +1,9 @@
 -- A session that begins, and what a packet is to the sessions in memory.
 use Rattle.std.proofs.Common.{◌≡◌, ℕ, zero, suc, ◌-◌, ◌<◌, ◌≤◌, List, [], ◌∷◌, ◌++◌, length, Option, Some, None, refl, ap, subst, arith}
-use Rattle.std.specs.Prelude.{slice_get}
 use Rattle.std.specs.List.{remove}
 use Rattle.std.proofs.lemmas.List.Edits.{length-remove}
-use Rattle.std.proofs.lemmas.Option.{get_or_from_slice_get, slice_get_within}
 use Rattle.cf_leg.specs.Event.{LegEvent}
-use Rattle.cf_policy.specs.Within.{AreAssetsWithin, IsAssetWithin}
+use Rattle.cf_policy.specs.Site.{site_from}
 use Rattle.cf_policy.specs.declared.Asset.{Asset}
 use Rattle.cf_session.specs.Parts.{SessionValue}
 use Rattle.cf_session.specs.Session.{Flow, SessionEvent, client_of}
@@ -18,11 +16,6 @@ use Rattle.cf_run.specs.Table.{Session, place_of, without}
 use Rattle.cf_run.specs.declared.entry.Entry.{Entry}
 use Rattle.cf_run.proofs.Soundness.{sound_removed}
 use Rattle.cf_run.proofs.Timers.{all-one}
-
--- the asset at a place is one that the firewall serves
-pub within_at : (assets : List Asset) (place : ℕ) (asset : Asset) → AreAssetsWithin assets → slice_get assets place ≡ Some asset → IsAssetWithin asset
-within_at assets place asset served at =
-    subst IsAssetWithin (get_or_from_slice_get assets place asset asset at) (served.each place asset (slice_get_within assets place asset at))
 
 all_removed_at : (assets : List Asset) (last : ℕ) (xs : List Entry) (ss : List Session) (i : ℕ) → AreAll assets last xs ss → AreAll assets last (remove xs i) (remove ss i)
 all_removed_at assets last [] [] zero all = tt
@@ -47,20 +40,20 @@ length_without xs (Some place) inside = omega (arith, length-remove xs place (in
 
 -- the session that began stands last
 pub begun_last : (assets : List Asset) (now place : ℕ) (closed : Option ℕ) (flow : Flow) (table : List Session) (entries : List Entry) (old new : Told) (s : SessionValue) (due : ℕ) →
-    1 ≤ now → AreAll assets now entries table → slice_get assets place ≡ Some flow.asset → closed ≡ place_of (client_of flow) flow.asset.endpoint table →
+    1 ≤ now → AreAll assets now entries table → site_from assets place ≡ Some flow.site → closed ≡ place_of (client_of flow) flow.site.first.endpoint table →
     Begins flow (now - 1) s old new →
     (event : SessionEvent) × Beginning assets now flow table (without_at entries closed ++ record { session = s; asset = place; due = due } ∷ []) old new event
 begun_last assets now place closed flow table entries old new s due some all at is b =
     let e = b.event in
     let tick : e.client.tick ≡ now - 1 = ap (λ (l : LegEvent). l.tick) b.is_beginning.client in
     let one : IsOneBy assets now (record { session = s; asset = place; due = due }) flow [] e =
-    record { stands = b.stands; asset = at; last_moment = omega (arith, tick, some) } in
-    let rest : AreAll assets now (without_at entries closed) (without (client_of flow) flow.asset.endpoint table) =
+    record { stands = b.stands; site = at; last_moment = omega (arith, tick, some) } in
+    let rest : AreAll assets now (without_at entries closed) (without (client_of flow) flow.site.first.endpoint table) =
     subst (λ o. AreAll assets now (without_at entries closed) (elim o [ Some place ↦ remove table place | None ↦ table ])) is (all_without assets now entries table closed all) in (
       e,
       record {
         is = b.is_beginning;
         told = b.told;
-        all = all-one assets now (without_at entries closed) (without (client_of flow) flow.asset.endpoint table) (record { session = s; asset = place; due = due }) (record { flow = flow; events = e ∷ [] }) rest one;
+        all = all-one assets now (without_at entries closed) (without (client_of flow) flow.site.first.endpoint table) (record { session = s; asset = place; due = due }) (record { flow = flow; events = e ∷ [] }) rest one;
       },
     )

@@ -48,7 +48,7 @@ quiet_at : (law : AreQuietBeforeDue) (assets : List Asset) (limit tick : ℕ) (e
     TickAt assets tick entry entry desk desk true false
 quiet_at law assets limit tick entry desk one early = (
   refl,
-  λ flow earlier event stands asset.
+  λ flow earlier event stands site.
       quiet_as flow (event ∷ earlier) tick entry.session desk (law flow earlier event entry.session tick desk stands (subst (λ n. tick < n) one.due_is early)),
 )
 

@@ -4,6 +4,7 @@ use Rattle.std.proofs.Common.{◌≡◌, ℕ, ◌^◌, ◌≤◌, true, false, O
 use Rattle.std.proofs.lemmas.List.{append-nil}
 use Rattle.std.specs.Option.{is_some}
 use Rattle.cf_decode.specs.Laws.{FragmentsDecode}
+use Rattle.cf_decode.specs.Stations.{StationsDecode}
 use Rattle.cf_lane.specs.Laws.{HasOneJudgement, RatesHold}
 use Rattle.cf_lane.specs.Output.{outputs}
 use Rattle.cf_audit.specs.declared.CutReason.{CutReason}
@@ -46,7 +47,7 @@ no_cut : (c : Option CutReason) → is_some c ≡ false → c ≡ None
 no_cut None e = refl
 no_cut (Some r) e = cc
 
-module _ (one : SessionHasOneStream) (copies : FirstCopiesAreTaken) (works : WorkIsOfTheTaken) (fragments : FragmentsDecode) (keep : RatesHold) (reaches : SendsWhatIsLetIn) (limit : ℕ) (small : limit ≤ 2 ^ 30) where
+module _ (one : SessionHasOneStream) (copies : FirstCopiesAreTaken) (works : WorkIsOfTheTaken) (fragments : FragmentsDecode) (stations : StationsDecode) (keep : RatesHold) (reaches : SendsWhatIsLetIn) (limit : ℕ) (small : limit ≤ 2 ^ 30) where
   far : (f : Flow) (es : List SessionEvent) → HasEvents limit f es → ends_cut es ≡ false → SendsUpToTheEdge (record { flow = f; events = es })
   far f [] h uncut = absurd h
   far f (e ∷ es) h uncut = let (to_controller, to_client) = reaches f limit es e small h.0 (no_cut e.cut uncut) in record { to_controller = to_controller; to_client = to_client }
@@ -54,7 +55,7 @@ module _ (one : SessionHasOneStream) (copies : FirstCopiesAreTaken) (works : Wor
   faithful : (f : Flow) (es : List SessionEvent) → HasEvents limit f es → IsFaithful (record { flow = f; events = es })
   faithful f es h =
       let are : AreSessionEvents f limit es = right_events limit f es h in
-      let w : Works f.asset (client_of f) (history es) (work_of es) = works f limit es are in
+      let w : Works f.site (client_of f) (history es) (work_of es) = works f limit es are in
       record {
         judged = w.judged;
         is_judged = record {
@@ -64,12 +65,17 @@ module _ (one : SessionHasOneStream) (copies : FirstCopiesAreTaken) (works : Wor
           to_client = ap (λ (x : Work). x.to_client) w.is_work;
         };
         far = far f es h;
-        rates = keep f.asset (newcomer (client_of f).address) (history es) w.judged w.are_judged;
+        rates = keep f.site (newcomer (client_of f).address) (history es) w.judged w.are_judged;
         decodes = λ taken re.
             (let front : IsFront (work_of es).to_controller taken = (one f limit es taken small are (uncut_before limit f es h)).0 re in
-            let bytes : outputs f.asset side.Controller [] w.judged ≡ bytes_among taken ++ bytes_among front.more =
+            let bytes : outputs f.site side.Controller [] w.judged ≡ bytes_among taken ++ bytes_among front.more =
             sym (ap (λ (x : Work). x.to_controller.bytes) w.is_work) ∙ front_bytes (work_of es).to_controller taken front in
-            record { front = front; makes = fragments f.asset (newcomer (client_of f).address) (history es) w.judged (bytes_among taken) (bytes_among front.more) w.are_judged bytes });
+            let client = newcomer (client_of f).address in
+            record {
+              front = front;
+              makes = fragments f.site client (history es) w.judged (bytes_among taken) (bytes_among front.more) w.are_judged bytes;
+              by_station = λ differ. stations f.site client (history es) w.judged (bytes_among taken) (bytes_among front.more) differ w.are_judged bytes;
+            });
       }
 
   pub headline : (assets : List Asset) (es : List RunEvent) → AreRunEvents assets limit es → HasHeadline es
@@ -77,16 +83,16 @@ module _ (one : SessionHasOneStream) (copies : FirstCopiesAreTaken) (works : Wor
   headline assets (e ∷ es) h =
       (each-map (HasRightEvents limit) IsFaithful (λ s right. faithful s.flow s.events right) (sessions_of (e ∷ es)) (sessions_right assets limit (e ∷ es) h), headline assets es h.1)
 
-pub has_headline : SessionHasOneStream → FirstCopiesAreTaken → WorkIsOfTheTaken → FragmentsDecode → RatesHold → SendsWhatIsLetIn → RunsHaveHeadline
-has_headline one copies works fragments keep reaches assets limit es small h = headline one copies works fragments keep reaches limit small assets es h
+pub has_headline : SessionHasOneStream → FirstCopiesAreTaken → WorkIsOfTheTaken → FragmentsDecode → StationsDecode → RatesHold → SendsWhatIsLetIn → RunsHaveHeadline
+has_headline one copies works fragments stations keep reaches assets limit es small h = headline one copies works fragments stations keep reaches limit small assets es h
 
 -- ---- what is logged
 
 module _ (one : HasOneJudgement) (works : WorkIsOfTheTaken) (limit : ℕ) where
   logged_one : (s : Session) → HasRightEvents limit s → IsLogged s
   logged_one s h = λ judged are.
-      let w : Works s.flow.asset (client_of s.flow) (history s.events) (work_of s.events) = works s.flow limit s.events (right_events limit s.flow s.events h) in
-      w.is_work ∙ ap (work_by s.flow.asset (client_of s.flow)) (one s.flow.asset (newcomer (client_of s.flow).address) (history s.events) w.judged judged w.are_judged are)
+      let w : Works s.flow.site (client_of s.flow) (history s.events) (work_of s.events) = works s.flow limit s.events (right_events limit s.flow s.events h) in
+      w.is_work ∙ ap (work_by s.flow.site (client_of s.flow)) (one s.flow.site (newcomer (client_of s.flow).address) (history s.events) w.judged judged w.are_judged are)
 
   all_logged : (assets : List Asset) (es : List RunEvent) → AreRunEvents assets limit es → EachIsLogged es
   all_logged assets [] h = tt

@@ -21,6 +21,8 @@ mod Running
 mod Selection
 mod Sessions
 mod Shares
+mod SiteOf
+mod Sites
 mod Soundness
 mod Stepping
 mod SteppingAmid

@@ -1,16 +1,18 @@
 -- What a packet is to the sessions in memory is what it is to those of the table.
-use Rattle.std.proofs.Common.{◌≡◌, ℕ, zero, suc, ◌+◌, ◌<◌, ◌&&◌, nat_lt, inl, inr, Bool, true, false, List, [], ◌∷◌, length, cond, if◌then◌else◌, Option, option_map, Some, None, refl, sym, ap, ◌∙◌, subst, arith}
+use Rattle.std.proofs.Common.{◌≡◌, ℕ, zero, suc, ◌+◌, ◌<◌, ◌&&◌, nat_lt, inl, inr, Bool, true, false, List, [], ◌∷◌, length, cond, if◌then◌else◌, Option, option_and_then, option_map, Some, None, refl, sym, ap, ◌∙◌, subst, arith}
 use Rattle.std.specs.Prelude.{find, position, slice_get}
-use Rattle.std.specs.List.{position_or_len, remove}
+use Rattle.std.specs.List.{position_or_len, remove, take_while}
 use Rattle.std.specs.Option.{is_some}
 use Rattle.std.proofs.lemmas.List.Edits.{length-remove}
 use Rattle.std.proofs.lemmas.Bool.{and_right, cases_Bool, or_parts}
 use Rattle.std.proofs.lemmas.Bool.Decides.{nat_tests}
 use Rattle.cf_policy.specs.AtEndpoint.{asset_at, asset_place, has_asset_at}
 use Rattle.cf_packet.specs.Packet.{PacketValue}
+use Rattle.cf_policy.specs.Site.{SiteValue, site_at, site_from}
 use Rattle.cf_policy.specs.declared.Asset.{Asset}
 use Rattle.cf_session.specs.Session.{Flow, SessionEvent, client_of, was_closed}
 use Rattle.cf_view.specs.declared.Endpoint.{Endpoint}
+use Rattle.cf_run.proofs.Sites.{first_at}
 use Rattle.cf_run.specs.Engine.{AreAll, IsOneWith}
 use Rattle.cf_run.specs.Entries.{goes_in_client, begins_at, begins_in, entry_between, entry_match, goes_in, is_at, is_closed_in, others, place_in}
 use Rattle.cf_run.specs.Receiving.{may_begin_one}
@@ -32,7 +34,7 @@ between_with : (assets : List Asset) (last : ℕ) (client endpoint : Endpoint) (
 between_with assets last client endpoint x flow [] one = absurd one
 between_with assets last client endpoint x flow (event ∷ earlier) one =
     ap (λ c. same_endpoint c client && is_at endpoint (slice_get assets x.asset)) one.stands.source
-    ∙ ap (λ a. same_endpoint (client_of flow) client && is_at endpoint a) one.asset
+    ∙ ap (λ a. same_endpoint (client_of flow) client && is_at endpoint a) (first_at assets x.asset flow.site one.site)
 
 are_alike : (assets : List Asset) (last : ℕ) (client endpoint : Endpoint) (xs : List Entry) (ss : List Session) → AreAll assets last xs ss →
     Alike (entry_between assets client endpoint) (is_between client endpoint) xs ss
@@ -83,17 +85,17 @@ same_closed assets last xs ss (Some i) all = closed_at_place assets last xs ss i
 -- what the code has of a match, and what the table has
 abbrev pub IsMatch : List Asset → List Session → PacketValue → EntryMatch → Match → Type 0
 IsMatch assets table packet (match.Begins place closed) m =
-    (flow : Flow) × (m ≡ Begins flow) × (slice_get assets place ≡ Some flow.asset) × (flow.syn ≡ packet)
-    × (closed ≡ place_of (client_of flow) flow.asset.endpoint table)
+    (flow : Flow) × (m ≡ Begins flow) × (site_from assets place ≡ Some flow.site) × (flow.syn ≡ packet)
+    × (closed ≡ place_of (client_of flow) flow.site.first.endpoint table)
 IsMatch assets table packet match.Full m = m ≡ Full
 IsMatch assets table packet (match.Goes place from) m = m ≡ Goes place from
 IsMatch assets table packet match.Outside m = m ≡ Outside
 
--- the asset at an endpoint, and its place
+-- the site at an endpoint, and the place of its first asset
 data Found (assets : List Asset) (endpoint : Endpoint) : Type 0 where
   none : asset_place assets endpoint ≡ None → asset_at assets endpoint ≡ None → Found assets endpoint
-  some : (place : ℕ) (asset : Asset) → asset_place assets endpoint ≡ Some place → asset_at assets endpoint ≡ Some asset → slice_get assets place ≡ Some asset →
-      same_endpoint asset.endpoint endpoint ≡ true → Found assets endpoint
+  some : (place : ℕ) (site : SiteValue) → asset_place assets endpoint ≡ Some place → asset_at assets endpoint ≡ Some site.first → site_from assets place ≡ Some site →
+      same_endpoint site.first.endpoint endpoint ≡ true → Found assets endpoint
 
 pub place_by : {A : Type 0} (p : A → Bool) (x : A) (xs : List A) (b : Bool) → p x ≡ b → position p (x ∷ xs) ≡ cond b (Some 0) (option_map suc (position p xs))
 place_by p x xs true e =
@@ -137,11 +139,11 @@ find_by p x xs b e = ap (λ c. cond c (Some x) (find p xs)) e
 
 found_more : (a : Asset) (later : List Asset) (endpoint : Endpoint) (b : Bool) → same_endpoint a.endpoint endpoint ≡ b → Found later endpoint → Found (a ∷ later) endpoint
 found_more a later endpoint true e f =
-    some 0 a (place_by (λ x. same_endpoint x.endpoint endpoint) a later true e) (find_by (λ x. same_endpoint x.endpoint endpoint) a later true e) refl e
+    some 0 (record { first = a; others = take_while (λ (x : Asset). same_endpoint x.endpoint a.endpoint) later }) (place_by (λ x. same_endpoint x.endpoint endpoint) a later true e) (find_by (λ x. same_endpoint x.endpoint endpoint) a later true e) refl e
 found_more a later endpoint false e (none p q) =
     none (place_by (λ x. same_endpoint x.endpoint endpoint) a later false e ∙ ap (option_map suc) p) (find_by (λ x. same_endpoint x.endpoint endpoint) a later false e ∙ q)
-found_more a later endpoint false e (some place asset p q r s) =
-    some (suc place) asset (place_by (λ x. same_endpoint x.endpoint endpoint) a later false e ∙ ap (option_map suc) p) (find_by (λ x. same_endpoint x.endpoint endpoint) a later false e ∙ q) r s
+found_more a later endpoint false e (some place site p q r s) =
+    some (suc place) site (place_by (λ x. same_endpoint x.endpoint endpoint) a later false e ∙ ap (option_map suc) p) (find_by (λ x. same_endpoint x.endpoint endpoint) a later false e ∙ q) r s
 
 found : (assets : List Asset) (endpoint : Endpoint) → Found assets endpoint
 found [] endpoint = none refl refl
@@ -162,7 +164,7 @@ without_is : (ss : List Session) (o : Option ℕ) → length {A = Session} (elim
 without_is ss None = refl
 without_is ss (Some place) = refl
 
--- a packet that begins a session may, and goes to an asset
+-- a packet that begins a session may, and goes to a site
 never_begins : (o p : Option ℕ) (place : ℕ) (closed : Option ℕ) → goes_in_client o p ≡ match.Begins place closed → ⊥
 never_begins (Some i) p place closed e = cc
 never_begins None (Some i) place closed e = cc
@@ -171,7 +173,7 @@ never_begins None None place closed e = cc
 begins_found : (assets : List Asset) (xs : List Entry) (packet : PacketValue) (place : ℕ) (closed : Option ℕ) → Found assets packet.dest →
     begins_at assets xs packet (asset_place assets packet.dest) ≡ match.Begins place closed → is_some (asset_at assets packet.dest) ≡ true
 begins_found assets xs packet place closed (none p q) e = absurd (never_begins _ _ place closed (ap (begins_at assets xs packet) (sym p) ∙ e))
-begins_found assets xs packet place closed (some at asset p q r s) e = ap is_some q
+begins_found assets xs packet place closed (some at site p q r s) e = ap is_some q
 
 begins_by : (assets : List Asset) (xs : List Entry) (packet : PacketValue) (place : ℕ) (closed : Option ℕ) (b : Bool) →
     (if b then begins_at assets xs packet (asset_place assets packet.dest) else goes_in assets xs packet) ≡ match.Begins place closed → (b && is_some (asset_at assets packet.dest)) ≡ true
@@ -202,41 +204,44 @@ module _ (assets : List Asset) (last : ℕ) (xs : List Entry) (ss : List Session
       let inside : place < length ss = position_inside (is_between packet.source endpoint) ss place e in
       without_is ss (place_of packet.source endpoint ss) ∙ ap (without_by ss) e ∙ omega (arith, length-remove ss place inside)
 
-  by_room : (place : ℕ) (flow : Flow) (o : Option ℕ) (b : Bool) → slice_get assets place ≡ Some flow.asset → o ≡ place_of (client_of flow) flow.asset.endpoint ss →
+  by_room : (place : ℕ) (flow : Flow) (o : Option ℕ) (b : Bool) → site_from assets place ≡ Some flow.site → o ≡ place_of (client_of flow) flow.site.first.endpoint ss →
       IsMatch assets ss flow.syn (if b then match.Begins place o else match.Full) (if b then Begins flow else Full)
   by_room place flow o true at is = (flow, refl, at, refl, is)
   by_room place flow o false at is = refl
 
-  begin_match : (place : ℕ) (asset : Asset) → slice_get assets place ≡ Some asset → same_endpoint asset.endpoint packet.dest ≡ true → (o : Option ℕ) → o ≡ place_of packet.source packet.dest ss →
-      IsMatch assets ss packet (begins_in (length xs) place o) (begins_or_full ss (record { asset = asset; syn = packet }))
-  begin_match place asset at same o is =
-      let flow : Flow = record { asset = asset; syn = packet } in
-      let there : o ≡ place_of packet.source asset.endpoint ss = is ∙ ap (λ e. place_of packet.source e ss) (sym (same_is asset.endpoint packet.dest same)) in
-      let size : others (length xs) o ≡ length (without packet.source asset.endpoint ss) =
-      ap (λ n. others n o) all_length ∙ sym (without_length o asset.endpoint (sym there)) in
+  begin_match : (place : ℕ) (site : SiteValue) → site_from assets place ≡ Some site → same_endpoint site.first.endpoint packet.dest ≡ true → (o : Option ℕ) → o ≡ place_of packet.source packet.dest ss →
+      IsMatch assets ss packet (begins_in (length xs) place o) (begins_or_full ss (record { site = site; syn = packet }))
+  begin_match place site at same o is =
+      let flow : Flow = record { site = site; syn = packet } in
+      let there : o ≡ place_of packet.source site.first.endpoint ss = is ∙ ap (λ e. place_of packet.source e ss) (sym (same_is site.first.endpoint packet.dest same)) in
+      let size : others (length xs) o ≡ length (without packet.source site.first.endpoint ss) =
+      ap (λ n. others n o) all_length ∙ sym (without_length o site.first.endpoint (sym there)) in
       rw (← size) (by_room place flow o (nat_lt (others (length xs) o) table_size) at there)
 
-  closed_by : (place : ℕ) (asset : Asset) → slice_get assets place ≡ Some asset → same_endpoint asset.endpoint packet.dest ≡ true → (b : Bool) →
+  closed_by : (place : ℕ) (site : SiteValue) → site_from assets place ≡ Some site → same_endpoint site.first.endpoint packet.dest ≡ true → (b : Bool) →
       IsMatch assets ss packet (if b then begins_in (length xs) place (place_of packet.source packet.dest ss) else goes_in assets xs packet)
-      (if b then begins_or_full ss (record { asset = asset; syn = packet }) else goes ss packet)
-  closed_by place asset at same true = begin_match place asset at same (place_of packet.source packet.dest ss) refl
-  closed_by place asset at same false = goes_match
+      (if b then begins_or_full ss (record { site = site; syn = packet }) else goes ss packet)
+  closed_by place site at same true = begin_match place site at same (place_of packet.source packet.dest ss) refl
+  closed_by place site at same false = goes_match
 
-  closed_or_goes : (place : ℕ) (asset : Asset) → slice_get assets place ≡ Some asset → same_endpoint asset.endpoint packet.dest ≡ true →
-      IsMatch assets ss packet (begins_at assets xs packet (Some place)) (begins ss packet (Some asset))
-  closed_or_goes place asset at same =
+  closed_or_goes : (place : ℕ) (site : SiteValue) → site_from assets place ≡ Some site → same_endpoint site.first.endpoint packet.dest ≡ true →
+      IsMatch assets ss packet (begins_at assets xs packet (Some place)) (begins ss packet (Some site))
+  closed_or_goes place site at same =
       let o = place_of packet.source packet.dest ss in
-      let P : Option ℕ → Type 0 = λ z. IsMatch assets ss packet (if is_closed_in xs z then begins_in (length xs) place z else goes_in assets xs packet) (begins ss packet (Some asset)) in
-      let Q : Bool → Type 0 = λ b. IsMatch assets ss packet (if b then begins_in (length xs) place o else goes_in assets xs packet) (begins ss packet (Some asset)) in
+      let P : Option ℕ → Type 0 = λ z. IsMatch assets ss packet (if is_closed_in xs z then begins_in (length xs) place z else goes_in assets xs packet) (begins ss packet (Some site)) in
+      let Q : Bool → Type 0 = λ b. IsMatch assets ss packet (if b then begins_in (length xs) place o else goes_in assets xs packet) (begins ss packet (Some site)) in
       subst P (sym (same_place assets last packet.source packet.dest xs ss all))
-      (subst Q (sym (same_closed assets last xs ss o all)) (closed_by place asset at same (is_closed_at ss o)))
+      (subst Q (sym (same_closed assets last xs ss o all)) (closed_by place site at same (is_closed_at ss o)))
 
-  begins_match : Found assets packet.dest → IsMatch assets ss packet (begins_at assets xs packet (asset_place assets packet.dest)) (begins ss packet (asset_at assets packet.dest))
-  begins_match (none p q) = rw (p, q) goes_match
-  begins_match (some place asset p q at same) = rw (p, q) (closed_or_goes place asset at same)
+  begins_match : Found assets packet.dest → IsMatch assets ss packet (begins_at assets xs packet (asset_place assets packet.dest)) (begins ss packet (site_at assets packet.dest))
+  begins_match (none p q) =
+      subst (λ (o : Option ℕ). IsMatch assets ss packet (begins_at assets xs packet o) (begins ss packet (option_and_then (site_from assets) o))) (sym p) goes_match
+  begins_match (some place site p q at same) =
+      subst (λ (o : Option ℕ). IsMatch assets ss packet (begins_at assets xs packet o) (begins ss packet (option_and_then (site_from assets) o))) (sym p)
+      (subst (λ (o : Option SiteValue). IsMatch assets ss packet (begins_at assets xs packet (Some place)) (begins ss packet o)) (sym at) (closed_or_goes place site at same))
 
   by_beginning : (b : Bool) → IsMatch assets ss packet (if b then begins_at assets xs packet (asset_place assets packet.dest) else goes_in assets xs packet)
-      (if b then begins ss packet (asset_at assets packet.dest) else goes ss packet)
+      (if b then begins ss packet (site_at assets packet.dest) else goes ss packet)
   by_beginning true = begins_match (found assets packet.dest)
   by_beginning false = goes_match
 

@@ -6,6 +6,7 @@ use Rattle.std.specs.Option.{is_none, is_some}
 use Rattle.cf_lane.specs.Judged.{one_if}
 use Rattle.cf_leg.specs.Event.{Came, Packet, moment}
 use Rattle.cf_packet.specs.Packet.{PacketValue}
+use Rattle.cf_policy.specs.Site.{SiteValue, site_from}
 use Rattle.cf_policy.specs.declared.Asset.{Asset}
 use Rattle.cf_view.specs.declared.Side.{Side}
 use Rattle.cf_view.specs.declared.Side.TheVariants as side
@@ -106,7 +107,7 @@ came_from flow events side.Client packet opens k c h g =
 came_from flow events side.Controller packet opens k c h g = ap (λ x. misfit_from flow events x c) (sym h)
 
 module _ (assets : List Asset) (limit now place : ℕ) (from : Side) (packet : PacketValue) (entries : List Entry) (table : List Session) (old new : Told)
-    (x : Entry) (y : SessionValue) (due : ℕ) (asset : Asset) (at : slice_get entries place ≡ Some x) (asset_at : slice_get assets x.asset ≡ Some asset)
+    (x : Entry) (y : SessionValue) (due : ℕ) (site : SiteValue) (at : slice_get entries place ≡ Some x) (site_is : site_from assets x.asset ≡ Some site)
     (all : AreAll assets now entries table) (ticked : AreTicked (now - 1) table) (some : 1 ≤ now) (admitted refused : ℕ)
     (counts_admitted : CountsOf x.session (λ w. w.admitted) admitted) (counts_refused : CountsOf x.session (λ w. w.refused) refused)
     (now_admitted : CountsOf y (λ w. w.admitted) y.lane.admitted) (now_refused : CountsOf y (λ w. w.refused) y.lane.refused)
@@ -157,7 +158,7 @@ module _ (assets : List Asset) (limit now place : ℕ) (from : Side) (packet : P
         (outcome.Went (y.lane.admitted - admitted) (y.lane.refused - refused) 0 (one_if (c && not was)) (one_if (is_above misfit)) (one_if (is_beyond misfit))) event
     going_on c stands closed =
         let next : IsOneBy assets now after flow earlier event =
-        record { stands = stands; asset = one.asset; last_moment = omega (arith, hears.is_packet.client_on.0, half_ticked.0.client_tick, some) } in
+        record { stands = stands; site = one.site; last_moment = omega (arith, hears.is_packet.client_on.0, half_ticked.0.client_tick, some) } in
         let stay : stays (record { flow = flow; events = event ∷ earlier }) ≡ true = ap (λ c. not (is_some c)) stands.going in
         record {
           goes_on = goes;
@@ -200,7 +201,7 @@ module _ (assets : List Asset) (limit now place : ℕ) (from : Side) (packet : P
 
   abbrev AreHeard : Life → Type 0
   AreHeard l =
-      (flow : Flow) (earlier : List SessionEvent) (half : SessionEvent) → flow.asset ≡ asset → IsSessionOf flow earlier half x.session
+      (flow : Flow) (earlier : List SessionEvent) (half : SessionEvent) → flow.site ≡ site → IsSessionOf flow earlier half x.session
       → IsTick flow earlier half.client.tick half → moment half.client ≡ now → HearsBy flow limit earlier half from packet y old new l
 
   heard_by : (s : Session) (flow : Flow) (earlier : List SessionEvent) (half : SessionEvent) → s ≡ record { flow = flow; events = half ∷ earlier } → slice_get table place ≡ Some s → place < length table →
@@ -215,7 +216,7 @@ module _ (assets : List Asset) (limit now place : ℕ) (from : Side) (packet : P
       IsOneWith assets now x flow events → HasTicked (now - 1) flow events → (l : Life) → AreHeard l → Heard l
   heard_in s flow [] is here within one half_ticked l hears = absurd half_ticked
   heard_in s flow (half ∷ earlier) is here within one half_ticked l hears =
-      let served : flow.asset ≡ asset = let e : Some flow.asset ≡ Some asset = sym one.asset ∙ asset_at in cc in
+      let served : flow.site ≡ site = let e : Some flow.site ≡ Some site = sym one.site ∙ site_is in cc in
       let tick : half.client.tick ≡ now - 1 = half_ticked.0.client_tick in
       let is_tick : IsTick flow earlier half.client.tick half = subst (λ t. IsTick flow earlier t half) (sym tick) half_ticked.0 in
       heard_by s flow earlier half is here within one half_ticked l (hears flow earlier half served one.stands is_tick (omega (arith, tick, some)))

@@ -4,6 +4,7 @@ use Rattle.std.specs.Prelude.{slice_get}
 use Rattle.cf_leg.specs.Event.{moment}
 use Rattle.cf_outside.specs.Desk.{DeskValue}
 use Rattle.cf_packet.specs.Packet.{PacketValue}
+use Rattle.cf_policy.specs.Site.{SiteValue, site_from}
 use Rattle.cf_policy.specs.declared.Asset.{Asset}
 use Rattle.cf_view.specs.declared.Side.{Side}
 use Rattle.cf_session.specs.Broken.{BreaksAmid, BreaksBeginning, BreaksPacket}
@@ -25,14 +26,14 @@ use Rattle.cf_run.proofs.Received.{one_at}
 -- ---- a session that hears a packet
 
 module _ (assets : List Asset) (limit now place : ℕ) (from : Side) (packet : PacketValue) (entries : List Entry) (d0 d1 : DeskValue)
-    (x : Entry) (asset : Asset) (at : slice_get entries place ≡ Some x) (asset_at : slice_get assets x.asset ≡ Some asset) (some : 1 ≤ now)
-    (broken : (flow : Flow) (earlier : List SessionEvent) (half : SessionEvent) → flow.asset ≡ asset → IsSessionOf flow earlier half x.session → IsTick flow earlier half.client.tick half →
+    (x : Entry) (site : SiteValue) (at : slice_get entries place ≡ Some x) (site_is : site_from assets x.asset ≡ Some site) (some : 1 ≤ now)
+    (broken : (flow : Flow) (earlier : List SessionEvent) (half : SessionEvent) → flow.site ≡ site → IsSessionOf flow earlier half x.session → IsTick flow earlier half.client.tick half →
     moment half.client ≡ now → BreaksPacket flow limit earlier half from packet d0 d1) where
   going_in : (table : List Session) (s : Session) (flow : Flow) (events : List SessionEvent) → s ≡ record { flow = flow; events = events } → slice_get table place ≡ Some s →
       IsOneWith assets now x flow events → HasTicked (now - 1) flow events → GoingBreaks limit place from packet table d0 d1
   going_in table s flow [] is here one half_ticked = absurd half_ticked
   going_in table s flow (half ∷ earlier) is here one half_ticked =
-      let served : flow.asset ≡ asset = let e : Some flow.asset ≡ Some asset = sym one.asset ∙ asset_at in cc in
+      let served : flow.site ≡ site = let e : Some flow.site ≡ Some site = sym one.site ∙ site_is in cc in
       let tick : half.client.tick ≡ now - 1 = half_ticked.0.client_tick in
       let is_tick : IsTick flow earlier half.client.tick half = subst (λ t. IsTick flow earlier t half) (sym tick) half_ticked.0 in
       let there : slice_get table place ≡ Some (record { flow = flow; events = half ∷ earlier }) = here ∙ ap Some is in
@@ -56,7 +57,7 @@ module _ (assets : List Asset) (limit now : ℕ) (packet : PacketValue) (before 
   Breaks = ReceivingBreaks assets limit now packet table d0 d1
 
   pub begun_breaks : (place : ℕ) (closed : Option ℕ) → entry_match assets before packet ≡ match.Begins place closed →
-      ((flow : Flow) → slice_get assets place ≡ Some flow.asset → flow.syn ≡ packet → BreaksBeginning flow (now - 1) d0 d1) → Breaks
+      ((flow : Flow) → site_from assets place ≡ Some flow.site → flow.syn ≡ packet → BreaksBeginning flow (now - 1) d0 d1) → Breaks
   begun_breaks place closed e h =
       let (flow, m, at, syn, is) = there assets now before table packet all (match.Begins place closed) e in
       let b = h flow at syn in

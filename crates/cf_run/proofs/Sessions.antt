@@ -36,7 +36,7 @@ each-one : (P : Session → Type 0) (xs : List Session) (place : ℕ) (o : Optio
 each-one P xs place None h e = tt
 each-one P xs place (Some x) h e = (each-at P xs place x h e, tt)
 
-each-session_at : (P : Session → Type 0) (xs : List Session) (place : Option ℕ) → Each P xs → Each P (session_at xs place)
+pub each-session_at : (P : Session → Type 0) (xs : List Session) (place : Option ℕ) → Each P xs → Each P (session_at xs place)
 each-session_at P xs None h = tt
 each-session_at P xs (Some place) h = each-one P xs place (slice_get xs place) h refl
 
@@ -46,7 +46,7 @@ each-removed P [] (suc i) h = tt
 each-removed P (x ∷ xs) zero h = h.1
 each-removed P (x ∷ xs) (suc i) h = (h.0, each-removed P xs i h.1)
 
-each-left : (P : Session → Type 0) (xs : List Session) (place : Option ℕ) → Each P xs → Each P (elim place [ Some i ↦ remove xs i | None ↦ xs ])
+pub each-left : (P : Session → Type 0) (xs : List Session) (place : Option ℕ) → Each P xs → Each P (elim place [ Some i ↦ remove xs i | None ↦ xs ])
 each-left P xs None h = h
 each-left P xs (Some i) h = each-removed P xs i h
 
@@ -162,10 +162,10 @@ nothing_left limit table r same none h = record {
 each-received : (limit tick : ℕ) (table : List Session) (p : PacketValue) (m : Match) (r : Received) → Each (IsTicked limit) table → Receives limit tick table p m r → Both limit r table
 each-received limit tick table p (Begins f) (Begun g e) h is =
     let going = each-going limit table h in
-    let place = place_of (client_of g) g.asset.endpoint table in
+    let place = place_of (client_of g) g.site.first.endpoint table in
     let begins = subst (λ x. IsBeginning x tick e) (sym is.0) is.1 in
     record {
-      stay = each-append (IsGoing limit) (without (client_of g) g.asset.endpoint table) (record { flow = g; events = e ∷ [] } ∷ []) (each-left (IsGoing limit) table place going)
+      stay = each-append (IsGoing limit) (without (client_of g) g.site.first.endpoint table) (record { flow = g; events = e ∷ [] } ∷ []) (each-left (IsGoing limit) table place going)
           (((begun_one g tick e begins, tt), (begins.cut, tt)), tt);
       left = each-session_at (HasRightEvents limit) table place (each-right limit table going);
     }

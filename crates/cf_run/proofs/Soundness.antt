@@ -1,11 +1,12 @@
 -- Sessions in memory that are sound, one of which changes.
 use Rattle.std.proofs.Common.{◌≡◌, ℕ, zero, suc, ◌+◌, ◌<◌, ◌≤◌, List, [], ◌∷◌, ◌++◌, length, get_or, add-one, take, drop, Some, Bool, true, false, not, ◌&&◌, refl, sym, ap, ◌∙◌, subst, arith}
 use Rattle.std.specs.Prelude.{slice_get, slice_set}
-use Rattle.std.specs.List.{remove}
-use Rattle.std.proofs.lemmas.Option.{slice_get-get_or, slice_get_read}
+use Rattle.std.specs.List.{AllByRecursion as Each, remove}
+use Rattle.std.proofs.lemmas.Option.{same_Some, slice_get-get_or, slice_get_read}
 use Rattle.std.proofs.lemmas.List.{take_more}
 use Rattle.std.proofs.Math.Seq.{drop-cons}
 use Rattle.cf_lane.specs.Judged.{one_if}
+use Rattle.cf_policy.specs.Site.{SiteValue, site_from}
 use Rattle.cf_policy.specs.declared.Asset.{Asset}
 use Rattle.cf_session.specs.Parts.{SessionValue}
 use Rattle.cf_session.specs.Stands.{IsLife, IsSound, due_of}
@@ -15,12 +16,15 @@ use Rattle.cf_run.specs.Entries.{cuts_by, stays_by}
 use Rattle.cf_run.specs.Engine.{AreSound, IsSoundEntry}
 use Rattle.cf_run.specs.declared.entry.Entry.{Entry}
 
--- the one at a place
+-- what holds of each holds of the one at a place
+each_at : {A : Type 0} (P : A → Type 0) (xs : List A) (place : ℕ) (x : A) → Each P xs → slice_get xs place ≡ Some x → P x
+each_at P [] place x each at = cc
+each_at P (a ∷ xs) zero x each at = subst P (same_Some a x at) each.0
+each_at P (a ∷ xs) (suc place) x each at = each_at P xs place x each.1 at
+
 pub sound_at : (assets : List Asset) (limit : ℕ) (table : List Entry) (place : ℕ) (entry : Entry) → AreSound assets limit table → slice_get table place ≡ Some entry →
     IsSoundEntry assets limit entry
-sound_at assets limit [] place entry sound at = cc
-sound_at assets limit (e ∷ es) zero entry sound at = let same : e ≡ entry = cc in subst (IsSoundEntry assets limit) same sound.0
-sound_at assets limit (e ∷ es) (suc place) entry sound at = sound_at assets limit es place entry sound.1 at
+sound_at assets limit table place entry sound at = each_at (IsSoundEntry assets limit) table place entry sound at
 
 pub stands_at : (assets : List Asset) (limit : ℕ) (table : List Entry) (place : ℕ) (entry : Entry) → AreSound assets limit table → place < length table →
     entry ≡ get_or table place entry → (slice_get table place ≡ Some entry) × IsSoundEntry assets limit entry
@@ -45,14 +49,10 @@ pub sound_pushed : (assets : List Asset) (limit : ℕ) (table : List Entry) (ent
 sound_pushed assets limit [] entry sound one = (one, tt)
 sound_pushed assets limit (e ∷ es) entry sound one = (sound.0, sound_pushed assets limit es entry sound.1 one)
 
--- an asset is that of its place
-pub same_asset : (assets : List Asset) (place : ℕ) (a b : Asset) → slice_get assets place ≡ Some a → slice_get assets place ≡ Some b → a ≡ b
-same_asset assets place a b p q = let e : Some a ≡ Some b = sym p ∙ q in cc
-
--- the state of a session after a call, where its asset and its limit are as they were
-pub sound_after : (assets : List Asset) (limit : ℕ) (entry : Entry) (asset : Asset) (s : SessionValue) → IsSoundEntry assets limit entry → slice_get assets entry.asset ≡ Some asset →
-    IsSound asset s → s.limit ≡ SessionValue.limit entry.session → (due : ℕ) → due ≡ due_of s → IsSoundEntry assets limit (record { session = s; asset = entry.asset; due = due })
-sound_after assets limit entry asset s one at sound same due due_is = record { asset = asset; at = at; sound = sound; limit_is = same ∙ one.limit_is; due_is = due_is }
+-- the state of a session after a call, where its site and its limit are as they were
+pub sound_after : (assets : List Asset) (limit : ℕ) (entry : Entry) (site : SiteValue) (s : SessionValue) → IsSoundEntry assets limit entry → site_from assets entry.asset ≡ Some site →
+    IsSound site s → s.limit ≡ SessionValue.limit entry.session → (due : ℕ) → due ≡ due_of s → IsSoundEntry assets limit (record { session = s; asset = entry.asset; due = due })
+sound_after assets limit entry site s one at sound same due due_is = record { site = site; at = at; sound = sound; limit_is = same ∙ one.limit_is; due_is = due_is }
 
 -- a session that stays is one of those that live on
 pub lives : (l : Life) → stays_by l ≡ true → IsLife l

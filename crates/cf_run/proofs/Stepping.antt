@@ -27,7 +27,7 @@ use Rattle.cf_run.proofs.Timers.{both_both}
 one_later : (assets : List Asset) (last later : ℕ) → last ≤ later → (entry : Entry) (flow : Flow) (events : List SessionEvent) →
     IsOne assets last entry (record { flow = flow; events = events }) → IsOne assets later entry (record { flow = flow; events = events })
 one_later assets last later le entry flow [] one = absurd one
-one_later assets last later le entry flow (event ∷ earlier) one = record { stands = one.stands; asset = one.asset; last_moment = omega (arith, le, one.last_moment) }
+one_later assets last later le entry flow (event ∷ earlier) one = record { stands = one.stands; site = one.site; last_moment = omega (arith, le, one.last_moment) }
 
 pub all_later : (assets : List Asset) (last later : ℕ) → last ≤ later → (entries : List Entry) (table : List Session) → AreAll assets last entries table → AreAll assets later entries table
 all_later assets last later le [] [] all = tt

@@ -1,6 +1,6 @@
 -- The first halves of all sessions, one after the other.
 use Rattle.std.proofs.Common.{◌≡◌, ℕ, ◌+◌, ◌<◌, ◌≤◌, ◌&&◌, Bool, true, false, not, List, [], ◌∷◌, ◌++◌, length, map, take, drop, cond, Option, Some, None, refl, sym, ap, ◌∙◌, subst, append_assoc, arith, add-one}
-use Rattle.std.specs.Prelude.{count_by, filter, slice_get}
+use Rattle.std.specs.Prelude.{count_by, filter}
 use Rattle.std.specs.List.{flat_map, fold, remove}
 use Rattle.std.proofs.Math.Seq.{take-append_seam, drop-append_seam}
 use Rattle.std.proofs.lemmas.List.{append-nil, length-take-le, map-append, take_all}
@@ -10,6 +10,7 @@ use Rattle.std.proofs.lemmas.List.Elements.{filter-append}
 use Rattle.std.proofs.lemmas.List.Concat.{flat_map-cons}
 use Rattle.std.specs.Option.{is_some}
 use Rattle.cf_lane.specs.Judged.{one_if}
+use Rattle.cf_policy.specs.Site.{site_from}
 use Rattle.cf_policy.specs.declared.Asset.{Asset}
 use Rattle.cf_session.specs.declared.life.Life.{Life}
 use Rattle.cf_session.specs.declared.life.Life.TheVariants as life
@@ -212,20 +213,20 @@ module _ (assets : List Asset) (tick : ℕ) (known : List Session) (place : ℕ)
   one_further done rest f [] stay cut at split a one others front = absurd one
   one_further done rest f (e ∷ es) true cut at split a one others front =
       let s : Session = record { flow = f; events = e ∷ es } in
-      let h = at.1 f es e one.stands one.asset in
-      let next : IsOne assets (tick + 1) y (one_with s h.0) = record { stands = h.3; asset = ap (slice_get assets) at.0 ∙ one.asset; last_moment = omega (arith, h.1.is_tick.client_tick) } in
+      let h = at.1 f es e one.stands one.site in
+      let next : IsOne assets (tick + 1) y (one_with s h.0) = record { stands = h.3; site = ap (site_from assets) at.0 ∙ one.site; last_moment = omega (arith, h.1.is_tick.client_tick) } in
       subst (TickSome assets tick known after j old new) (plus_none n) (some_by n done rest s split others (subst (λ zs. TickAll assets tick (done ++ s ∷ []) zs old new n) (sym front) (all_more assets tick done (take place entries) old mid new n a s h.0 h.1 y (stays_cut h.0 h.2) next)))
   one_further done rest f (e ∷ es) false true at split a one others front =
       let s : Session = record { flow = f; events = e ∷ es } in
       let P : List Entry → Type 0 = λ zs. TickAll assets tick (done ++ s ∷ []) zs old new (n + 1) in
       let stay = sym (front ∙ append-nil (take place entries)) in
-      let cut = at.1 f es e one.stands one.asset in
+      let cut = at.1 f es e one.stands one.site in
       some_by (n + 1) done rest s split others (subst P stay (all_cut assets tick done (take place entries) old mid new n a s cut.0 cut.1 cut.2))
   one_further done rest f (e ∷ es) false false at split a one others front =
       let s : Session = record { flow = f; events = e ∷ es } in
       let P : List Entry → Type 0 = λ zs. TickAll assets tick (done ++ s ∷ []) zs old new n in
       let stay = sym (front ∙ append-nil (take place entries)) in
-      let gone = at.1 f es e one.stands one.asset in
+      let gone = at.1 f es e one.stands one.site in
       subst (TickSome assets tick known after j old new) (plus_none n) (some_by n done rest s split others (subst P stay (all_gone assets tick done (take place entries) old mid new n a s gone.0 gone.1)))
 
   further : (stay cut : Bool) → TickAt assets tick x y mid new stay cut → (done rest : List Session) → known ≡ done ++ rest → TickAll assets tick done (take place entries) old mid n → AreAll assets tick (x ∷ xs) rest →

@@ -1,12 +1,12 @@
 -- The first halves of all sessions, where the desk failed amid one of them.
 use Rattle.std.proofs.Common.{◌≡◌, ℕ, false, not, List, [], ◌∷◌, ◌++◌, drop, cond, Some, refl, sym, ap, ◌∙◌, subst, inl, inr}
-use Rattle.std.specs.Prelude.{slice_get}
 use Rattle.std.specs.List.{flat_map}
 use Rattle.std.proofs.lemmas.Bool.{cases_Bool}
 use Rattle.std.proofs.lemmas.Grind.{flat_map-append}
 use Rattle.std.proofs.lemmas.List.Concat.{flat_map-cons}
 use Rattle.std.proofs.lemmas.List.Elements.{filter-append}
 use Rattle.cf_outside.specs.Desk.{DeskValue}
+use Rattle.cf_policy.specs.Site.{site_from}
 use Rattle.cf_policy.specs.declared.Asset.{Asset}
 use Rattle.cf_session.proofs.Amid.{amid_after, amid_as, amid_before}
 use Rattle.cf_outside.specs.Frames.{EmitsAndLogs}
@@ -51,13 +51,13 @@ module _ (law : EachSessionHasATick) (assets : List Asset) (last tick : ℕ) whe
 
 module _ (law : EachSessionHasATick) (assets : List Asset) (tick : ℕ) (known : List Session) (entries : List Entry) (place : ℕ) (d0 d1 d2 : DeskValue) (n : ℕ)
     (a : TickSome assets tick known entries place (told d0) (told d1) n) (frame : EmitsAndLogs d0 d1 false) (x : Entry) (xs : List Entry)
-    (broken : (flow : Flow) (earlier : List SessionEvent) (event : SessionEvent) → IsSessionOf flow earlier event x.session → slice_get assets x.asset ≡ Some flow.asset → BreaksTick flow (event ∷ earlier) tick d1 d2) where
+    (broken : (flow : Flow) (earlier : List SessionEvent) (event : SessionEvent) → IsSessionOf flow earlier event x.session → site_from assets x.asset ≡ Some flow.site → BreaksTick flow (event ∷ earlier) tick d1 d2) where
   breaks_one : (flow : Flow) (events : List SessionEvent) (rest : List Session) → a.rest ≡ record { flow = flow; events = events } ∷ rest → IsOne assets tick x (record { flow = flow; events = events }) → AreAll assets tick xs rest →
       TicksBreak tick known d0 d2
   breaks_one flow [] rest is one others = absurd one
   breaks_one flow (e ∷ es) rest is one others =
       let s : Session = record { flow = flow; events = e ∷ es } in
-      let b = broken flow es e one.stands one.asset in
+      let b = broken flow es e one.stands one.site in
       let r = have_ticks law assets tick tick xs rest others in
       let done = a.some in
       let us = b.event ∷ r.0 in

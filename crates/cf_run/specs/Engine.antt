@@ -1,8 +1,9 @@
 -- Steps of the proof: what the sessions in memory stand for, `AreAll`, and what the first half of an event does to them, `TickAll`.
-use Rattle.std.specs.Prelude.{◌≡◌, ℕ, Bool, true, false, ◌+◌, ◌≤◌, List, [], ◌∷◌, ◌++◌, take, drop, count_by, slice_get, None, Some}
-use Rattle.std.specs.List.{All, flat_map}
+use Rattle.std.specs.Prelude.{◌≡◌, ℕ, Bool, true, false, ◌+◌, ◌≤◌, List, [], ◌∷◌, ◌++◌, take, drop, count_by, None, Some}
+use Rattle.std.specs.List.{All, AllByRecursion, flat_map}
 use Rattle.std.specs.Option.{is_some}
 use Rattle.cf_leg.specs.Event.{moment}
+use Rattle.cf_policy.specs.Site.{SiteValue, site_from}
 use Rattle.cf_policy.specs.declared.Asset.{Asset}
 use Rattle.cf_session.specs.Parts.{SessionValue}
 use Rattle.cf_session.specs.Sent.{sent_first}
@@ -15,17 +16,16 @@ use Rattle.cf_run.specs.declared.entry.Entry.{Entry}
 
 -- ---- what holds whatever happened
 
--- a session in memory serves the asset at its place, and has the moment at which it is due beside it
+-- a session in memory serves the site at its place, and has the moment at which it is due beside it
 pub record IsSoundEntry (assets : List Asset) (limit : ℕ) (entry : Entry) : Type 0 where
-  pub asset : Asset
-  pub at : slice_get assets entry.asset ≡ Some asset
-  pub sound : IsSound asset entry.session
+  pub site : SiteValue
+  pub at : site_from assets entry.asset ≡ Some site
+  pub sound : IsSound site entry.session
   pub limit_is : SessionValue.limit entry.session ≡ limit
   pub due_is : entry.due ≡ due_of entry.session
 
 abbrev pub AreSound : List Asset → (limit : ℕ) → List Entry → Type 0
-AreSound assets limit [] = Unit {0}
-AreSound assets limit (entry ∷ table) = IsSoundEntry assets limit entry × AreSound assets limit table
+AreSound assets limit table = AllByRecursion (IsSoundEntry assets limit) table
 
 -- sessions of which none is due before a moment
 abbrev pub AreDueFrom : (moment : ℕ) → List Entry → Type 0
@@ -33,11 +33,11 @@ AreDueFrom moment table = All (λ entry. moment ≤ entry.due) table
 
 -- ---- what it stands for
 
--- a session in memory is one of the table: its asset is that of its place, and its last event was at the last moment or before
+-- a session in memory is one of the table: its site is that of its place, and its last event was at the last moment or before
 pub record IsOneBy (assets : List Asset) (last : ℕ) (entry : Entry) (flow : Flow) (earlier : List SessionEvent) (event : SessionEvent) :
     Type 0 where
   pub stands : IsSessionOf flow earlier event entry.session
-  pub asset : slice_get assets entry.asset ≡ Some flow.asset
+  pub site : site_from assets entry.asset ≡ Some flow.site
   pub last_moment : moment event.client ≤ last
 
 abbrev pub IsOneWith : List Asset → (last : ℕ) → Entry → Flow → List SessionEvent → Type 0
@@ -68,7 +68,7 @@ abbrev pub TickAt : List Asset → (tick : ℕ) → (before after : Entry) → (
 TickAt assets tick before after old new stays cuts =
     (after.asset ≡ before.asset)
     × ((flow : Flow) (earlier : List SessionEvent) (event : SessionEvent) → IsSessionOf flow earlier event before.session
-    → slice_get assets before.asset ≡ Some flow.asset →
+    → site_from assets before.asset ≡ Some flow.site →
     TickAs flow (event ∷ earlier) tick after.session old new stays cuts)
 
 -- the first halves of all sessions of the table

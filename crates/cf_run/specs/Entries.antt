@@ -42,7 +42,7 @@ abbrev pub is_at : Endpoint → Option Asset → Bool
 is_at endpoint None = false
 is_at endpoint (Some asset) = same_endpoint asset.endpoint endpoint
 
--- a session in memory is between this client and the asset at this endpoint
+-- a session in memory is between this client and the site at this endpoint
 abbrev pub entry_between : List Asset → (client endpoint : Endpoint) → Entry → Bool
 entry_between assets client endpoint entry =
     same_endpoint entry.session.source client && is_at endpoint (slice_get assets entry.asset)

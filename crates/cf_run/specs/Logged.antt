@@ -14,8 +14,8 @@ use Rattle.cf_run.specs.Trace.{AreRunEvents, RunEvent}
 -- the judged items of all that was taken of both sides of a session: its streams, its lines, its counts and why it is cut are theirs
 abbrev pub IsLogged : Session → Type 0
 IsLogged session =
-    (judged : List Judged) → AreJudged session.flow.asset (newcomer (client_of session.flow).address) (history session.events) judged
-    → work_of session.events ≡ work_by session.flow.asset (client_of session.flow) judged
+    (judged : List Judged) → AreJudged session.flow.site (newcomer (client_of session.flow).address) (history session.events) judged
+    → work_of session.events ≡ work_by session.flow.site (client_of session.flow) judged
 
 -- the lines and counts after each event of a run, of the sessions in the table and those that left it
 abbrev pub EachIsLogged : List RunEvent → Type 0

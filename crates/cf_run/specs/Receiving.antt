@@ -6,6 +6,7 @@ use Rattle.cf_policy.specs.AtEndpoint.{asset_at}
 use Rattle.cf_lane.specs.Judged.{one_if}
 use Rattle.cf_packet.specs.Packet.{PacketValue}
 use Rattle.cf_packet.specs.declared.packet.PacketRefusal.{PacketRefusal}
+use Rattle.cf_policy.specs.Site.{site_from}
 use Rattle.cf_policy.specs.declared.Asset.{Asset}
 use Rattle.cf_session.specs.Event.{IsBeginning, IsTick}
 use Rattle.cf_session.specs.Sent.{logged_second, sent_second}
@@ -22,7 +23,7 @@ use Rattle.cf_run.specs.declared.entry.Entry.{Entry}
 use Rattle.cf_run.specs.declared.second_half.Outcome.{Outcome}
 use Rattle.cf_run.specs.declared.second_half.Outcome.TheVariants as outcome
 
--- a packet may begin a session with an asset
+-- a packet may begin a session with a site
 abbrev pub may_begin_one : List Asset → PacketValue → Bool
 may_begin_one assets packet = may_begin assets packet && is_some (asset_at assets packet.dest)
 
@@ -69,8 +70,8 @@ pub record Beginning (assets : List Asset) (now : ℕ) (flow : Flow) (table : Li
 abbrev pub BeginsOne : List Asset → (now asset : ℕ) → (closed : Option ℕ) → PacketValue → (before after : List Entry) → (old new : Told)
     → Type 0
 BeginsOne assets now asset closed packet before after old new =
-    (table : List Session) (flow : Flow) → AreAll assets now before table → slice_get assets asset ≡ Some flow.asset → flow.syn ≡ packet →
-    closed ≡ place_of (client_of flow) flow.asset.endpoint table →
+    (table : List Session) (flow : Flow) → AreAll assets now before table → site_from assets asset ≡ Some flow.site → flow.syn ≡ packet →
+    closed ≡ place_of (client_of flow) flow.site.first.endpoint table →
     (event : SessionEvent) × Beginning assets now flow table after old new event
 
 -- a session's event went on

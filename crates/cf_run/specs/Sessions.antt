@@ -23,7 +23,7 @@ session_at table (Some place) = elim (slice_get table place) [ None ↦ [] | Som
 
 -- the sessions that leave the table as a packet comes: the closed one of a flow that begins anew, or one that is cut
 abbrev pub left_by_packet : Received → List Session → List Session
-left_by_packet (Begun flow event) table = session_at table (place_of (client_of flow) flow.asset.endpoint table)
+left_by_packet (Begun flow event) table = session_at table (place_of (client_of flow) flow.site.first.endpoint table)
 left_by_packet (Went place event) table = filter leaves (with_event_at place event table)
 left_by_packet _ table = []
 

@@ -2,9 +2,10 @@
 use Rattle.std.specs.Prelude.{ℕ, nat_lt, not, Bool, true, ◌&&◌, if◌then◌else◌, List, length, position, slice_get, Option}
 use Rattle.std.specs.Prelude.{Some, None}
 use Rattle.std.specs.List.{remove}
-use Rattle.cf_policy.specs.AtEndpoint.{asset_at, has_asset_at}
+use Rattle.cf_policy.specs.AtEndpoint.{has_asset_at}
 use Rattle.cf_leg.specs.Segment.{is_opening}
 use Rattle.cf_packet.specs.Packet.{PacketValue}
+use Rattle.cf_policy.specs.Site.{SiteValue, site_at}
 use Rattle.cf_policy.specs.declared.Asset.{Asset}
 use Rattle.cf_session.specs.Session.{Flow, SessionEvent, client_of, was_closed}
 use Rattle.cf_view.specs.Endpoints.{same_endpoint}
@@ -21,17 +22,17 @@ pub record Session : Type 0 where
 abbrev pub table_size : ℕ
 table_size = 256
 
--- the session is between this client and the asset at this endpoint
-abbrev pub is_between : (client asset : Endpoint) → Session → Bool
-is_between client asset session = same_endpoint (client_of session.flow) client && same_endpoint session.flow.asset.endpoint asset
+-- the session is between this client and the site at this endpoint
+abbrev pub is_between : (client site : Endpoint) → Session → Bool
+is_between client site session = same_endpoint (client_of session.flow) client && same_endpoint session.flow.site.first.endpoint site
 
 -- the place of that session in the table
-abbrev pub place_of : (client asset : Endpoint) → List Session → Option ℕ
-place_of client asset table = position (is_between client asset) table
+abbrev pub place_of : (client site : Endpoint) → List Session → Option ℕ
+place_of client site table = position (is_between client site) table
 
 -- the table without that session
-abbrev pub without : (client asset : Endpoint) → List Session → List Session
-without client asset table = elim (place_of client asset table) [ Some place ↦ remove table place | None ↦ table ]
+abbrev pub without : (client site : Endpoint) → List Session → List Session
+without client site table = elim (place_of client site table) [ Some place ↦ remove table place | None ↦ table ]
 
 -- a packet that may begin a session: such a one from an endpoint that is no asset's
 abbrev pub may_begin : List Asset → PacketValue → Bool
@@ -70,16 +71,16 @@ goes table packet = goes_from_client (place_of packet.source packet.dest table) 
 -- the beginning of a session of a flow, where the table holds fewer than 256 others
 abbrev pub begins_or_full : List Session → Flow → Match
 begins_or_full table flow =
-    if nat_lt (length (without (client_of flow) flow.asset.endpoint table)) table_size then Begins flow else Full
+    if nat_lt (length (without (client_of flow) flow.site.first.endpoint table)) table_size then Begins flow else Full
 
--- a packet that may begin a session, and goes to an asset, does so where the flow has no session that is not closed
-abbrev pub begins : List Session → PacketValue → Option Asset → Match
+-- a packet that may begin a session, and goes to a site, does so where the flow has no session that is not closed
+abbrev pub begins : List Session → PacketValue → Option SiteValue → Match
 begins table packet None = goes table packet
-begins table packet (Some asset) =
-    if is_closed_at table (place_of packet.source packet.dest table) then begins_or_full table (record { asset = asset; syn = packet })
+begins table packet (Some site) =
+    if is_closed_at table (place_of packet.source packet.dest table) then begins_or_full table (record { site = site; syn = packet })
     else goes table packet
 
 -- what a packet is to a table
 abbrev pub match_of : List Asset → List Session → PacketValue → Match
 match_of assets table packet =
-    if may_begin assets packet then begins table packet (asset_at assets packet.dest) else goes table packet
+    if may_begin assets packet then begins table packet (site_at assets packet.dest) else goes table packet

@@ -82,7 +82,7 @@ with_event_at (suc place) event (session ∷ table) = session ∷ with_event_at 
 
 -- the table after the packet: a new session stands last, and the closed one of its flow is gone; a session that was cut is gone
 abbrev pub after_received : Received → List Session → List Session
-after_received (Begun flow event) table = without (client_of flow) flow.asset.endpoint table ++ record { flow = flow; events = event ∷ [] }
+after_received (Begun flow event) table = without (client_of flow) flow.site.first.endpoint table ++ record { flow = flow; events = event ∷ [] }
     ∷ []
 after_received (Went place event) table = filter stays (with_event_at place event table)
 after_received _ table = table

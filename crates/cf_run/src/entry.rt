@@ -1,5 +1,5 @@
 //! The sessions of the table in memory.
-ghost use Rattle.std.specs.Prelude.{◌≡◌, ◌<◌, Some, length, slice_get};
+ghost use Rattle.std.specs.Prelude.{◌≡◌};
 ghost use Rattle.cf_lane.specs.Judged.{one_if};
 ghost use Rattle.cf_run.specs.Entries.{closes_by, cuts_by, entry_between, place_in, stays_by};
 ghost use Rattle.cf_policy.specs.AtEndpoint.{has_asset_at};
@@ -8,12 +8,12 @@ use cf_policy::Asset;
 use cf_session::{Life, Session};
 use cf_view::{Endpoint, same_endpoint};
 
-/// A session in the table, and the place of its asset in the policy.
+/// A session in the table, and the place of its site in the policy.
 #[derive(Drop)]
 pub struct Entry {
     /// The session.
     pub session: Session,
-    /// The place of the asset that it serves.
+    /// The place of the first asset of the site that it serves.
     pub asset: usize,
     /// Before this moment in microseconds the first half of an event does nothing to it.
     pub due: u64,
@@ -28,14 +28,6 @@ pub struct Table {
     pub due: u64,
 }
 
-/// The asset at a place of a policy.
-pub(crate) fn asset_of<'a>(assets: &'a [Asset], place: usize) -> &'a Asset
-    requires { place < length assets.now }
-    ensures { slice_get assets.now place ≡ Some result.now }
-{
-    &assets[place]
-}
-
 /// Whether an asset stands at an endpoint.
 pub(crate) fn has_asset_at(assets: &[Asset], endpoint: &Endpoint) -> bool
     ensures { result ≡ has_asset_at assets.now endpoint.now }
@@ -45,7 +37,7 @@ pub(crate) fn has_asset_at(assets: &[Asset], endpoint: &Endpoint) -> bool
         .any(|asset| same_endpoint(&asset.endpoint, endpoint))
 }
 
-/// Whether a session is between this client and the asset at this endpoint.
+/// Whether a session is between this client and the site at this endpoint.
 fn is_between(entry: &Entry, assets: &[Asset], client: &Endpoint, endpoint: &Endpoint) -> bool
     ensures { result ≡ entry_between assets.now client.now endpoint.now entry.now }
 {
@@ -56,7 +48,7 @@ fn is_between(entry: &Entry, assets: &[Asset], client: &Endpoint, endpoint: &End
         }
 }
 
-/// The place in the table of the session between this client and the asset at this endpoint. Where no asset stands there the
+/// The place in the table of the session between this client and the site at this endpoint. Where no asset stands there the
 /// table is not walked.
 #[tactic(auto, using(crate::proofs::Matched::place_in_none))]
 pub(crate) fn place_in(

@@ -3,6 +3,7 @@ ghost use Rattle.std.specs.Prelude.{◌≡◌, ◌+◌, ◌<◌, ◌≤◌, List
 ghost use Rattle.std.specs.Result.{is_err};
 ghost use Rattle.cf_outside.specs.Desk.{DeskValue};
 ghost use Rattle.cf_outside.specs.Frames.{EmitsAndLogs};
+ghost use Rattle.cf_policy.specs.Site.{site_from};
 ghost use Rattle.cf_session.specs.Broken.{BreaksTick};
 ghost use Rattle.cf_session.specs.Session.{Flow, SessionEvent};
 ghost use Rattle.cf_session.specs.Stands.{IsSessionOf};
@@ -14,9 +15,9 @@ ghost use Rattle.cf_run.specs.Table.{Session as Known};
 ghost use Rattle.cf_run.specs.declared.entry.Entry.{Entry as KnownEntry};
 ghost use Rattle.cf_view.specs.Moment.{moment_limit};
 
-use crate::entry::{Entry, Table, asset_of, cuts, stays};
+use crate::entry::{Entry, Table, cuts, stays};
 use cf_outside::Desk;
-use cf_policy::Asset;
+use cf_policy::{Asset, site_at_place};
 use cf_session::{Life, each_session_has_a_tick, sessions_are_quiet_before_due};
 use cf_view::WriteFault;
 
@@ -42,13 +43,13 @@ fn tick_at<D: Desk>(
         → TickAt assets.now moment before after (told (D.value desk.old)) (told (D.value desk.new)) (stays_by life) (cuts_by life)) }
     ensures broken { OnErr result ((before : KnownEntry) → slice_get table.old.items place ≡ Some before
         → (flow : Flow) (earlier : List SessionEvent) (event : SessionEvent) → IsSessionOf flow earlier event before.session
-        → slice_get assets.now before.asset ≡ Some flow.asset
+        → site_from assets.now before.asset ≡ Some flow.site
         → BreaksTick flow (event ∷ earlier) moment (D.value desk.old) (D.value desk.new)) }
     ensures frame { EmitsAndLogs (D.value desk.old) (D.value desk.new) (is_err result) }
 {
     let entry = &mut table[place];
-    let asset = asset_of(assets, entry.asset);
-    let life = entry.session.on_clock(asset, moment, desk)?;
+    let site = site_at_place(assets, entry.asset);
+    let life = entry.session.on_clock(&site, moment, desk)?;
     entry.due = entry.session.due();
     Ok(life)
 }

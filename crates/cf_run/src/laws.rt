@@ -5,9 +5,11 @@ ghost use Rattle.cf_run.specs.Isolation.{RunsIsolateSessions};
 ghost use Rattle.cf_run.specs.Logged.{RunsAreLogged};
 ghost use Rattle.cf_run.specs.Selected.{SelectsByMoment};
 ghost use Rattle.cf_run.specs.Sessions.{SessionsAreIsolated, SessionsAreRight, SessionsHaveOneStream};
+ghost use Rattle.cf_run.specs.SiteOf.{SessionsHaveSites};
 
-use cf_decode::fragments_decode;
+use cf_decode::{fragments_decode, stations_decode};
 use cf_lane::{has_one_judgement, rates_hold};
+use cf_policy::sites_are_whole;
 use cf_session::{
     events_are_fixed, first_copies_are_taken, has_one_stream, sessions_send_what_is_let_in,
     work_is_of_what_was_taken,
@@ -52,7 +54,7 @@ pub fn sessions_are_isolated()
     events_are_fixed();
 }
 
-/// Isolation: a session of one run and one of another run of the same policy with equal moments, which have one client and asset
+/// Isolation: a session of one run and one of another run of the same policy with equal moments, which have one client and site
 /// and began in the same event by the same packet, send the same records at the same moments and log the same lines, over the
 /// events in which the same packets are matched to them, whatever else the two captures hold.
 pub fn runs_isolate_sessions()
@@ -61,11 +63,20 @@ pub fn runs_isolate_sessions()
     events_are_fixed();
 }
 
+/// Each session of a run under a policy that was read is with assets of one address and port that are in form: no two of them have one
+/// station.
+#[tactic(auto, using(crate::proofs::SiteOf::have_sites))]
+pub fn sessions_have_sites()
+    ensures { SessionsHaveSites }
+{
+    sites_are_whole();
+}
+
 /// The headline: after each event of a run, whatever copies of letters a controller takes in a session of all segments that were
 /// sent to it, it puts together a beginning of one stream, and that decodes to the first of the items that the policy let through
-/// of the client's stream of first copies, in order, and then to a proper prefix of the next; what was taken of both sides is so by first
-/// copies; each open end of a session that was
-/// not cut has sent as many letters as its stream has below the greatest edge shown; and no rule let more commands of a session
+/// of the client's stream of first copies, in order, and then to a proper prefix of the next; of its units those with the station of an
+/// asset decode to the first of what that asset's rules admit; what was taken of both sides is so by first copies; each open end of a
+/// session that was not cut has sent as many letters as its stream has below the greatest edge shown; and no rule let more commands of a session
 /// through than its rate.
 #[tactic(auto, using(crate::proofs::Headline::has_headline))]
 pub fn runs_have_headline()
@@ -75,6 +86,7 @@ pub fn runs_have_headline()
     first_copies_are_taken();
     work_is_of_what_was_taken();
     fragments_decode();
+    stations_decode();
     rates_hold();
     sessions_send_what_is_let_in();
 }

@@ -19,6 +19,7 @@ pub use first_half::tick_all;
 pub use laws::{
     records_fix_runs, runs_are_logged, runs_have_headline, runs_isolate_sessions,
     selects_by_moment, sessions_are_isolated, sessions_are_right, sessions_have_one_stream,
+    sessions_have_sites,
 };
 pub use matching::{Match, TABLE_SIZE, match_packet};
 pub use run::{RunFault, RunNames, RunRefusal, run_capture};

@@ -17,8 +17,8 @@ pub const TABLE_SIZE: usize = 256;
 /// What a packet is to the table.
 #[derive(Clone, Copy)]
 pub enum Match {
-    /// It begins a session with the asset at this place of the policy. The closed session of its flow, if there is one, gives
-    /// way.
+    /// It begins a session with the site whose first asset has this place of the policy. The closed session of its flow, if there
+    /// is one, gives way.
     Begins { asset: usize, closed: Option<usize> },
     /// It would, and the table has no room.
     Full,
@@ -65,7 +65,7 @@ fn has(packet: &Packet<'_>, flag: u8) -> bool
     packet.flags / flag % 2 == 1
 }
 
-/// The place of the asset at an endpoint.
+/// The place of the first asset at an endpoint.
 fn asset_at(assets: &[Asset], endpoint: &Endpoint) -> Option<usize>
     ensures { result ≡ asset_place assets.now endpoint.now }
 {

@@ -1,9 +1,10 @@
 //! The second half of an event: the packet.
 ghost use Rattle.std.specs.Prelude.{◌≡◌, ◌+◌, ◌-◌, ◌^◌, ◌<◌, ◌≤◌, true, IfOk, IfSome, IsErrOf, Ok, OnErr, OnOk, Some, length, pos};
-ghost use Rattle.std.specs.Prelude.{slice_get, vec_capacity, vec_len};
+ghost use Rattle.std.specs.Prelude.{vec_capacity, vec_len};
 ghost use Rattle.cf_outside.specs.Desk.{DeskValue};
 ghost use Rattle.cf_outside.specs.Frames.{EmitsAndLogs};
 ghost use Rattle.cf_packet.specs.Packet.{packet_value};
+ghost use Rattle.cf_policy.specs.Site.{site_from};
 ghost use Rattle.cf_policy.specs.Within.{AreAssetsWithin};
 ghost use Rattle.cf_session.specs.Broken.{BreaksBeginning};
 ghost use Rattle.cf_session.specs.Session.{Flow};
@@ -15,12 +16,12 @@ ghost use Rattle.cf_run.specs.Receiving.{BeginsOne, GoesOne, IsSized, ReceivesOn
 ghost use Rattle.cf_view.specs.Moment.{moment_limit};
 
 use crate::engine::StepFault;
-use crate::entry::{Entry, Table, asset_of, closes, cuts, stays};
+use crate::entry::{Entry, Table, closes, cuts, stays};
 use crate::fitting::{is_above, is_beyond, is_foreign, one_if};
 use crate::matching::{Match, match_packet};
 use cf_outside::Desk;
 use cf_packet::Packet;
-use cf_policy::Asset;
+use cf_policy::{Asset, site_at_place};
 use cf_session::{BeginFault, Session};
 use cf_view::Side;
 use std::alloc::Global;
@@ -112,7 +113,7 @@ pub fn receive<D: Desk>(
     }
 }
 
-/// A session begins with the asset at a place, and stands last; the closed one of its flow leaves the table.
+/// A session begins with the site whose first asset is at a place, and stands last; the closed one of its flow leaves the table.
 fn begin<D: Desk>(
     table: &mut Table,
     alloc: Global,
@@ -136,7 +137,7 @@ fn begin<D: Desk>(
     ensures begins { OnOk result (BeginsOne assets.now moment asset closed (packet_value packet.now) table.old.sessions.items
         table.new.sessions.items
         (told (D.value desk.old)) (told (D.value desk.new))) }
-    ensures broken { IsErrOf result StepFault.Write → (flow : Flow) → slice_get assets.now asset ≡ Some flow.asset
+    ensures broken { IsErrOf result StepFault.Write → (flow : Flow) → site_from assets.now asset ≡ Some flow.site
         → flow.syn ≡ packet_value packet.now → BreaksBeginning flow (moment - 1) (D.value desk.old) (D.value desk.new) }
     ensures nothing { IsErrOf result StepFault.NoMemory → desk.new ≡ desk.old }
     ensures sound { OnOk result (AreSound assets.now limit table.new.sessions.items) }
@@ -147,8 +148,8 @@ fn begin<D: Desk>(
 {
     make_way(&mut table.sessions, closed);
     make_room(&mut table.sessions)?;
-    let served = asset_of(assets, asset);
-    let session = match Session::begin(alloc, served, moment, signed(limit), packet, desk) {
+    let served = site_at_place(assets, asset);
+    let session = match Session::begin(alloc, &served, moment, signed(limit), packet, desk) {
         Ok(session) => session,
         Err(BeginFault::NoMemory) => return Err(StepFault::NoMemory),
         Err(BeginFault::Write) => return Err(StepFault::Write),
@@ -228,12 +229,12 @@ fn go_on<D: Desk>(
     ensures frame { EmitsAndLogs (D.value desk.old) (D.value desk.new) (has_failed result) }
 {
     let entry = &mut table.sessions[place];
-    let asset = asset_of(assets, entry.asset);
+    let site = site_at_place(assets, entry.asset);
     let admitted = entry.session.admitted();
     let refused = entry.session.refused();
     let was_closed = entry.session.is_closed();
     let misfit = entry.session.misfit(side, packet);
-    let life = match entry.session.on_packet(asset, moment, side, packet, desk) {
+    let life = match entry.session.on_packet(&site, moment, side, packet, desk) {
         Ok(life) => life,
         Err(_) => return Err(StepFault::Write),
     };

@@ -156,7 +156,7 @@ module _ (places : List Listening) (most moment place : ℕ) (lobby : Lobby) (to
     abbrev comer : Option Closing → List (List ℕ) → Arrival
     comer closed lines = record { seat = its; closed = closed; lines = lines }
 
-    come_is : (closed : Option Closing) (lines : List (List ℕ)) → closed ≡ closing_of at.asset (seats_of ps) place client.address →
+    come_is : (closed : Option Closing) (lines : List (List ℕ)) → closed ≡ closing_of at.site (seats_of ps) place client.address →
         lines ≡ arrival_lines at lobby moment (comer closed lines) → AreArrivals places moment place lobby (seats_of ps) (comer closed lines ∷ [])
     come_is closed lines why own = (
       record {
@@ -171,7 +171,7 @@ module _ (places : List Listening) (most moment place : ℕ) (lobby : Lobby) (to
     )
 
     -- one that is closed
-    module _ (why : Closing) (is_closed : Some why ≡ closing_of at.asset (seats_of ps) place client.address) (mid : Option (List LinksEntry))
+    module _ (why : Closing) (is_closed : Some why ≡ closing_of at.site (seats_of ps) place client.address) (mid : Option (List LinksEntry))
         (came : mid ≡ option_map (λ es. es ++ Came lobby.next place client ∷ []) told)
         (left : after ≡ option_map (λ es. es ++ Left lobby.next ∷ []) mid) (one : lobby' ≡ lobby_closed why lobby place moment client.address) where
       both : after ≡ option_map (λ es. es ++ Came lobby.next place client ∷ Left lobby.next ∷ []) told
@@ -194,7 +194,7 @@ module _ (places : List Listening) (most moment place : ℕ) (lobby : Lobby) (to
       }
 
       abbrev its_line : List ℕ
-      its_line = line_about at.asset client moment (closing_value why (came_by why lobby place))
+      its_line = line_about at.site.first client moment (closing_value why (came_by why lobby place))
 
       -- it has no line
       pub closed_quiet : log' ≡ log → has_line why lobby place moment client.address ≡ false → Arrive places most moment place (place + 1) lobby lobby' told after log log' ps ps
@@ -234,7 +234,7 @@ module _ (places : List Listening) (most moment place : ℕ) (lobby : Lobby) (to
 
     -- one that is taken
     module _ (new : List Phase) (came : after ≡ option_map (λ es. es ++ Came lobby.next place client ∷ []) told)
-        (is_taken : None ≡ closing_of at.asset (seats_of ps) place client.address) (is : new ≡ ps ++ new_phase lobby.next place client ∷ [])
+        (is_taken : None ≡ closing_of at.site (seats_of ps) place client.address) (is : new ≡ ps ++ new_phase lobby.next place client ∷ [])
         (one : lobby' ≡ record lobby { next = lobby.next + 1 }) where
       kept_in : (store : List KeptValue) (past : List TurnOf) → Keeps places most store lobby.next past ps → Keeps places most store lobby'.next past new
       kept_in store past k = subst (λ (f : Lobby). Keeps places most store f.next past new) (sym one)

@@ -29,10 +29,10 @@ or_right : (a l : Bool) → (a || l) ≡ false → l ≡ false
 or_right true l h = cc h
 or_right false l h = h
 
-must_less : (o : Option Listening) (l l' : Bool) → (l ≡ false → l' ≡ false) → (elim o as (λ x. Bool) [ None ↦ false | Some at ↦ has_rates at.asset && l ]) ≡ false →
-    (elim o as (λ x. Bool) [ None ↦ false | Some at ↦ has_rates at.asset && l' ]) ≡ false
+must_less : (o : Option Listening) (l l' : Bool) → (l ≡ false → l' ≡ false) → (elim o as (λ x. Bool) [ None ↦ false | Some at ↦ has_rates at.site && l ]) ≡ false →
+    (elim o as (λ x. Bool) [ None ↦ false | Some at ↦ has_rates at.site && l' ]) ≡ false
 must_less None l l' f h = refl
-must_less (Some at) l l' f h = and_less (has_rates at.asset) l l' f h
+must_less (Some at) l l' f h = and_less (has_rates at.site) l l' f h
 
 later_less : (before : List Seat) (it : Seat) (after : List Seat) (s : Seat) → has_later (before ++ it ∷ after) s ≡ false → has_later (before ++ after) s ≡ false
 later_less [] it after s h = or_right (is_same_client it s && nat_lt s.session it.session) (has_later after s) h
@@ -104,10 +104,10 @@ module _ (places : List Listening) where
   done_all ss n h done = subst (AllByRecursion (IsCalm ss)) (take_all n ss h) done
 
   -- one more of an asset without rates
-  module _ (n : Seat) (at : Listening) (is : slice_get places n.place ≡ Some at) (not : has_rates at.asset ≡ false) where
-    must_not : (o : Option Listening) (l : Bool) → o ≡ Some at → (elim o as (λ x. Bool) [ None ↦ false | Some a ↦ has_rates a.asset && l ]) ≡ false
+  module _ (n : Seat) (at : Listening) (is : slice_get places n.place ≡ Some at) (not : has_rates at.site ≡ false) where
+    must_not : (o : Option Listening) (l : Bool) → o ≡ Some at → (elim o as (λ x. Bool) [ None ↦ false | Some a ↦ has_rates a.site && l ]) ≡ false
     must_not None l e = refl
-    must_not (Some a) l e = ap (λ (b : Bool). b && l) (ap (λ (z : Listening). has_rates z.asset) (same_Some a at e) ∙ not)
+    must_not (Some a) l e = ap (λ (b : Bool). b && l) (ap (λ (z : Listening). has_rates z.site) (same_Some a at e) ∙ not)
 
     later_same : (ss : List Seat) (s : Seat) → (n.place == s.place) ≡ false → has_later (ss ++ n ∷ []) s ≡ has_later ss s
     later_same [] s other = ap (λ (b : Bool). ((b && n.client.address == s.client.address) && nat_lt s.session n.session) || false) other
@@ -118,7 +118,7 @@ module _ (places : List Listening) where
         let e : n.place ≡ s.place = grind (arith, nat_tests) in
         must_not (slice_get places s.place) (has_later (ss ++ n ∷ []) s) (ap (slice_get places) (sym e) ∙ is)
     one_calm ss s false other h =
-        ap (λ (l : Bool). elim (slice_get places s.place) as (λ x. Bool) [ None ↦ false | Some a ↦ has_rates a.asset && l ]) (later_same ss s other) ∙ h
+        ap (λ (l : Bool). elim (slice_get places s.place) as (λ x. Bool) [ None ↦ false | Some a ↦ has_rates a.site && l ]) (later_same ss s other) ∙ h
 
     pub calm_more : (ss : List Seat) → AreCalm places ss → AreCalm places (ss ++ n ∷ [])
     calm_more ss calm = all_join (IsCalm (ss ++ n ∷ [])) ss (n ∷ []) (all_map (IsCalm ss) (IsCalm (ss ++ n ∷ [])) ss (λ s h. one_calm ss s (n.place == s.place) refl h) calm)
@@ -130,9 +130,9 @@ or_both true b h = cc h
 or_both false b h = (refl, h)
 
 pub calm_taken : (places : List Listening) (at : Listening) (old new : Bool) (ps qs : List Phase) (session place : ℕ) (client : Endpoint) → slice_get places place ≡ Some at →
-    qs ≡ ps ++ new_phase session place client ∷ [] → new ≡ (old || has_rates at.asset) → (old ≡ false → AreCalm places (seats_of ps)) → new ≡ false → AreCalm places (seats_of qs)
+    qs ≡ ps ++ new_phase session place client ∷ [] → new ≡ (old || has_rates at.site) → (old ≡ false → AreCalm places (seats_of ps)) → new ≡ false → AreCalm places (seats_of qs)
 calm_taken places at old new ps qs session place client is one says calm not =
-    let b = or_both old (has_rates at.asset) (sym says ∙ not) in
+    let b = or_both old (has_rates at.site) (sym says ∙ not) in
     subst (λ (xs : List Phase). AreCalm places (seats_of xs)) (sym one)
     (subst (AreCalm places) (sym (map-append (λ (p : Phase). p.seat) ps (new_phase session place client ∷ [])))
     (calm_more places (new_phase session place client).seat at is b.1 (seats_of ps) (calm b.0)))
@@ -158,9 +158,9 @@ later_is z (x ∷ xs) = ap (λ (b : Bool). is_later z (phase_of x).seat || b) (l
 
 pub came_is : (places : List Listening) (xs : List Served) (i : ℕ) (x : Served) (has_new : Bool) (at : Listening) → slice_get xs i ≡ Some x → slice_get places x.place ≡ Some at →
     (has_new ≡ false → AreCalm places (seats_of (map phase_of xs))) →
-    ((has_new && has_rates at.asset) && list_any (λ (s : Served). is_later (phase_of x).seat (phase_of s).seat) xs) ≡ must_end places (seats_of (map phase_of xs)) (phase_of x).seat
+    ((has_new && has_rates at.site) && list_any (λ (s : Served). is_later (phase_of x).seat (phase_of s).seat) xs) ≡ must_end places (seats_of (map phase_of xs)) (phase_of x).seat
 came_is places xs i x true at there is calm =
-    ap (λ (b : Bool). has_rates at.asset && b) (later_is (phase_of x).seat xs)
-    ∙ ap (λ (o : Option Listening). elim o as (λ y. Bool) [ None ↦ false | Some a ↦ has_rates a.asset && has_later (seats_of (map phase_of xs)) (phase_of x).seat ]) (sym is)
+    ap (λ (b : Bool). has_rates at.site && b) (later_is (phase_of x).seat xs)
+    ∙ ap (λ (o : Option Listening). elim o as (λ y. Bool) [ None ↦ false | Some a ↦ has_rates a.site && has_later (seats_of (map phase_of xs)) (phase_of x).seat ]) (sym is)
 came_is places xs i x false at there is calm =
     sym (all_at (IsCalm places (seats_of (map phase_of xs))) (seats_of (map phase_of xs)) i (phase_of x).seat (seats_slice xs i x there) (calm refl))

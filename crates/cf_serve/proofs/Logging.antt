@@ -5,7 +5,7 @@ use Rattle.cf_lane.specs.Handled.{WritesLog}
 use Rattle.cf_links.specs.LinkValue.{LinkValue}
 use Rattle.cf_outside.proofs.Desks.{keeps_both, keeps_none}
 use Rattle.cf_outside.specs.Desk.{DeskValue}
-use Rattle.cf_policy.specs.declared.Asset.{Asset}
+use Rattle.cf_policy.specs.Site.{SiteValue}
 use Rattle.cf_relay.specs.Relaying.{RelayingValue}
 use Rattle.cf_relay.specs.Scene.{DoesBetween, StopsBetween, scene}
 use Rattle.cf_relay.specs.Turn.{turn}
@@ -26,8 +26,8 @@ writes_both c d e h g = record {
 }
 
 -- a turn writes the log alone, whatever it answered
-pub turn_writes : (asset : Asset) (most : ℕ) (old new : RelayingValue) (link link' : LinkValue) (d d' : DeskValue) (r : Result Unit Stop) →
-    OnOk r (DoesBetween asset most (turn both.Separate) (scene old link d) (scene new link' d')) →
-    IfErr r (λ why. StopsBetween asset most (turn both.Separate) why (scene old link d) (scene new link' d')) → WritesLog d d'
-turn_writes asset most old new link link' d d' (Ok u) does stops = does.adds.log
-turn_writes asset most old new link link' d d' (Err why) does stops = stops.adds.log
+pub turn_writes : (site : SiteValue) (most : ℕ) (old new : RelayingValue) (link link' : LinkValue) (d d' : DeskValue) (r : Result Unit Stop) →
+    OnOk r (DoesBetween site most (turn both.Separate) (scene old link d) (scene new link' d')) →
+    IfErr r (λ why. StopsBetween site most (turn both.Separate) why (scene old link d) (scene new link' d')) → WritesLog d d'
+turn_writes site most old new link link' d d' (Ok u) does stops = does.adds.log
+turn_writes site most old new link link' d d' (Err why) does stops = stops.adds.log

@@ -50,7 +50,7 @@ last_fails at past most client es before line whole part e ends begins =
 module _ {at : Listening} {most : ℕ} {client : Endpoint} {told after : SessionTold} {log mid log' : Option (List (List ℕ))} {line : List ℕ} {old new : Option LinkedValue} {e : SessionEnd}
     (t : EndsTurn at most client told after log mid line old new e) where
   -- the last line was put
-  pub last_put : (left : Option (List RingValue)) → log' ≡ with_lines mid (line ∷ []) → TurnDoes at left most client told after log log' old new (Some e)
+  pub last_put : (left : Option (List (List RingValue))) → log' ≡ with_lines mid (line ∷ []) → TurnDoes at left most client told after log log' old new (Some e)
   last_put left put = record {
     answers = t.answers;
     tells = t.tells;
@@ -84,18 +84,18 @@ module _ (at : Listening) (most : ℕ) (client : Endpoint) where
   -- ---- a line amid a turn
 
   pub write_fails : (before : RateMoments) (met : Endpoint) (m : ℕ) (answers : List Entry) (now : RelayingValue) (own : List (List ℕ)) (part : List ℕ) →
-      HasStopped both.Separate at.asset before at.port most met m (Some []) answers stop.Write now (Some own) part →
-      FailsSo at before most client (met_at at.port at.asset.endpoint met ∷ Moment m ∷ answers) own part
+      HasStopped both.Separate at.site before at.port most met m (Some []) answers stop.Write now (Some own) part →
+      FailsSo at before most client (met_at at.port at.site.first.endpoint met ∷ Moment m ∷ answers) own part
   write_fails before met m answers now own part h =
-      inr (stopped_write both.Separate at.asset before at.port most met m (Some []) answers now (Some own) part (own_begun own part) h (own_begins own part))
+      inr (stopped_write both.Separate at.site before at.port most met m (Some []) answers now (Some own) part (own_begun own part) h (own_begins own part))
 
   -- ---- as a controller is asked for
 
   -- the open line
-  pub open_fails : (before : RateMoments) (few : 0 < most) (met : Endpoint) (m : ℕ) (whole : List (List ℕ)) (part : List ℕ) → BeginsLine (line_about at.asset met m Begun) whole part →
-      FailsSo at before most client (met_at at.port at.asset.endpoint met ∷ Moment m ∷ []) whole part
+  pub open_fails : (before : RateMoments) (few : 0 < most) (met : Endpoint) (m : ℕ) (whole : List (List ℕ)) (part : List ℕ) → BeginsLine (line_about at.site.first met m Begun) whole part →
+      FailsSo at before most client (met_at at.port at.site.first.endpoint met ∷ Moment m ∷ []) whole part
   open_fails before few met m whole part begins =
-      inr (write_told both.Separate at.asset before at.port most few (own_begun whole part) met m (Some []) (Some whole) part (own_more (line_about at.asset met m Begun) whole part begins) (own_begins whole part))
+      inr (write_told both.Separate at.site before at.port most few (own_begun whole part) met m (Some []) (Some whole) part (own_more (line_about at.site.first met m Begun) whole part begins) (own_begins whole part))
 
   module _ (earlier : List Entry) (told after : SessionTold) (log log' : Option (List (List ℕ))) (part : List ℕ) (answers : List Entry)
       (tells : after ≡ with_answers told answers) (quiet : history_of (earlier ++ answers) ≡ []) (line : List ℕ) (may : MayHaveMore (line ∷ []) log log' part) where

@@ -23,12 +23,12 @@ no_lines [] = refl
 no_lines (p ∷ places) = refl
 
 lines_more : (places : List Place) (ms : List ℕ) (m : ℕ) (p : Place) → slice_get places (length ms) ≡ Some p →
-    listen_lines places (ms ++ m ∷ []) ≡ listen_lines places ms ++ line_about p.asset.now p.at m Listen ∷ []
+    listen_lines places (ms ++ m ∷ []) ≡ listen_lines places ms ++ line_about p.site.first p.at m Listen ∷ []
 lines_more [] ms m p e = cc
 lines_more (q ∷ places) [] m p e =
     let same : q ≡ p = same_Some q p e in
-    ap (λ (x : Place). line_about x.asset.now x.at m Listen ∷ listen_lines places []) same ∙ ap (λ ls. line_about p.asset.now p.at m Listen ∷ ls) (no_lines places)
-lines_more (q ∷ places) (x ∷ ms) m p e = ap (λ ls. line_about q.asset.now q.at x Listen ∷ ls) (lines_more places ms m p e)
+    ap (λ (x : Place). line_about x.site.first x.at m Listen ∷ listen_lines places []) same ∙ ap (λ ls. line_about p.site.first p.at m Listen ∷ ls) (no_lines places)
+lines_more (q ∷ places) (x ∷ ms) m p e = ap (λ ls. line_about q.site.first q.at x Listen ∷ ls) (lines_more places ms m p e)
 
 pub opens_none : (places : List Place) (told : Option (List LinksEntry)) (log : Option (List (List ℕ))) → OpensDo places 0 told told log log
 opens_none places told log = record {
@@ -47,7 +47,7 @@ told_opened n m ms told told1 told2 all o e =
 
 pub opens_more : (places : List Place) (n : ℕ) (told told1 told2 : Option (List LinksEntry)) (log log1 log2 : Option (List (List ℕ))) (m : ℕ) (p : Place) →
     slice_get places n ≡ Some p → OpensDo places n told told1 log log1 → told2 ≡ option_map (λ es. es ++ Opened n m ∷ []) told1 →
-    log2 ≡ with_lines log1 (line_about p.asset.now p.at m Listen ∷ []) → OpensDo places (n + 1) told told2 log log2
+    log2 ≡ with_lines log1 (line_about p.site.first p.at m Listen ∷ []) → OpensDo places (n + 1) told told2 log log2
 opens_more places n told told1 told2 log log1 log2 m p at o e f = record {
   moments = o.moments ++ m ∷ [];
   all = length-append o.moments (m ∷ []) ∙ ap (λ k. k + 1) o.all;
@@ -58,9 +58,9 @@ opens_more places n told told1 told2 log log1 log2 m p at o e f = record {
 -- the line of a place failed
 pub opens_missed : (places : List Place) (most n : ℕ) (told told1 told2 : Option (List LinksEntry)) (log log1 log2 : Option (List (List ℕ))) (part : List ℕ) (m : ℕ) (p : Place) →
     slice_get places n ≡ Some p → OpensDo places n told told1 log log1 → told2 ≡ option_map (λ es. es ++ Opened n m ∷ []) told1 →
-    MayHaveMore (line_about p.asset.now p.at m Listen ∷ []) log1 log2 part → Breaks places most told told2 log log2 part
+    MayHaveMore (line_about p.site.first p.at m Listen ∷ []) log1 log2 part → Breaks places most told told2 log log2 part
 opens_missed places most n told told1 told2 log log1 log2 part m p at o e may =
-    let w = begins_line (line_about p.asset.now p.at m Listen) log1 log2 part may in (
+    let w = begins_line (line_about p.site.first p.at m Listen) log1 log2 part may in (
       opened_from 0 (o.moments ++ m ∷ []),
       (
         listen_lines places o.moments ++ w.0,

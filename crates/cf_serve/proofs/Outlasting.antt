@@ -1,146 +1,25 @@
--- Over the sessions of a client, one after the other, no rule lets more through than its rate.
+-- Over the sessions of a client, one after the other, no rule of an asset lets more through than its rate.
 use Rattle.cf_lane.specs.Caller.{RateMoments, caller_at, none_before}
 use Rattle.cf_lane.specs.Judged.{Judged}
 use Rattle.cf_lane.specs.Laws.{HasOneJudgement, RatesHold}
-use Rattle.cf_lane.specs.Rates.{KeepsRates, and_rated, moments_of, rated, rated_from, used_at, uses}
+use Rattle.cf_lane.specs.SiteRates.{KeepsRates, used_at}
 use Rattle.cf_outside.specs.Pair.{Entry}
 use Rattle.cf_policy.specs.Verdict.{is_empty}
-use Rattle.cf_policy.specs.declared.policy.Asset.{Asset}
-use Rattle.cf_policy.specs.declared.policy.Rate.{Rate}
-use Rattle.cf_policy.specs.declared.policy.Rule.{Rule}
 use Rattle.cf_relay.specs.Answers.{client_of, history_of}
 use Rattle.cf_relay.specs.Turn.{AreItemsOf}
-use Rattle.cf_serve.proofs.Forgetting.{over_later}
+use Rattle.cf_serve.proofs.Parting.{CountsAs, KeepsEach, begins_as, counts_later, counts_none, counts_used, keeps_all_places, keeps_as, keeps_both, keeps_none, keeps_unrated, sessions_unused}
 use Rattle.cf_serve.proofs.Standing.{Among, AreStood, IsStood, among_back, among_front, among_more, its_other, its_own, no_back, no_front, not_before, not_then, own_number, part_behind, same_number}
-use Rattle.cf_serve.specs.Kept.{AreBegun, Begins, IsBegun, IsForgotten, Leaves, before_in, before_of, begins_in, left_behind, left_from, left_to}
+use Rattle.cf_serve.specs.Kept.{AreBegun, Begins, IsBegun, Leaves, before_in, before_of, begins_in, left_behind, left_from, left_to}
 use Rattle.cf_serve.specs.Laws.{AreSessionsOf, IsSessionOf, begins_at, began_at, sessions_of, turns_to}
 use Rattle.cf_serve.specs.Rounds.{TurnOf, answers_in, ends_in, has_rates, is_client}
 use Rattle.cf_serve.specs.Session.{Listening}
 use Rattle.cf_serve.specs.declared.end.SessionEnd.{SessionEnd}
-use Rattle.std.proofs.Common.{Bool, List, None, Option, Some, [], ap, append_assoc, arith, cond, count_by, false, inl, inr, is_some, nat_lt, refl, slice_get, subst, sym, true, ℕ, ◌&&◌, ◌*◌, ◌++◌, ◌+◌, ◌<◌, ◌∙◌, ◌∷◌, ◌≡◌, ◌≤◌, ◌||◌, ◌⊎◌}
-use Rattle.std.proofs.lemmas.Bool.{and_parts, cases_Bool, eqb-true}
+use Rattle.std.proofs.Common.{Bool, List, None, Option, Some, [], ap, append_assoc, arith, false, inl, inr, is_some, refl, slice_get, subst, sym, true, ℕ, ◌&&◌, ◌*◌, ◌++◌, ◌+◌, ◌<◌, ◌∙◌, ◌∷◌, ◌≡◌, ◌≤◌, ◌||◌, ◌⊎◌}
+use Rattle.std.proofs.lemmas.Bool.{and_parts, cases_Bool}
 use Rattle.std.proofs.lemmas.Bool.Decides.{nat_tests}
-use Rattle.std.proofs.lemmas.Grind.{flat_map-append}
 use Rattle.std.proofs.lemmas.List.{append-nil}
-use Rattle.std.proofs.lemmas.List.Sums.{sum_by-append}
-use Rattle.std.specs.List.{AllByRecursion, flat_map, list_any}
-use Rattle.std.specs.Prelude.{if◌then◌else◌, nat_eq, option_to_list, ◌==◌}
-
--- ---- what counts at a moment
-
--- how many of these moments count at a moment
-abbrev near : Rate → (moment : ℕ) → List ℕ → ℕ
-near rate moment ts = count_by (λ t. nat_lt moment (t + rate.seconds * 1000000)) ts
-
-near_both : (rate : Rate) (moment : ℕ) (xs ys : List ℕ) → near rate moment (xs ++ ys) ≡ near rate moment xs + near rate moment ys
-near_both rate moment xs ys = sum_by-append (λ t. cond (nat_lt moment (t + rate.seconds * 1000000)) 1 0) xs ys
-
--- the moment is no earlier than these turns
-abbrev IsAfter : List TurnOf → (moment : ℕ) → Type 0
-IsAfter turns moment = AllByRecursion (λ (t : TurnOf). t.moment ≤ moment) turns
-
-after_front : (turns more : List TurnOf) (moment : ℕ) → IsAfter (turns ++ more) moment → IsAfter turns moment
-after_front [] more moment a = tt
-after_front (t ∷ turns) more moment (here, behind) = (here, after_front turns more moment behind)
-
--- what was used, as far as it counts for an asset from then on
-abbrev CountsAs : Asset → List TurnOf → (used other : RateMoments) → Type 0
-CountsAs asset turns used other =
-    (place number : ℕ) (rate : Rate) → slice_get (rated asset.rules) place ≡ Some (number, rate) → (moment : ℕ) → IsAfter turns moment
-    → near rate moment (used place) ≡ near rate moment (other place)
-
-counts_later : (asset : Asset) (turns more : List TurnOf) (used other : RateMoments) → CountsAs asset turns used other → CountsAs asset (turns ++ more) used other
-counts_later asset turns more used other c place number rate at moment after = c place number rate at moment (after_front turns more moment after)
-
-counts_used : (asset : Asset) (turns : List TurnOf) (used other : RateMoments) (js : List Judged) → CountsAs asset turns used other → CountsAs asset turns (used_at used js) (used_at other js)
-counts_used asset turns used other js c place number rate at moment after =
-    near_both rate moment (used place) (moments_of place js)
-    ∙ ap (λ n. n + near rate moment (moments_of place js)) (c place number rate at moment after)
-    ∙ sym (near_both rate moment (other place) (moments_of place js))
-
-none_near : (n : ℕ) → nat_eq n 0 ≡ true → 0 ≡ n
-none_near n e = sym (eqb-true n 0 e)
-
--- what is forgotten counts no more from then on
-forgotten_none : (asset : Asset) (left : RateMoments) (turns : List TurnOf) → IsForgotten asset left turns → CountsAs asset turns none_before left
-forgotten_none asset left [] f = absurd f
-forgotten_none asset left (t ∷ turns) (inl over) =
-    λ place number rate at moment after. none_near (near rate moment (left place)) (over_later asset left t.moment moment after.0 over place number rate at)
-forgotten_none asset left (t ∷ turns) (inr f) = λ place number rate at moment after. forgotten_none asset left turns f place number rate at moment after.1
-
-begins_as : (asset : Asset) (left used b : RateMoments) (past : List TurnOf) (t : TurnOf) → Begins asset left (past ++ t ∷ []) b → CountsAs asset past left used → CountsAs asset (past ++ t ∷ []) b used
-begins_as asset left used b past t (inl same) c = subst (λ (u : RateMoments). CountsAs asset (past ++ t ∷ []) u used) (sym same) (counts_later asset past (t ∷ []) left used c)
-begins_as asset left used b past t (inr none) c =
-    subst (λ (u : RateMoments). CountsAs asset (past ++ t ∷ []) u used) (sym none.0)
-    (λ place number rate at moment after.
-    forgotten_none asset left (past ++ t ∷ []) none.1 place number rate at moment after
-    ∙ c place number rate at moment (after_front past (t ∷ []) moment after))
-
--- ---- rates of sessions, one behind the other
-
--- an item of two lists stands in the first, or in the second behind all of the first
-in_either : (js rest earlier later : List Judged) (j : Judged) → js ++ rest ≡ earlier ++ j ∷ later →
-    ((more : List Judged) × (js ≡ earlier ++ j ∷ more)) ⊎ ((front : List Judged) × (earlier ≡ js ++ front) × (rest ≡ front ++ j ∷ later))
-in_either [] rest earlier later j e = inr (earlier, refl, e)
-in_either (x ∷ js) rest [] later j e = let same : x ≡ j = cc e in inl (js, ap (λ y. y ∷ js) same)
-in_either (x ∷ js) rest (y ∷ earlier) later j e =
-    let same : x ≡ y = cc e in
-    let behind : js ++ rest ≡ earlier ++ j ∷ later = cc e in
-    elim (in_either js rest earlier later j behind) [
-      | inl m ↦ inl (m.0, ap (λ z. z ∷ js) same ∙ ap (λ zs. y ∷ zs) m.1)
-      | inr m ↦ inr (m.0, ap (λ zs. y ∷ zs) m.1 ∙ ap (λ z. z ∷ (js ++ m.0)) (sym same), m.2)
-    ]
-
-used_behind : (before : RateMoments) (js front : List Judged) (place : ℕ) → used_at before (js ++ front) place ≡ used_at (used_at before js) front place
-used_behind before js front place =
-    ap (λ xs. before place ++ xs) (flat_map-append (λ (j : Judged). if uses place j.fate then j.moment ∷ [] else []) js front)
-    ∙ sym (append_assoc (before place) (moments_of place js) (moments_of place front))
-
-keeps_both : (asset : Asset) (before : RateMoments) (js rest : List Judged) → KeepsRates asset before js → KeepsRates asset (used_at before js) rest → KeepsRates asset before (js ++ rest)
-keeps_both asset before js rest a b earlier later j place number rate is at used =
-    elim (in_either js rest earlier later j is) [
-      | inl m ↦ a earlier m.0 j place number rate m.1 at used
-      | inr m ↦
-          let all : used_at before earlier place ≡ used_at (used_at before js) m.0 place = ap (λ xs. used_at before xs place) m.1 ∙ used_behind before js m.0 place in
-          subst (λ n. n < rate.most) (sym (ap (near rate j.moment) all)) (b m.0 later j place number rate m.2 at used)
-    ]
-
-keeps_none : (asset : Asset) (before : RateMoments) → KeepsRates asset before []
-keeps_none asset before [] later j place number rate is at used = cc is
-keeps_none asset before (x ∷ earlier) later j place number rate is at used = cc is
-
-one_at : (P : Judged → Type 0) (js earlier later : List Judged) (j : Judged) → js ≡ earlier ++ j ∷ later → AllByRecursion P js → P j
-one_at P [] [] later j e all = cc e
-one_at P [] (x ∷ earlier) later j e all = cc e
-one_at P (x ∷ js) [] later j e (here, behind) = let same : x ≡ j = cc e in subst P same here
-one_at P (x ∷ js) (y ∷ earlier) later j e (here, behind) = let rest : js ≡ earlier ++ j ∷ later = cc e in one_at P js earlier later j rest behind
-
--- a session keeps to what counts as much as what it began with
-keeps_as : (asset : Asset) (turns : List TurnOf) (b used : RateMoments) (js : List Judged) → CountsAs asset turns b used →
-    AllByRecursion (λ (j : Judged). IsAfter turns j.moment) js → KeepsRates asset b js → KeepsRates asset used js
-keeps_as asset turns b used js c after keeps earlier later j place number rate is at own =
-    let here : IsAfter turns j.moment = one_at (λ (i : Judged). IsAfter turns i.moment) js earlier later j is after in
-    let same : near rate j.moment (used_at b earlier place) ≡ near rate j.moment (used_at used earlier place) =
-    counts_used asset turns b used earlier c place number rate at j.moment here in
-    subst (λ n. n < rate.most) same (keeps earlier later j place number rate is at own)
-
-or_none : (a b : Bool) → a || b ≡ false → (a ≡ false) × (b ≡ false)
-or_none true b e = cc e
-or_none false b e = (refl, e)
-
--- an asset without rates lets everything through that it allows
-unrated_here : (n : ℕ) (o : Option Rate) (later : List (ℕ × Rate)) → is_some o ≡ false → later ≡ [] → and_rated n o later ≡ []
-unrated_here n None later e is = is
-unrated_here n (Some rate) later e is = cc e
-
-unrated : (n : ℕ) (rules : List Rule) → list_any (λ (r : Rule). is_some r.rate) rules ≡ false → rated_from n rules ≡ []
-unrated n [] e = refl
-unrated n (r ∷ rules) e =
-    let parts = or_none (is_some r.rate) (list_any (λ (x : Rule). is_some x.rate) rules) e in
-    unrated_here n r.rate (rated_from (n + 1) rules) parts.0 (unrated (n + 1) rules parts.1)
-
-keeps_unrated : (asset : Asset) (before : RateMoments) (js : List Judged) → has_rates asset ≡ false → KeepsRates asset before js
-keeps_unrated asset before js none earlier later j place number rate is at used = let no : slice_get (rated asset.rules) place ≡ None = ap (λ ps. slice_get ps place) (unrated 0 asset.rules none) in cc (sym no ∙ at)
+use Rattle.std.specs.List.{AllByRecursion, flat_map}
+use Rattle.std.specs.Prelude.{if◌then◌else◌, option_to_list, ◌==◌}
 
 -- ---- where a session begins
 
@@ -212,7 +91,7 @@ apart_from n k number same apart = grind (arith, nat_tests)
 
 -- ---- the sessions of one client at an asset with rates
 
-module _ (places : List Listening) (place address : ℕ) (at : Listening) (is : slice_get places place ≡ Some at) (rates : has_rates at.asset ≡ true)
+module _ (places : List Listening) (place address : ℕ) (at : Listening) (is : slice_get places place ≡ Some at) (rates : has_rates at.site ≡ true)
     (hold : RatesHold) (only : HasOneJudgement) where
   abbrev Mine : TurnOf → Type 0
   Mine s = (is_client place address s.seat ≡ true) × (is_some s.begun ≡ true)
@@ -220,7 +99,7 @@ module _ (places : List Listening) (place address : ℕ) (at : Listening) (is : 
   -- no session of the client stands that has begun; what was left counts as all that was used
   record IsQuiet (past : List TurnOf) (used : RateMoments) : Type 0 where
     pub none : (s : TurnOf) → Among s past → Mine s → ends_in s.seat.session past ≡ [] → ⊥
-    pub counts : CountsAs at.asset past (left_to place address past) used
+    pub counts : CountsAs at.site past (left_to place address past) used
 
   -- one stands, whose items are among what was used
   record IsRunning (all past : List TurnOf) (used : RateMoments) : Type 0 where
@@ -234,10 +113,10 @@ module _ (places : List Listening) (place address : ℕ) (at : Listening) (is : 
     pub still : ends_in session past ≡ []
     pub alone : (s : TurnOf) → Among s past → Mine s → ends_in s.seat.session past ≡ [] → (s.seat.session == session) ≡ true
     pub js : List Judged
-    pub items : AreItemsOf at.asset before (answers_in session all) js
+    pub items : AreItemsOf at.site before (answers_in session all) js
     pub used_before : RateMoments
-    pub used_is : used ≡ used_at used_before js
-    pub counts : CountsAs at.asset past before used_before
+    pub used_is : used ≡ used_at at.site used_before js
+    pub counts : CountsAs at.site past before used_before
 
   abbrev State : (all past : List TurnOf) → (used : RateMoments) → Type 0
   State all past used = IsQuiet past used ⊎ IsRunning all past used
@@ -247,7 +126,7 @@ module _ (places : List Listening) (place address : ℕ) (at : Listening) (is : 
   Steps all past t used =
       ((began_at place address past t ≡ []) × State all (past ++ t ∷ []) used)
       ⊎ ((began_at place address past t ≡ t.seat.session ∷ [])
-      × ((js : List Judged) → IsSessionOf at.asset all t.seat.session js → KeepsRates at.asset used js × State all (past ++ t ∷ []) (used_at used js)))
+      × ((js : List Judged) → IsSessionOf at.site all t.seat.session js → KeepsEach at.site used js × State all (past ++ t ∷ []) (used_at at.site used js)))
 
   began_none : (past : List TurnOf) (t : TurnOf) → is_client place address t.seat && begins_at past t ≡ false → began_at place address past t ≡ []
   began_none past t e = ap (λ (b : Bool). if b then t.seat.session ∷ [] else []) e
@@ -297,7 +176,7 @@ module _ (places : List Listening) (place address : ℕ) (at : Listening) (is : 
         | inl front ↦ q.none s front own (not_before s.seat.session past (t ∷ []) e)
         | inr last ↦ subst (λ (u : TurnOf). Mine u → ends_in u.seat.session now ≡ [] → ⊥) last mine own e
       ];
-      counts = subst (λ (u : RateMoments). CountsAs at.asset now u used) (sym left) (counts_later at.asset past (t ∷ []) (left_to place address past) used q.counts);
+      counts = subst (λ (u : RateMoments). CountsAs at.site now u used) (sym left) (counts_later at.site past (t ∷ []) (left_to place address past) used q.counts);
     }
 
     running_more : (used : RateMoments) (r : IsRunning all past used) → ends_in r.session now ≡ [] → (Mine t → (number == r.session) ≡ true) → IsRunning all now used
@@ -318,7 +197,7 @@ module _ (places : List Listening) (place address : ℕ) (at : Listening) (is : 
       items = r.items;
       used_before = r.used_before;
       used_is = r.used_is;
-      counts = counts_later at.asset past (t ∷ []) r.before r.used_before r.counts;
+      counts = counts_later at.site past (t ∷ []) r.before r.used_before r.counts;
     }
 
     -- ---- a session that ends
@@ -329,15 +208,15 @@ module _ (places : List Listening) (place address : ℕ) (at : Listening) (is : 
         sym (ap (answers_in number) (whole ∙ sym (append_assoc past (t ∷ []) ts)) ∙ parts
         ∙ ap (λ es. answers_in number now ++ es) (no_more places number now ts rest (over_now end e)) ∙ append-nil (answers_in number now))
 
-    module _ (used before used_before : RateMoments) (js : List Judged) (items : AreItemsOf at.asset before (answers_in number all) js) (used_is : used ≡ used_at used_before js)
-        (counts : CountsAs at.asset now before used_before) (c : is_client place address t.seat ≡ true) (end : SessionEnd) (e : t.end ≡ Some end)
+    module _ (used before used_before : RateMoments) (js : List Judged) (items : AreItemsOf at.site before (answers_in number all) js) (used_is : used ≡ used_at at.site used_before js)
+        (counts : CountsAs at.site now before used_before) (c : is_client place address t.seat ≡ true) (end : SessionEnd) (e : t.end ≡ Some end)
         (bs : List RateMoments) (first : begins_in number now ≡ before ∷ bs) where
-      left_is : t.left ≡ used_at before js
+      left_is : t.left ≡ used_at at.site before js
       left_is =
-          let left = subst (λ (begins : List RateMoments). Leaves at.asset (left_to t.seat.place t.seat.client.address past) begins (answers_in number now) t.left) first (begun.leaves end e at (listens c)) in
-          let its = subst (λ (es : List Entry). AreItemsOf at.asset before es left.0) (answers_now end e) left.1.0 in
-          let same : left.0 ≡ js = only at.asset (caller_at (client_of (answers_in number all)).address before) (history_of (answers_in number all)) left.0 js its items in
-          left.1.1 ∙ ap (used_at before) same
+          let left = subst (λ (begins : List RateMoments). Leaves at.site (left_to t.seat.place t.seat.client.address past) begins (answers_in number now) t.left) first (begun.leaves end e at (listens c)) in
+          let its = subst (λ (es : List Entry). AreItemsOf at.site before es left.0) (answers_now end e) left.1.0 in
+          let same : left.0 ≡ js = only at.site (caller_at (client_of (answers_in number all)).address before) (history_of (answers_in number all)) left.0 js its items in
+          left.1.1 ∙ ap (used_at at.site before) same
 
       ends_quiet : ((s : TurnOf) → Among s past → Mine s → ends_in s.seat.session past ≡ [] → (s.seat.session == number) ≡ true) → IsQuiet now used
       ends_quiet alone = record {
@@ -348,10 +227,10 @@ module _ (places : List Listening) (place address : ℕ) (at : Listening) (is : 
           | inr last ↦ over_now end e (subst (λ (u : TurnOf). ends_in u.seat.session now ≡ []) (sym last) still)
         ];
         counts =
-            subst (λ (u : RateMoments). CountsAs at.asset now (left_to place address now) u) (sym used_is)
-            (subst (λ (u : RateMoments). CountsAs at.asset now u (used_at used_before js))
+            subst (λ (u : RateMoments). CountsAs at.site now (left_to place address now) u) (sym used_is)
+            (subst (λ (u : RateMoments). CountsAs at.site now u (used_at at.site used_before js))
             (sym (left_new place address past t (ap (λ (b : Bool). b && is_some t.end) c ∙ ap is_some e) ∙ left_is))
-            (counts_used at.asset now before used_before js counts));
+            (counts_used at.site now before used_before js counts));
       }
 
     -- ---- no session begins
@@ -401,7 +280,7 @@ module _ (places : List Listening) (place address : ℕ) (at : Listening) (is : 
     unbegun_left used c q e (Some why) end =
         let none : begins_in number now ≡ [] =
         its_own (λ (u : TurnOf). option_to_list u.begun) number past t (own_number number) ∙ ap (λ bs. bs ++ option_to_list t.begun) (fresh used c q) ∙ ap option_to_list e in
-        let left = subst (λ (begins : List RateMoments). Leaves at.asset (left_to t.seat.place t.seat.client.address past) begins (answers_in number now) t.left) none (begun.leaves why end at (listens c)) in
+        let left = subst (λ (begins : List RateMoments). Leaves at.site (left_to t.seat.place t.seat.client.address past) begins (answers_in number now) t.left) none (begun.leaves why end at (listens c)) in
         left_new place address past t (ap (λ (b : Bool). b && is_some t.end) c ∙ ap is_some end) ∙ left ∙ found_is c
 
     quiet_unbegun : (used : RateMoments) → is_client place address t.seat ≡ true → IsQuiet past used → t.begun ≡ None → IsQuiet now used
@@ -417,16 +296,16 @@ module _ (places : List Listening) (place address : ℕ) (at : Listening) (is : 
       turns_all : turns_to number all ≡ now
       turns_all = ap (turns_to number) whole ∙ up_to number past t ts (fresh used c q) (ap (λ (x : Bool). x && is_some t.begun) (own_number number) ∙ ap is_some e)
 
-      counts_begun : CountsAs at.asset now b used
+      counts_begun : CountsAs at.site now b used
       counts_begun =
-          begins_as at.asset (left_to place address past) used b past t
-          (subst (λ (left : RateMoments). Begins at.asset left now b) (found_is c) (begun.begins b e at (listens c))) q.counts
+          begins_as at.site (left_to place address past) used b past t
+          (subst (λ (left : RateMoments). Begins at.site left now b) (found_is c) (begun.begins b e at (listens c))) q.counts
 
       alone_of : (s : TurnOf) → Among s past → Mine s → ends_in s.seat.session past ≡ [] → (s.seat.session == number) ≡ true
       alone_of s m own still = absurd (q.none s m own still)
 
       -- behind the turn it runs, or has ended
-      state_behind : (js : List Judged) → AreItemsOf at.asset b (answers_in number all) js → (o : Option SessionEnd) → t.end ≡ o → State all now (used_at used js)
+      state_behind : (js : List Judged) → AreItemsOf at.site b (answers_in number all) js → (o : Option SessionEnd) → t.end ≡ o → State all now (used_at at.site used js)
       state_behind js items None end =
           inr (record {
             session = number;
@@ -447,7 +326,7 @@ module _ (places : List Listening) (place address : ℕ) (at : Listening) (is : 
             used_is = refl;
             counts = counts_begun;
           })
-      state_behind js items (Some why) end = inl (ends_quiet (used_at used js) b used js items refl counts_begun c why end [] first_begun alone_of)
+      state_behind js items (Some why) end = inl (ends_quiet (used_at at.site used js) b used js items refl counts_begun c why end [] first_begun alone_of)
 
       begun_step : Steps all past t used
       begun_step =
@@ -455,9 +334,9 @@ module _ (places : List Listening) (place address : ℕ) (at : Listening) (is : 
             began_one past t
                 (ap (λ (x : Bool). x && begins_at past t) c ∙ ap (λ (o : Option RateMoments). is_some o && is_empty (begins_in number past)) e ∙ ap is_empty (fresh used c q)),
             λ js own.
-                let items : AreItemsOf at.asset b (answers_in number all) js = subst (λ (before : RateMoments). AreItemsOf at.asset before (answers_in number all) js) before_all own.items in
+                let items : AreItemsOf at.site b (answers_in number all) js = subst (λ (before : RateMoments). AreItemsOf at.site before (answers_in number all) js) before_all own.items in
                 let after = subst (λ (us : List TurnOf). AllByRecursion (λ (j : Judged). AllByRecursion (λ (u : TurnOf). u.moment ≤ j.moment) us) js) turns_all own.forward in (
-                  keeps_as at.asset now b used js counts_begun after (hold at.asset (caller_at (client_of (answers_in number all)).address b) (history_of (answers_in number all)) js items),
+                  keeps_as at.site now b used js counts_begun after (hold at.site (caller_at (client_of (answers_in number all)).address b) (history_of (answers_in number all)) js items),
                   state_behind js items t.end refl,
                 ),
           )
@@ -479,8 +358,8 @@ module _ (places : List Listening) (place address : ℕ) (at : Listening) (is : 
       own_quiet : (number == r.session) ≡ true → (why : SessionEnd) → t.end ≡ Some why → IsQuiet now used
       own_quiet own why end =
           let same : r.session ≡ number = sym (same_number number r.session own) in
-          ends_quiet used r.before r.used_before r.js (subst (λ n. AreItemsOf at.asset r.before (answers_in n all) r.js) same r.items) r.used_is
-          (counts_later at.asset past (t ∷ []) r.before r.used_before r.counts) c why end (r.begun.0 ++ begins_in number (t ∷ []))
+          ends_quiet used r.before r.used_before r.js (subst (λ n. AreItemsOf at.site r.before (answers_in n all) r.js) same r.items) r.used_is
+          (counts_later at.site past (t ∷ []) r.before r.used_before r.counts) c why end (r.begun.0 ++ begins_in number (t ∷ []))
           (part_behind (λ (u : TurnOf). option_to_list u.begun) number past (t ∷ []) ∙ ap (λ bs. bs ++ begins_in number (t ∷ [])) (ap (λ n. begins_in n past) (sym same) ∙ r.begun.1))
           (λ s m mine still. ap (λ n. s.seat.session == n) (sym same) ∙ r.alone s m mine still)
 
@@ -513,20 +392,20 @@ module _ (places : List Listening) (place address : ℕ) (at : Listening) (is : 
   -- ---- turn by turn
 
   keeps_behind : (all past : List TurnOf) (t : TurnOf) (ts : List TurnOf) (used : RateMoments) (sessions : List (List Judged)) →
-      ((now : RateMoments) (more : List (List Judged)) → State all (past ++ t ∷ []) now → AreSessionsOf at.asset all (sessions_of place address (past ++ t ∷ []) ts) more →
-      KeepsRates at.asset now (flat_map (λ js. js) more)) →
-      Steps all past t used → AreSessionsOf at.asset all (began_at place address past t ++ sessions_of place address (past ++ t ∷ []) ts) sessions → KeepsRates at.asset used (flat_map (λ js. js) sessions)
+      ((now : RateMoments) (more : List (List Judged)) → State all (past ++ t ∷ []) now → AreSessionsOf at.site all (sessions_of place address (past ++ t ∷ []) ts) more →
+      KeepsEach at.site now (flat_map (λ js. js) more)) →
+      Steps all past t used → AreSessionsOf at.site all (began_at place address past t ++ sessions_of place address (past ++ t ∷ []) ts) sessions → KeepsEach at.site used (flat_map (λ js. js) sessions)
   keeps_behind all past t ts used sessions later (inl (none, state)) own =
-      later used sessions state (subst (λ ks. AreSessionsOf at.asset all (ks ++ sessions_of place address (past ++ t ∷ []) ts) sessions) none own)
-  keeps_behind all past t ts used [] later (inr (one, goes)) own = absurd (subst (λ ks. AreSessionsOf at.asset all (ks ++ sessions_of place address (past ++ t ∷ []) ts) []) one own)
+      later used sessions state (subst (λ ks. AreSessionsOf at.site all (ks ++ sessions_of place address (past ++ t ∷ []) ts) sessions) none own)
+  keeps_behind all past t ts used [] later (inr (one, goes)) own = absurd (subst (λ ks. AreSessionsOf at.site all (ks ++ sessions_of place address (past ++ t ∷ []) ts) []) one own)
   keeps_behind all past t ts used (js ∷ more) later (inr (one, goes)) own =
-      let both = subst (λ ks. AreSessionsOf at.asset all (ks ++ sessions_of place address (past ++ t ∷ []) ts) (js ∷ more)) one own in
+      let both = subst (λ ks. AreSessionsOf at.site all (ks ++ sessions_of place address (past ++ t ∷ []) ts) (js ∷ more)) one own in
       let here = goes js both.0 in
-      keeps_both at.asset used js (flat_map (λ js. js) more) here.0 (later (used_at used js) more here.1 both.1)
+      keeps_both at.site used js (flat_map (λ js. js) more) here.0 (later (used_at at.site used js) more here.1 both.1)
 
   keeps_all : (all past later : List TurnOf) (used : RateMoments) (sessions : List (List Judged)) → all ≡ past ++ later → AreBegun places past later → AreStood places past later →
-      State all past used → AreSessionsOf at.asset all (sessions_of place address past later) sessions → KeepsRates at.asset used (flat_map (λ js. js) sessions)
-  keeps_all all past [] used [] whole begun stood state own = keeps_none at.asset used
+      State all past used → AreSessionsOf at.site all (sessions_of place address past later) sessions → KeepsEach at.site used (flat_map (λ js. js) sessions)
+  keeps_all all past [] used [] whole begun stood state own = keeps_none at.site used
   keeps_all all past [] used (js ∷ more) whole begun stood state own = absurd own
   keeps_all all past (t ∷ ts) used sessions whole (begun, behind) (stood, rest) state own =
       keeps_behind all past t ts used sessions
@@ -534,13 +413,16 @@ module _ (places : List Listening) (place address : ℕ) (at : Listening) (is : 
       (step all past t ts whole begun stood rest used (is_client place address t.seat) refl state) own
 
   begins_quiet : IsQuiet [] none_before
-  begins_quiet = record { none = λ s m own still. absurd m; counts = λ place number rate at moment after. refl }
+  begins_quiet = record { none = λ s m own still. absurd m; counts = counts_none at.site }
 
 -- the sessions of a client in turns, one after the other
 pub sessions_last : (places : List Listening) (place address : ℕ) (at : Listening) → slice_get places place ≡ Some at → RatesHold → HasOneJudgement → (turns : List TurnOf) →
-    AreBegun places [] turns → AreStood places [] turns → (sessions : List (List Judged)) → AreSessionsOf at.asset turns (sessions_of place address [] turns) sessions →
-    KeepsRates at.asset none_before (flat_map (λ js. js) sessions)
-sessions_last places place address at is hold only turns begun stood sessions own = elim (cases_Bool (has_rates at.asset)) [
-  | inl rates ↦ keeps_all places place address at is rates hold only turns [] turns none_before sessions refl begun stood (inl (begins_quiet places place address at is rates hold only)) own
-  | inr none ↦ keeps_unrated at.asset none_before (flat_map (λ js. js) sessions) none
-]
+    AreBegun places [] turns → AreStood places [] turns → (sessions : List (List Judged)) → AreSessionsOf at.site turns (sessions_of place address [] turns) sessions →
+    KeepsRates at.site none_before (flat_map (λ js. js) sessions)
+sessions_last places place address at is hold only turns begun stood sessions own =
+    keeps_all_places at.site none_before (flat_map (λ js. js) sessions)
+    (elim (cases_Bool (has_rates at.site)) [
+      | inl rates ↦ keeps_all places place address at is rates hold only turns [] turns none_before sessions refl begun stood (inl (begins_quiet places place address at is rates hold only)) own
+      | inr none ↦ keeps_unrated at.site none_before (flat_map (λ js. js) sessions) none
+    ])
+    (sessions_unused at.site turns (sessions_of place address [] turns) sessions own)

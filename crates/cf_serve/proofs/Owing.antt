@@ -10,7 +10,7 @@ use Rattle.cf_lane.specs.Judged.{is_admitted, is_refused}
 use Rattle.cf_lane.specs.declared.fate.Fate.{Fate}
 use Rattle.cf_outside.specs.Pair.{Entry, Moment, met_at}
 use Rattle.cf_relay.proofs.Starting.{empty_judged}
-use Rattle.cf_lane.specs.Rates.{used_at}
+use Rattle.cf_lane.specs.SiteRates.{used_at}
 use Rattle.cf_relay.specs.Answers.{client_of, history_of}
 use Rattle.cf_relay.specs.Turn.{AreItemsOf}
 use Rattle.cf_view.specs.declared.Endpoint.{Endpoint}
@@ -61,8 +61,8 @@ abbrev IsCountedAs : Listening → (before : RateMoments) → List Entry → Opt
 IsCountedAs at before es linked = HasAdmitted at before es (admitted_at linked) × HasRefused at before es (refused_at linked)
 
 -- of a session that took nothing there are no items
-pub no_items : (at : Listening) (before : RateMoments) (es : List Entry) → history_of es ≡ [] → AreItemsOf at.asset before es []
-no_items at before es none = subst (λ h. AreJudged at.asset (caller_at (client_of es).address before) h []) (sym none) (empty_judged at.asset (caller_at (client_of es).address before))
+pub no_items : (at : Listening) (before : RateMoments) (es : List Entry) → history_of es ≡ [] → AreItemsOf at.site before es []
+no_items at before es none = subst (λ h. AreJudged at.site (caller_at (client_of es).address before) h []) (sym none) (empty_judged at.site (caller_at (client_of es).address before))
 
 no_commands : (at : Listening) (before : RateMoments) (es : List Entry) → history_of es ≡ [] → IsCountedAs at before es None
 no_commands at before es none = (([], (no_items at before es none, refl)), ([], (no_items at before es none, refl)))
@@ -71,9 +71,9 @@ no_commands at before es none = (([], (no_items at before es none, refl)), ([], 
 pub stands_knows : (at : Listening) (before : RateMoments) (most : ℕ) (es : List Entry) (own : List (List ℕ)) (o : Option LinkedValue) → StandsAs at before most es own o → KnowsOf at before es o
 stands_knows at before most es own None h = ap history_of h.0
 stands_knows at before most es own (Some v) h =
-    let all = met_at at.port at.asset.endpoint v.met ∷ Moment h.moment ∷ h.answers in
+    let all = met_at at.port at.site.first.endpoint v.met ∷ Moment h.moment ∷ h.answers in
     let f = h.stands.follows in
-    let items = subst (λ (c : Endpoint). AreJudged at.asset (caller_at c.address before) (history_of all) f.judged) h.stands.client f.are_judged in
+    let items = subst (λ (c : Endpoint). AreJudged at.site (caller_at c.address before) (history_of all) f.judged) h.stands.client f.are_judged in
     subst (λ (xs : List Entry). KnowsOf at before xs (Some v)) (sym h.split) (f.judged, (items, (record { admitted = f.knows.admitted; refused = f.knows.refused }, f.knows.rules)))
 
 knows_counted : (at : Listening) (before : RateMoments) (es : List Entry) (o : Option LinkedValue) → KnowsOf at before es o → IsCountedAs at before es o
@@ -89,7 +89,7 @@ leaves_knows at before most client es own o (Some e) leaves = leaves.1
 -- a session leaves so
 pub leaves_left : (at : Listening) (before found : RateMoments) (es : List Entry) (o : Option LinkedValue) → KnowsOf at before es o → (left : RateMoments) × LeavesOf at before found es o left
 leaves_left at before found es None h = (found, refl)
-leaves_left at before found es (Some v) (js, (items, (counts, rules))) = (used_at before js, (js, (items, (rules, refl))))
+leaves_left at before found es (Some v) (js, (items, (counts, rules))) = (used_at at.site before js, (js, (items, (rules, refl))))
 
 -- a turn admitted and refused the differences
 module _ (at : Listening) (before : RateMoments) (most : ℕ) (client : Endpoint) (es answers : List Entry) (own own' : List (List ℕ)) (old new : Option LinkedValue) (e : Option SessionEnd)

@@ -12,5 +12,5 @@ pub stands_session : (at : Listening) (before : RateMoments) (most : ℕ) (es : 
     StandsSo at before most es own
 stands_session at before most es own None h may = inl h
 stands_session at before most es own (Some v) h may =
-    let t = turned_stands both.Separate at.asset before at.port most v.met h.moment (Some []) h.answers v.now (Some own) (record { count = h.count; does = h.does; stands = h.stands; few = may.0.few }) in
+    let t = turned_stands both.Separate at.site before at.port most v.met h.moment (Some []) h.answers v.now (Some own) (record { count = h.count; does = h.does; stands = h.stands; few = may.0.few }) in
     subst (λ (xs : List Entry). StandsSo at before most xs own) (sym h.split) (inr (h.count, (t.0, (t.1.0, same_Some _ _ t.1.1))))

@@ -228,10 +228,10 @@ later_test a b h = grind (arith, nat_tests)
 client_back : (a b c d : ℕ) → (a == b) && (c == d) ≡ true → (b == a) && (d == c) ≡ true
 client_back a b c d h = grind (arith, nat_tests)
 
-module _ (places : List Listening) (all : List Seat) (at : Listening) (rates : has_rates at.asset ≡ true) where
+module _ (places : List Listening) (all : List Seat) (at : Listening) (rates : has_rates at.site ≡ true) where
   must : (x y : Seat) → slice_get places x.place ≡ Some at → Among y all → is_same_client y x ≡ true → x.session < y.session → must_end places all x ≡ true
   must x y listens m client later =
-      ap (λ (o : Option Listening). elim o [ None ↦ false | Some l ↦ has_rates l.asset && has_later all x ]) listens
+      ap (λ (o : Option Listening). elim o [ None ↦ false | Some l ↦ has_rates l.site && has_later all x ]) listens
       ∙ ap (λ b. b && has_later all x) rates
       ∙ any_among (λ (s : Seat). is_same_client s x && nat_lt x.session s.session) y all m
       (ap (λ b. b && nat_lt x.session y.session) client ∙ later_test x.session y.session later)

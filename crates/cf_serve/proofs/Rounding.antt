@@ -77,7 +77,7 @@ later_by next ps front s behind is b = ap (λ (ss : List Seat). has_later ss s) 
 
 -- so whether it must end is the same
 pub must_same : (places : List Listening) (s : Seat) (one two : List Seat) → has_later one s ≡ has_later two s → must_end places one s ≡ must_end places two s
-must_same places s one two same = ap (λ (later : Bool). elim (slice_get places s.place) as (λ x. Bool) [ None ↦ false | Some at ↦ has_rates at.asset && later ]) same
+must_same places s one two same = ap (λ (later : Bool). elim (slice_get places s.place) as (λ x. Bool) [ None ↦ false | Some at ↦ has_rates at.site && later ]) same
 
 pub turns_join : (m : ℕ) (ts us : List TurnOf) → AreTurns m ts → AreTurns m us → AreTurns m (ts ++ us)
 turns_join m [] us h k = k

@@ -15,9 +15,9 @@ use Rattle.cf_serve.specs.declared.minute.Tally.{Tally}
 use Rattle.cf_serve.specs.declared.table.Place.{Place}
 
 -- a line by numbers that are those of the place
-pub said_as : (p : Place) (n n' : ℕ) (t t' : Tally) (moment : ℕ) → n ≡ n' → t ≡ t' → line_about p.asset.now p.at moment (Stands n t.admitted t.refused) ≡ stands_line p n' t' moment
+pub said_as : (p : Place) (n n' : ℕ) (t t' : Tally) (moment : ℕ) → n ≡ n' → t ≡ t' → line_about p.site.first p.at moment (Stands n t.admitted t.refused) ≡ stands_line p n' t' moment
 said_as p n n' t t' moment e f =
-    ap (λ k. line_about p.asset.now p.at moment (Stands k t.admitted t.refused)) e ∙ ap (λ (x : Tally). line_about p.asset.now p.at moment (Stands n' x.admitted x.refused)) f
+    ap (λ k. line_about p.site.first p.at moment (Stands k t.admitted t.refused)) e ∙ ap (λ (x : Tally). line_about p.site.first p.at moment (Stands n' x.admitted x.refused)) f
 
 -- a place by its number, and the places behind it
 rest_at : (done rest : List Place) (p : Place) → slice_get (done ++ rest) (length done) ≡ Some p → (more : List Place) × (rest ≡ p ∷ more)

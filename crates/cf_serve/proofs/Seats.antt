@@ -9,7 +9,7 @@ use Rattle.cf_lane.specs.Log.{with_lines}
 use Rattle.cf_lane.specs.Ring.{RingValue}
 use Rattle.cf_links.specs.Links.{Left, LinksEntry, Of, Ready, SessionTold}
 use Rattle.cf_outside.specs.Pair.{Entry}
-use Rattle.cf_policy.specs.declared.Asset.{Asset}
+use Rattle.cf_policy.specs.Site.{SiteValue}
 use Rattle.cf_relay.proofs.Lined.{lines_none}
 use Rattle.cf_relay.specs.Answers.{client_of, history_of}
 use Rattle.cf_relay.specs.Stands.{IsCounted}
@@ -40,7 +40,7 @@ told_all k told ready turned after answers left p q r = simp (r, q, p, more_twic
 
 -- the items of a session that stands, and its numbers
 stands_items : (at : Listening) (before : RateMoments) (most : ℕ) (es : List Entry) (own : List (List ℕ)) (o : Option LinkedValue) → StandsAs at before most es own o →
-    (js : List Judged) × (AreItemsOf at.asset before es js × IsCounted js (admitted_at o) (refused_at o))
+    (js : List Judged) × (AreItemsOf at.site before es js × IsCounted js (admitted_at o) (refused_at o))
 stands_items at before most es own None h = ([], (no_items at before es (ap history_of h.0), record { admitted = refl; refused = refl }))
 stands_items at before most es own (Some v) h =
     let k = stands_knows at before most es own (Some v) h in
@@ -51,14 +51,14 @@ takes_none at before most es own None h = ap history_of h.0
 takes_none at before most es own (Some v) h = tt
 
 -- the client that a relay met as it began
-met_as : (at : Listening) (before : RateMoments) (most : ℕ) (seat : Seat) (es : List Entry) (own : List (List ℕ)) (answers : List Entry) (own' : List (List ℕ)) (asset : Asset) (store : List KeptValue)
+met_as : (at : Listening) (before : RateMoments) (most : ℕ) (seat : Seat) (es : List Entry) (own : List (List ℕ)) (answers : List Entry) (own' : List (List ℕ)) (site : SiteValue) (store : List KeptValue)
     (old new : Option LinkedValue) (e : Option SessionEnd) (b : RateMoments) → StandsAs at before most es own old → TurnLeaves at before most seat.client (es ++ answers) own' new e →
-    (place : ℕ) → BeginsBy asset (seat_at seat.session place seat.client) store (not (is_some e)) old new → begun_by before old new ≡ Some b → (client_of answers).address ≡ seat.client.address
-met_as at before most seat es own answers own' asset store None None e b stands leaves place by some = cc
-met_as at before most seat es own answers own' asset store None (Some v) None b stands leaves place by some =
+    (place : ℕ) → BeginsBy site (seat_at seat.session place seat.client) store (not (is_some e)) old new → begun_by before old new ≡ Some b → (client_of answers).address ≡ seat.client.address
+met_as at before most seat es own answers own' site store None None e b stands leaves place by some = cc
+met_as at before most seat es own answers own' site store None (Some v) None b stands leaves place by some =
     ap (λ (xs : List Entry). (client_of (xs ++ answers)).address) (sym stands.0) ∙ ap (λ (xs : List Entry). (client_of xs).address) leaves.split ∙ by.1.0
-met_as at before most seat es own answers own' asset store None (Some v) (Some e) b stands leaves place by some = let stays : false ≡ true = by.0 in cc
-met_as at before most seat es own answers own' asset store (Some u) new e b stands leaves place by some = cc
+met_as at before most seat es own answers own' site store None (Some v) (Some e) b stands leaves place by some = let stays : false ≡ true = by.0 in cc
+met_as at before most seat es own answers own' site store (Some u) new e b stands leaves place by some = cc
 
 module _ (at : Listening) (before found : RateMoments) (most moment : ℕ) (es : List Entry) (own : List (List ℕ)) (told : Option (List LinksEntry)) (log : Option (List (List ℕ))) where
   none_begun : (o : Option LinkedValue) → begun_by before o o ≡ None
@@ -92,7 +92,7 @@ module _ (at : Listening) (before found : RateMoments) (most moment : ℕ) (es :
   -- one whose client came again
   module _ (p : Phase) (after : Option (List LinksEntry)) (log' : Option (List (List ℕ))) (stands : StandsAs at before most es own p.linked) (may : MayTurn at most p.linked) where
     abbrev its_line : List ℕ
-    its_line = again_line at.asset p.seat.client moment p.linked
+    its_line = again_line at.site p.seat.client moment p.linked
 
     ends_again : EndsSo at before most p.seat.client es (own ++ its_line ∷ []) end.Again
     ends_again =
@@ -165,9 +165,9 @@ module _ (at : Listening) (before found : RateMoments) (most moment : ℕ) (es :
 
   module _ (seat : Seat) (old new : Option LinkedValue) (ready turned : Option (List LinksEntry)) (log' : Option (List (List ℕ)))
       (is_ready : ready ≡ more (Ready seat.session ∷ []) told) (stands : StandsAs at before most es own old) (no_rest : must_rest (debt_at old) moment ≡ false) where
-    module _ (left : Option (List RingValue)) (begins : BeginsWith left before old new) (asset : Asset) (place : ℕ) (store : List KeptValue) where
+    module _ (left : Option (List (List RingValue))) (begins : BeginsWith left before old new) (site : SiteValue) (place : ℕ) (store : List KeptValue) where
       -- one that had its turn
-      worked : (q : Phase) (after : Option (List LinksEntry)) (e : Option SessionEnd) (stays : Bool) → BeginsBy asset (seat_at seat.session place seat.client) store (not (is_some e)) old new → q ≡ record { seat = seat; linked = new } → after ≡ more (left_by seat.session e) turned →
+      worked : (q : Phase) (after : Option (List LinksEntry)) (e : Option SessionEnd) (stays : Bool) → BeginsBy site (seat_at seat.session place seat.client) store (not (is_some e)) old new → q ≡ record { seat = seat; linked = new } → after ≡ more (left_by seat.session e) turned →
           is_some e ≡ not stays → (e ≡ Some end.Again → ⊥) → (e ≡ None → Owes moment old new) →
           TurnDoes at left most seat.client (told_as seat.session ready) (told_as seat.session turned) log log' old new e →
           SeatDoes at false before found most moment es own told after log log' (record { seat = seat; linked = old }) q stays
@@ -206,21 +206,21 @@ module _ (at : Listening) (before found : RateMoments) (most moment : ℕ) (es :
             ended = ends;
             leaves = rw is x.1.1;
             begun = ap (λ (p : Phase). begun_by before old p.linked) (sym is);
-            met = λ b some. met_as at before most seat es own does.answers (own ++ x.0) asset store old new e b stands x.1.1 place by some;
+            met = λ b some. met_as at before most seat es own does.answers (own ++ x.0) site store old new e b stands x.1.1 place by some;
             left = inr (rw is l.1);
           }
 
-      pub stays_on : (q : Phase) (e : Option SessionEnd) → BeginsBy asset (seat_at seat.session place seat.client) store (not (is_some e)) old new → q ≡ record { seat = seat; linked = new } → e ≡ None → (e ≡ None → Owes moment old new) →
+      pub stays_on : (q : Phase) (e : Option SessionEnd) → BeginsBy site (seat_at seat.session place seat.client) store (not (is_some e)) old new → q ≡ record { seat = seat; linked = new } → e ≡ None → (e ≡ None → Owes moment old new) →
           TurnDoes at left most seat.client (told_as seat.session ready) (told_as seat.session turned) log log' old new e →
           SeatDoes at false before found most moment es own told turned log log' (record { seat = seat; linked = old }) q true
-      stays_on q e by is none owes does = worked q turned None true (subst (λ (o : Option SessionEnd). BeginsBy asset (seat_at seat.session place seat.client) store (not (is_some o)) old new) none by) is (more_none turned) refl (λ same. cc) (λ same. owes none)
+      stays_on q e by is none owes does = worked q turned None true (subst (λ (o : Option SessionEnd). BeginsBy site (seat_at seat.session place seat.client) store (not (is_some o)) old new) none by) is (more_none turned) refl (λ same. cc) (λ same. owes none)
           (subst (TurnDoes at left most seat.client (told_as seat.session ready) (told_as seat.session turned) log log' old new) none does)
 
-      pub leaves_now : (q : Phase) (after : Option (List LinksEntry)) (e : Option SessionEnd) (last : SessionEnd) → BeginsBy asset (seat_at seat.session place seat.client) store (not (is_some e)) old new → q ≡ record { seat = seat; linked = new } → e ≡ Some last →
+      pub leaves_now : (q : Phase) (after : Option (List LinksEntry)) (e : Option SessionEnd) (last : SessionEnd) → BeginsBy site (seat_at seat.session place seat.client) store (not (is_some e)) old new → q ≡ record { seat = seat; linked = new } → e ≡ Some last →
           after ≡ more (Left seat.session ∷ []) turned → (e ≡ Some end.Again → ⊥) →
           TurnDoes at left most seat.client (told_as seat.session ready) (told_as seat.session turned) log log' old new e →
           SeatDoes at false before found most moment es own told after log log' (record { seat = seat; linked = old }) q false
-      leaves_now q after e last by is some left_is not_again does = worked q after (Some last) false (subst (λ (o : Option SessionEnd). BeginsBy asset (seat_at seat.session place seat.client) store (not (is_some o)) old new) some by) is left_is refl (λ same. not_again (some ∙ same)) (λ none. cc)
+      leaves_now q after e last by is some left_is not_again does = worked q after (Some last) false (subst (λ (o : Option SessionEnd). BeginsBy site (seat_at seat.session place seat.client) store (not (is_some o)) old new) some by) is left_is refl (λ same. not_again (some ∙ same)) (λ none. cc)
           (subst (TurnDoes at left most seat.client (told_as seat.session ready) (told_as seat.session turned) log log' old new) some does)
 
     -- one whose line failed

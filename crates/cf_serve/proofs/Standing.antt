@@ -88,7 +88,7 @@ not_then k past t own e = no_back (ends_in k past) (option_to_list t.end) (sym (
 pub record IsStood (places : List Listening) (past : List TurnOf) (t : TurnOf) : Type 0 where
   pub still : ends_in t.seat.session past ≡ []
   pub same : (s : TurnOf) → Among s past → (s.seat.session == t.seat.session) ≡ true → s.seat ≡ t.seat
-  pub alone : (at : Listening) → slice_get places t.seat.place ≡ Some at → has_rates at.asset ≡ true → is_some t.begun ≡ true
+  pub alone : (at : Listening) → slice_get places t.seat.place ≡ Some at → has_rates at.site ≡ true → is_some t.begun ≡ true
       → (s : TurnOf) → Among s past → is_same_client s.seat t.seat ≡ true → (s.seat.session == t.seat.session) ≡ false
       → ends_in s.seat.session past ≡ [] → ⊥
 

@@ -50,12 +50,12 @@ stays_by t o is = ap (λ (o : Option SessionEnd). elim o as (λ x. List Seat) [ 
 
 -- what a turn says of how its session begins and leaves, at a seat
 pub record IsBegunAt (places : List Listening) (past : List TurnOf) (t : TurnOf) (z : Seat) : Type 0 where
-  pub begins : (b : RateMoments) → t.begun ≡ Some b → (at : Listening) → slice_get places z.place ≡ Some at → Begins at.asset (left_to z.place z.client.address past) (past ++ t ∷ []) b
+  pub begins : (b : RateMoments) → t.begun ≡ Some b → (at : Listening) → slice_get places z.place ≡ Some at → Begins at.site (left_to z.place z.client.address past) (past ++ t ∷ []) b
   pub first : (b : RateMoments) → t.begun ≡ Some b → answers_in z.session past ≡ []
   pub met : (b : RateMoments) → t.begun ≡ Some b → (client_of t.answers).address ≡ z.client.address
   pub takes : (at : Listening) → slice_get places z.place ≡ Some at → begins_in z.session (past ++ t ∷ []) ≡ [] → history_of (answers_in z.session (past ++ t ∷ [])) ≡ []
   pub leaves : (e : SessionEnd) → t.end ≡ Some e → (at : Listening) → slice_get places z.place ≡ Some at →
-      Leaves at.asset (left_to z.place z.client.address past) (begins_in z.session (past ++ t ∷ [])) (answers_in z.session (past ++ t ∷ [])) t.left
+      Leaves at.site (left_to z.place z.client.address past) (begins_in z.session (past ++ t ∷ [])) (answers_in z.session (past ++ t ∷ [])) t.left
 
 begun_there : (places : List Listening) (past : List TurnOf) (t : TurnOf) → IsBegunAt places past t t.seat → IsBegun places past t
 begun_there places past t h = record { begins = h.begins; first = h.first; met = h.met; takes = h.takes; leaves = h.leaves }
@@ -81,7 +81,7 @@ module _ {xs : List Served} {index : ℕ} {x : Served} (s : PhasesAt xs index x)
 
   -- what is kept for the others stays so
   abbrev pub Lasts : List KeptValue → Type 0
-  Lasts store' = (q : Seat) (o : Option LinkedValue) → (x.number == q.session) ≡ false → (at : Listening) → slice_get places q.place ≡ Some at → HasLent at.asset store q o → HasLent at.asset store' q o
+  Lasts store' = (q : Seat) (o : Option LinkedValue) → (x.number == q.session) ≡ false → (at : Listening) → slice_get places q.place ≡ Some at → HasLent at.site store q o → HasLent at.site store' q o
 
   -- it is gone, and the links have it no longer
   pub table_ends : (y : Served) (zs : List Served) (old new : LinksPlace) (stays_on : Bool) → zs ≡ remove (set xs index y) index → old.serves ≡ serves → stays_on ≡ false →
@@ -105,7 +105,7 @@ module _ {xs : List Served} {index : ℕ} {x : Served} (s : PhasesAt xs index x)
 
     pub table_stays : (old new : LinksPlace) (stays_on : Bool) → old.serves ≡ serves → stays_on ≡ true → KeepsPlace x.number old new stays_on →
         ((at : Listening) → slice_get places x.place ≡ Some at → MayTurn at most (phase_of y).linked) → (store' : List KeptValue) → Fits places store' → Lasts store' →
-        ((at : Listening) → slice_get places x.place ≡ Some at → HasLent at.asset store' (phase_of x).seat (phase_of y).linked) → IsTable places most store' new.serves next (map phase_of (set xs index y))
+        ((at : Listening) → slice_get places x.place ≡ Some at → HasLent at.site store' (phase_of x).seat (phase_of y).linked) → IsTable places most store' new.serves next (map phase_of (set xs index y))
     table_stays old new false had on keeps may store' fits lasts lent = cc
     table_stays old new true had on keeps may store' fits lasts lent =
         subst (λ f. IsTable places most store' f next (map phase_of (set xs index y))) (sym (ap (λ (p : LinksPlace). p.serves) keeps ∙ had))
@@ -131,15 +131,15 @@ module _ {xs : List Served} {index : ℕ} {x : Served} (s : PhasesAt xs index x)
 
   -- whether its client came again
   again_by : (has_new : Bool) (at : Listening) → slice_get places x.place ≡ Some at → (has_new ≡ false → must_end places (seats_of (map phase_of xs)) (phase_of x).seat ≡ false) →
-      (has_new && (has_rates at.asset && has_later (seats_of (map phase_of xs)) (phase_of x).seat)) ≡ must_end places (seats_of (map phase_of xs)) (phase_of x).seat
-  again_by true at is calm = ap (λ (o : Option Listening). elim o as (λ y. Bool) [ None ↦ false | Some a ↦ has_rates a.asset && has_later (seats_of (map phase_of xs)) (phase_of x).seat ]) (sym is)
+      (has_new && (has_rates at.site && has_later (seats_of (map phase_of xs)) (phase_of x).seat)) ≡ must_end places (seats_of (map phase_of xs)) (phase_of x).seat
+  again_by true at is calm = ap (λ (o : Option Listening). elim o as (λ y. Bool) [ None ↦ false | Some a ↦ has_rates a.site && has_later (seats_of (map phase_of xs)) (phase_of x).seat ]) (sym is)
   again_by false at is calm = sym (calm refl)
 
   its_seat : seats_of (map phase_of xs) ≡ seats_of s.before ++ (phase_of x).seat ∷ seats_of s.after
   its_seat = ap seats_of s.was ∙ map-append (λ (p : Phase). p.seat) s.before (phase_of x ∷ s.after)
 
   pub again_is : (has_new again : Bool) (at : Listening) → slice_get places x.place ≡ Some at → (has_new ≡ false → AreCalm places (seats_of (map phase_of xs))) →
-      again ≡ (has_new && (has_rates at.asset && has_later (seats_of (map phase_of xs)) (phase_of x).seat)) → again ≡ must_end places (seats_of (map phase_of xs)) (phase_of x).seat
+      again ≡ (has_new && (has_rates at.site && has_later (seats_of (map phase_of xs)) (phase_of x).seat)) → again ≡ must_end places (seats_of (map phase_of xs)) (phase_of x).seat
   again_is has_new again at is calm says = says ∙ again_by has_new at is (λ not.
       all_one (λ (z : Seat). must_end places (seats_of (map phase_of xs)) z ≡ false) (seats_of s.before) (phase_of x).seat (seats_of s.after)
       (subst (AllByRecursion (λ (z : Seat). must_end places (seats_of (map phase_of xs)) z ≡ false)) its_seat (calm not)))
@@ -193,14 +193,14 @@ module _ {xs : List Served} {index : ℕ} {x : Served} (s : PhasesAt xs index x)
     found = left_to x.place x.client.address past
 
     abbrev begins_by : RateMoments
-    begins_by = chosen (has_rates at.asset) (kept_at store x.place x.client.address) found
+    begins_by = chosen (has_rates at.site) (kept_at store x.place x.client.address) found
 
     abbrev pub now_before : Option LinkedValue → RateMoments
     now_before new = before_now (begins_in x.number past) begins_by (phase_of x).linked new
 
-    pub begins_with : (new : Option LinkedValue) → BeginsWith (rings_for at.asset store x.place x.client.address) (now_before new) (phase_of x).linked new
-    begins_with new = now_begins (begins_in x.number past) begins_by (rings_for at.asset store x.place x.client.address) (phase_of x).linked new own_begun
-        (chosen_left (has_rates at.asset) at.asset past found (kept_at store x.place x.client.address) (λ rated. keeps.stored x.place x.client.address at is_at rated))
+    pub begins_with : (new : Option LinkedValue) → BeginsWith (rings_for at.site store x.place x.client.address) (now_before new) (phase_of x).linked new
+    begins_with new = now_begins (begins_in x.number past) begins_by (rings_for at.site store x.place x.client.address) (phase_of x).linked new own_begun
+        (chosen_left (has_rates at.site) at.site past found (kept_at store x.place x.client.address) (λ rated. keeps.stored x.place x.client.address at is_at rated))
 
     pub stands_now : (new : Option LinkedValue) → StandsAs at (now_before new) most (answers_in x.number past) (lines_in x.number past) (phase_of x).linked
     stands_now new = now_stands (begins_in x.number past) begins_by at most (answers_in x.number past) (lines_in x.number past) (phase_of x).linked new stood
@@ -209,7 +209,7 @@ module _ {xs : List Served} {index : ℕ} {x : Served} (s : PhasesAt xs index x)
     with_seat seat = s.before ++ record { seat = seat; linked = (phase_of x).linked } ∷ s.after
 
     module _ {again : Bool} {moment : ℕ} {told told' : Option (List LinksEntry)} {log log' : Option (List (List ℕ))} (y : Served) (stays_on : Bool) {store' : List KeptValue}
-        (k : TurnKeeps at.asset (phase_of x).seat moment store store' stays_on (phase_of x).linked (phase_of y).linked)
+        (k : TurnKeeps at.site (phase_of x).seat moment store store' stays_on (phase_of x).linked (phase_of y).linked)
         (d : SeatDoes at again (now_before (phase_of y).linked) found most moment (answers_in x.number past) (lines_in x.number past) told told' log log' (phase_of x) (phase_of y) stays_on) where
       abbrev new : Option LinkedValue
       new = (phase_of y).linked
@@ -232,11 +232,11 @@ module _ {xs : List Served} {index : ℕ} {x : Served} (s : PhasesAt xs index x)
       answers_now = part_own (λ (u : TurnOf). u.answers) x.number past d.turn own
 
       begun_now : BegunAs new (begins_in x.number all)
-      begun_now = subst (BegunAs new) (sym begins_now) (begun_as (begins_in x.number past) begins_by at.asset (phase_of x).seat store stays_on (phase_of x).linked new own_begun k.begins)
+      begun_now = subst (BegunAs new) (sym begins_now) (begun_as (begins_in x.number past) begins_by at.site (phase_of x).seat store stays_on (phase_of x).linked new own_begun k.begins)
 
       once : (v : LinkedValue) → new ≡ Some v → begins_in x.number all ≡ now_before new ∷ []
       once v is = begins_now ∙ subst (λ (o : Option LinkedValue). now_of (begins_in x.number past) begins_by (phase_of x).linked o ≡ now_before o ∷ []) (sym is)
-          (begun_before (begins_in x.number past) begins_by at.asset (phase_of x).seat store stays_on (phase_of x).linked v own_begun)
+          (begun_before (begins_in x.number past) begins_by at.site (phase_of x).seat store stays_on (phase_of x).linked v own_begun)
 
       -- what a turn leaves of it, wherever it listens
       abbrev LeavesAt : Seat → Option SessionEnd → Type 0
@@ -267,17 +267,17 @@ module _ {xs : List Served} {index : ℕ} {x : Served} (s : PhasesAt xs index x)
       -- how it begins and what it leaves
       begun_at : IsBegunAt places past d.turn (phase_of x).seat
       begun_at = record {
-        begins = λ b is. at_place places x.place at is_at (λ (o : Listening). Begins o.asset found all b)
-            (subst (Begins at.asset found all) (sym (begun_some (begins_in x.number past) begins_by (phase_of x).linked new own_begun b (sym d.begun ∙ is)))
-            (chosen_begins (has_rates at.asset) at.asset past d.turn found (kept_at store x.place x.client.address) refl (λ rated. keeps.stored x.place x.client.address at is_at rated)
-            (begun_free at.asset (phase_of x).seat store stays_on (now_before new) b (phase_of x).linked new k.begins (sym d.begun ∙ is))));
+        begins = λ b is. at_place places x.place at is_at (λ (o : Listening). Begins o.site found all b)
+            (subst (Begins at.site found all) (sym (begun_some (begins_in x.number past) begins_by (phase_of x).linked new own_begun b (sym d.begun ∙ is)))
+            (chosen_begins (has_rates at.site) at.site past d.turn found (kept_at store x.place x.client.address) refl (λ rated. keeps.stored x.place x.client.address at is_at rated)
+            (begun_free at.site (phase_of x).seat store stays_on (now_before new) b (phase_of x).linked new k.begins (sym d.begun ∙ is))));
         first = λ b is. begun_first at (now_before new) (before_in x.number past) b most (answers_in x.number past) (lines_in x.number past) (phase_of x).linked new stood (sym d.begun ∙ is);
         met = d.met;
         takes = λ other there none. ap history_of answers_now
             ∙ nothing_taken at (now_before new) most (phase_of x).seat.client (answers_in x.number past ++ d.turn.answers) (lines_in x.number past ++ d.turn.lines) new d.turn.end d.leaves
-            (not_begun (begins_in x.number past) begins_by at.asset (phase_of x).seat store stays_on (phase_of x).linked new own_begun k.begins (sym begins_now ∙ none));
-        leaves = λ e is. at_place places x.place at is_at (λ (o : Listening). Leaves o.asset found (begins_in x.number all) (answers_in x.number all) d.turn.left)
-            (subst (λ (es : List Entry). Leaves at.asset found (begins_in x.number all) es d.turn.left) (sym answers_now)
+            (not_begun (begins_in x.number past) begins_by at.site (phase_of x).seat store stays_on (phase_of x).linked new own_begun k.begins (sym begins_now ∙ none));
+        leaves = λ e is. at_place places x.place at is_at (λ (o : Listening). Leaves o.site found (begins_in x.number all) (answers_in x.number all) d.turn.left)
+            (subst (λ (es : List Entry). Leaves at.site found (begins_in x.number all) es d.turn.left) (sym answers_now)
             (leaves_as at (now_before new) found (answers_in x.number past ++ d.turn.answers) new d.turn.left (begins_in x.number all) (ended_left d.turn.end e is d.left) begun_now once));
       }
 
@@ -327,7 +327,7 @@ module _ {xs : List Served} {index : ℕ} {x : Served} (s : PhasesAt xs index x)
             }
 
         pub step_ends : (zs : List Served) → zs ≡ remove (set xs index y) index → stays_on ≡ false → (store'' : List KeptValue) → KeepsOthers x.place x.client.address store' store'' →
-            IsGivenBack at.asset moment new (kept_at store' x.place x.client.address) (kept_at store'' x.place x.client.address) →
+            IsGivenBack at.site moment new (kept_at store' x.place x.client.address) (kept_at store'' x.place x.client.address) →
             StepDoes places most store'' next moment past index told told' log log' tallies tallies' (map phase_of xs) (map phase_of zs) stays_on
         step_ends zs gone off store'' kept back =
             let some : (e : SessionEnd) × (d.turn.end ≡ Some e) = some_of d.turn.end (d.ended ∙ ap not off) in
@@ -363,27 +363,27 @@ on_err (Err e) P p = p
 -- a session that ended was taken out, and gave back what it had
 module _ {xs : List Served} {index : ℕ} {x : Served} (s : PhasesAt xs index x) {places : List Listening} {most next : ℕ} {serves : ℕ → Bool} {store : List KeptValue}
     (table : IsTable places most store serves next (map phase_of xs)) {at : Listening} (is_at : slice_get places x.place ≡ Some at) {moment : ℕ} {stays_on : Bool} {store' : List KeptValue} (y : Served)
-    (k : TurnKeeps at.asset (phase_of x).seat moment store store' stays_on (phase_of x).linked (phase_of y).linked) where
+    (k : TurnKeeps at.site (phase_of x).seat moment store store' stays_on (phase_of x).linked (phase_of y).linked) where
   -- what it is lent
-  pub its_lent : HasLent at.asset store' (phase_of x).seat (phase_of y).linked
+  pub its_lent : HasLent at.site store' (phase_of x).seat (phase_of y).linked
   its_lent = k.lent ((may_go s table).lent at is_at)
 
-  pub its_lent_at : (other : Listening) → slice_get places x.place ≡ Some other → HasLent other.asset store' (phase_of x).seat (phase_of y).linked
-  its_lent_at = at_place places x.place at is_at (λ (o : Listening). HasLent o.asset store' (phase_of x).seat (phase_of y).linked) its_lent
+  pub its_lent_at : (other : Listening) → slice_get places x.place ≡ Some other → HasLent other.site store' (phase_of x).seat (phase_of y).linked
+  its_lent_at = at_place places x.place at is_at (λ (o : Listening). HasLent o.site store' (phase_of x).seat (phase_of y).linked) its_lent
 
   pub fits_now : Fits places store'
   fits_now = fits_on places x.number moment store store' k.lends table.fits
 
   pub lasts_now : Lasts s table store'
-  lasts_now q o other at' is' h = lent_on at'.asset x.number moment store store' k.lends q o h
+  lasts_now q o other at' is' h = lent_on at'.site x.number moment store store' k.lends q o h
 
   module _ (r : Served) (gone : r ≡ record x { linked = y.linked }) (store'' : List KeptValue) (others_r : KeepsOthers r.place r.client.address store' store'')
-      (back_r : IsGivenBack at.asset moment (phase_of r).linked (kept_at store' r.place r.client.address) (kept_at store'' r.place r.client.address)) where
+      (back_r : IsGivenBack at.site moment (phase_of r).linked (kept_at store' r.place r.client.address) (kept_at store'' r.place r.client.address)) where
     pub others_now : KeepsOthers x.place x.client.address store' store''
     others_now = subst (λ (z : Served). KeepsOthers z.place z.client.address store' store'') gone others_r
 
-    pub back_now : IsGivenBack at.asset moment (phase_of y).linked (kept_at store' x.place x.client.address) (kept_at store'' x.place x.client.address)
-    back_now = subst (λ (z : Served). IsGivenBack at.asset moment (phase_of z).linked (kept_at store' z.place z.client.address) (kept_at store'' z.place z.client.address)) gone back_r
+    pub back_now : IsGivenBack at.site moment (phase_of y).linked (kept_at store' x.place x.client.address) (kept_at store'' x.place x.client.address)
+    back_now = subst (λ (z : Served). IsGivenBack at.site moment (phase_of z).linked (kept_at store' z.place z.client.address) (kept_at store'' z.place z.client.address)) gone back_r
 
     pub fits_then : Fits places store''
     fits_then = fits_ends places (phase_of x).seat at is_at moment store' store'' others_now (phase_of y).linked back_now fits_now

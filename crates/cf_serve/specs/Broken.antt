@@ -58,7 +58,7 @@ pub record LastLineFails (at : Listening) (past : RateMoments) (most : ℕ) (cli
 abbrev pub FailsSo : Listening → (past : RateMoments) → (most : ℕ) → (client : Endpoint) → List Entry → (own : List (List ℕ))
     → (part : List ℕ) → Type 0
 FailsSo at past most client es own part =
-    LastLineFails at past most client es own part ⊎ IsWriteEnd both.Separate at.asset past at.port most (own_begun own part) es
+    LastLineFails at past most client es own part ⊎ IsWriteEnd both.Separate at.site past at.port most (own_begun own part) es
 
 -- a client that failed by its own answers and its own lines, and by what its earlier sessions had used as it began, alone
 abbrev pub IsFailedClient : List Listening → (most : ℕ) → List TurnOf → Seat → (part : List ℕ) → Type 0
@@ -158,7 +158,7 @@ pub record ListenFails (places : List Place) (entries : List LinksEntry) (lines 
   pub told : entries ≡ opened_from 0 (moments ++ moment ∷ [])
   pub whole : List (List ℕ)
   pub logged : lines ≡ listen_lines places moments ++ whole
-  pub begins : BeginsLine (line_about place.asset.now place.at moment Listen) whole part
+  pub begins : BeginsLine (line_about place.site.first place.at moment Listen) whole part
 
 -- a line failed in a round: those before it are whole, the sessions that stand as it breaks off are left, and each session's own answers
 -- are those of its turns

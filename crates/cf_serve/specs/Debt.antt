@@ -51,7 +51,7 @@ debt_of session past = debt_from session no_debt past
 
 -- the commands of a session that have such a fate, by its own answers, where its client's earlier sessions used what is given as before
 abbrev pub HasCounted : (is : Fate → Bool) → Listening → (before : RateMoments) → List Entry → (count : ℕ) → Type 0
-HasCounted is at before es count = (js : List Judged) × (AreItemsOf at.asset before es js × (count ≡ count_by (λ j. is j.fate) js))
+HasCounted is at before es count = (js : List Judged) × (AreItemsOf at.site before es js × (count ≡ count_by (λ j. is j.fate) js))
 
 -- those that it has more once these answers come behind the earlier ones
 abbrev pub Counts : (is : Fate → Bool) → Listening → (before : RateMoments) → (earlier answers : List Entry) → (count : ℕ) → Type 0

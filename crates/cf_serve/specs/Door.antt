@@ -12,6 +12,7 @@ use Rattle.cf_audit.specs.Line.{Away, Stranger, WhatValue}
 use Rattle.cf_lane.specs.Log.{line_about}
 use Rattle.cf_outside.specs.Faults.{counted}
 use Rattle.cf_policy.specs.Verdict.{is_allow, takes}
+use Rattle.cf_policy.specs.Site.{SiteValue, assets_of}
 use Rattle.cf_policy.specs.declared.policy.Asset.{Asset}
 use Rattle.cf_view.specs.declared.Endpoint.{Endpoint}
 use Rattle.std.specs.List.{list_any}
@@ -25,9 +26,13 @@ use Rattle.cf_serve.specs.declared.door.Door.{Door}
 use Rattle.cf_serve.specs.declared.door.LastLine.{LastLine}
 use Rattle.cf_serve.specs.declared.door.Lobby.{Lobby}
 
--- some rule that allows has the address: it states no clients, or has it among them
-abbrev pub is_named : Asset → (client : ℕ) → Bool
-is_named asset client = list_any (λ r. is_allow r.action && takes r.clients (pos client)) asset.rules
+-- some rule of an asset that allows has the address: it states no clients, or has it among them
+abbrev pub is_named_by : Asset → (client : ℕ) → Bool
+is_named_by asset client = list_any (λ r. is_allow r.action && takes r.clients (pos client)) asset.rules
+
+-- so has a rule of some asset of the site
+abbrev pub is_named : SiteValue → (client : ℕ) → Bool
+is_named site client = list_any (λ a. is_named_by a client) (assets_of site)
 
 -- a minute behind the last line, and a second where that has another address; or the clock was set back
 abbrev pub is_due_behind : Option LastLine → (moment address : ℕ) → Bool
@@ -84,7 +89,7 @@ closing_value closing.Away came = Away came
 -- the line about a client that is closed, where it has one
 abbrev pub closed_lines : Closing → Listening → Lobby → (place : ℕ) → Endpoint → (moment : ℕ) → List (List ℕ)
 closed_lines why at lobby place client moment =
-    if has_line why lobby place moment client.address then line_about at.asset client moment (closing_value why (came_by why lobby place)) ∷ []
+    if has_line why lobby place moment client.address then line_about at.site.first client moment (closing_value why (came_by why lobby place)) ∷ []
     else []
 
 -- what is kept of all clients once one has come that is closed: a number is used up

@@ -10,7 +10,7 @@ use Rattle.std.specs.List.{AllByRecursion}
 use Rattle.std.specs.Prelude.{Bool, List, [], ◌∷◌, false, true, ℕ, ◌*◌, ◌++◌, ◌+◌, ◌<◌, ◌≡◌, ◌≤◌}
 use Rattle.cf_policy.specs.Laws.{IsAllowed}
 use Rattle.cf_policy.specs.Verdict.{verdict_of}
-use Rattle.cf_policy.specs.declared.policy.Asset.{Asset}
+use Rattle.cf_policy.specs.Site.{SiteValue, asset_of}
 use Rattle.cf_view.specs.declared.base.Act.{Act}
 use Rattle.cf_serve.specs.Door.{is_named}
 use Rattle.cf_serve.specs.Debt.{refused_in, second_of}
@@ -19,7 +19,7 @@ use Rattle.cf_serve.specs.Served.{IsServed}
 use Rattle.cf_serve.specs.Session.{IsSession, Listening}
 use Rattle.cf_lane.specs.Caller.{none_before}
 use Rattle.cf_lane.specs.Judged.{Judged}
-use Rattle.cf_lane.specs.Rates.{KeepsRates}
+use Rattle.cf_lane.specs.SiteRates.{KeepsRates}
 use Rattle.cf_policy.specs.Verdict.{is_empty}
 use Rattle.cf_relay.specs.Turn.{AreItemsOf}
 use Rattle.std.specs.List.{flat_map}
@@ -69,9 +69,10 @@ IsolatesSessions =
     → ((s : Side) → given s (answers_of k entries) ≡ given s (answers_of l other_entries))
     × (lines_in k (turns_of one.rounds) ≡ lines_in l (turns_of two.rounds))
 
--- a client that no rule names is allowed nothing, so closing it takes nothing from anybody
+-- a client that no rule of an asset of the site names is allowed nothing at any of them, so closing it takes nothing from anybody
 abbrev pub StrangersAreRefused : Type 0
-StrangersAreRefused = (asset : Asset) (client : ℕ) (act : Act) → is_named asset client ≡ false → IsAllowed (verdict_of asset client act) → ⊥
+StrangersAreRefused =
+    (site : SiteValue) (client k : ℕ) (act : Act) → is_named site client ≡ false → IsAllowed (verdict_of (asset_of site k) client act) → ⊥
 
 -- turns that lie in so many seconds in a row
 abbrev pub LieIn : (first count : ℕ) → List TurnOf → Type 0
@@ -109,22 +110,22 @@ turns_to session (t ∷ ts) = t ∷ (if t.seat.session == session && is_some t.b
 
 -- the items of a session: those of its own answers, after what it began with. Its clock does not go back behind where it began: none of
 -- them is at a moment before that of a round up to that one
-pub record IsSessionOf (asset : Asset) (turns : List TurnOf) (session : ℕ) (js : List Judged) : Type 0 where
-  pub items : AreItemsOf asset (before_in session turns) (answers_in session turns) js
+pub record IsSessionOf (site : SiteValue) (turns : List TurnOf) (session : ℕ) (js : List Judged) : Type 0 where
+  pub items : AreItemsOf site (before_in session turns) (answers_in session turns) js
   pub forward : AllByRecursion (λ (j : Judged). AllByRecursion (λ (t : TurnOf). t.moment ≤ j.moment) (turns_to session turns)) js
 
 -- those of each of these sessions
-abbrev pub AreSessionsOf : Asset → List TurnOf → (sessions : List ℕ) → List (List Judged) → Type 0
-AreSessionsOf asset turns [] [] = Unit {0}
-AreSessionsOf asset turns [] (js ∷ more) = ⊥
-AreSessionsOf asset turns (session ∷ later) [] = ⊥
-AreSessionsOf asset turns (session ∷ later) (js ∷ more) = IsSessionOf asset turns session js × AreSessionsOf asset turns later more
+abbrev pub AreSessionsOf : SiteValue → List TurnOf → (sessions : List ℕ) → List (List Judged) → Type 0
+AreSessionsOf site turns [] [] = Unit {0}
+AreSessionsOf site turns [] (js ∷ more) = ⊥
+AreSessionsOf site turns (session ∷ later) [] = ⊥
+AreSessionsOf site turns (session ∷ later) (js ∷ more) = IsSessionOf site turns session js × AreSessionsOf site turns later more
 
--- over all sessions of a client address at an asset, one after the other, no rule lets more commands through than its rate: a new connection
--- begins with what the earlier ones had used
+-- over all sessions of a client address at a site, one after the other, no rule of an asset lets more commands to that asset through than
+-- its rate: a new connection begins with what the earlier ones had used of that asset's rules, and no rate is shared by two assets
 abbrev pub RatesLastOverSessions : Type 0
 RatesLastOverSessions =
     (places : List Place) (most : ℕ) (entries : List LinksEntry) (lines : List (List ℕ)) (served : IsServed places most entries lines)
     (place address : ℕ) (at : Listening) (sessions : List (List Judged)) → slice_get (listenings places) place ≡ Some at
-    → AreSessionsOf at.asset (turns_of served.rounds) (sessions_of place address [] (turns_of served.rounds)) sessions
-    → KeepsRates at.asset none_before (flat_map (λ js. js) sessions)
+    → AreSessionsOf at.site (turns_of served.rounds) (sessions_of place address [] (turns_of served.rounds)) sessions
+    → KeepsRates at.site none_before (flat_map (λ js. js) sessions)

@@ -4,15 +4,15 @@ use Rattle.cf_lane.specs.Caller.{RateMoments, none_before}
 use Rattle.cf_lane.specs.Over.{are_over}
 use Rattle.cf_lane.specs.Ring.{RingValue}
 use Rattle.cf_lane.specs.Rings.{AreRingsOf, KnowRings}
-use Rattle.cf_policy.specs.declared.Asset.{Asset}
+use Rattle.cf_policy.specs.Site.{SiteValue}
 use Rattle.std.specs.Prelude.{List, None, Option, Some, [], false, if◌then◌else◌, length, slice_get, true, ℕ, ◌&&◌, ◌<◌, ◌==◌, ◌∷◌, ◌≡◌, ◌⊎◌}
 use Rattle.cf_serve.specs.Kept.{IsForgotten, left_to}
 use Rattle.cf_serve.specs.Rounds.{TurnOf, has_rates}
 use Rattle.cf_serve.specs.Session.{Listening}
 
--- the rings that the sessions of a client left; or a session has them, or had
+-- the rings that the sessions of a client left, of each asset of their site; or a session has them, or had
 pub data KeptRings : Type 0 where
-  Has : (rings : List RingValue) → KeptRings
+  Has : (rings : List (List RingValue)) → KeptRings
   Lent : (session : ℕ) → KeptRings
 
 -- what is kept of a client
@@ -27,7 +27,7 @@ kept_at [] place address = None
 kept_at (k ∷ store) place address = if k.place == place && k.address == address then Some k.kept else kept_at store place address
 
 -- the rings that are there
-abbrev pub rings_in : Option KeptRings → Option (List RingValue)
+abbrev pub rings_in : Option KeptRings → Option (List (List RingValue))
 rings_in None = None
 rings_in (Some (Has rings)) = Some rings
 rings_in (Some (Lent session)) = None
@@ -73,20 +73,20 @@ Lends session moment old new =
     (p a : ℕ) → (kept_at new p a ≡ kept_at old p a)
     ⊎ ((IsDropped moment (kept_at old p a) × (kept_at new p a ≡ None)) ⊎ (IsFree (kept_at old p a) × (kept_at new p a ≡ Some (Lent session))))
 
--- the rings are those of the asset of their place
+-- the rings are those of the site of their place
 abbrev pub Fits : List Listening → List KeptValue → Type 0
 Fits places store =
-    (place address : ℕ) (rings : List RingValue) → kept_at store place address ≡ Some (Has rings)
-    → (at : Listening) → slice_get places place ≡ Some at → AreRingsOf at.asset rings
+    (place address : ℕ) (rings : List (List RingValue)) → kept_at store place address ≡ Some (Has rings)
+    → (at : Listening) → slice_get places place ≡ Some at → AreRingsOf at.site rings
 
 -- what is kept stands for what was left
-abbrev pub Stored : Asset → List TurnOf → (left : RateMoments) → Option KeptRings → Type 0
-Stored asset past left None = (left ≡ none_before) ⊎ IsForgotten asset left past
-Stored asset past left (Some (Has rings)) = KnowRings rings left
-Stored asset past left (Some (Lent session)) = Unit {0}
+abbrev pub Stored : SiteValue → List TurnOf → (left : RateMoments) → Option KeptRings → Type 0
+Stored site past left None = (left ≡ none_before) ⊎ IsForgotten site left past
+Stored site past left (Some (Has rings)) = KnowRings rings left
+Stored site past left (Some (Lent session)) = Unit {0}
 
--- of each client at an asset with rates there is kept what its sessions left in these turns
+-- of each client at a site with rates there is kept what its sessions left in these turns
 abbrev pub IsStored : List Listening → List KeptValue → (past : List TurnOf) → Type 0
 IsStored places store past =
-    (place address : ℕ) (at : Listening) → slice_get places place ≡ Some at → has_rates at.asset ≡ true
-    → Stored at.asset past (left_to place address past) (kept_at store place address)
+    (place address : ℕ) (at : Listening) → slice_get places place ≡ Some at → has_rates at.site ≡ true
+    → Stored at.site past (left_to place address past) (kept_at store place address)

@@ -46,7 +46,7 @@ commands_of turns place = record { admitted = told_count (admitted_by place turn
 
 -- the line of a listening place
 abbrev pub stands_line : Place → (standing : ℕ) → Tally → (moment : ℕ) → List ℕ
-stands_line place standing tally moment = line_about place.asset.now place.at moment (Stands standing tally.admitted tally.refused)
+stands_line place standing tally moment = line_about place.site.first place.at moment (Stands standing tally.admitted tally.refused)
 
 -- the lines of listening places from a number on, where these sessions stand and these are their commands
 abbrev pub stands_lines : List Place → (number : ℕ) → List Seat → (commands : ℕ → Tally) → (moment : ℕ) → List (List ℕ)

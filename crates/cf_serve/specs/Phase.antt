@@ -6,13 +6,13 @@ use Rattle.cf_lane.specs.Handled.{IsLaneOf}
 use Rattle.cf_lane.specs.Judged.{Judged}
 use Rattle.cf_lane.specs.Log.{line_about, with_lines}
 use Rattle.cf_lane.specs.Over.{are_over}
-use Rattle.cf_lane.specs.Rates.{used_at}
 use Rattle.cf_lane.specs.Ring.{RingValue}
 use Rattle.cf_lane.specs.Rings.{AreRingsOf, IsLeft, KnowRings, KnowsRules}
+use Rattle.cf_lane.specs.SiteRates.{used_at}
 use Rattle.cf_links.specs.Links.{LinksEntry, LinksPlace, SessionTold, with_answers}
 use Rattle.cf_links.specs.Service.{LosesSession}
 use Rattle.cf_outside.specs.Pair.{Entry, Moment, met_at}
-use Rattle.cf_policy.specs.declared.Asset.{Asset}
+use Rattle.cf_policy.specs.Site.{SiteValue}
 use Rattle.cf_relay.specs.Answers.{client_of, history_of}
 use Rattle.cf_relay.specs.Relaying.{AreClosed, IsSound, RelayingValue, relaying_value}
 use Rattle.cf_relay.specs.Stands.{IsCounted, StandsFor}
@@ -68,14 +68,14 @@ counts_at linked = record { admitted = admitted_at linked; refused = refused_at 
 abbrev pub KnowsOf : Listening → (before : RateMoments) → List Entry → Option LinkedValue → Type 0
 KnowsOf at before es None = history_of es ≡ []
 KnowsOf at before es (Some v) =
-    (js : List Judged) × (AreItemsOf at.asset before es js
-    × (IsCounted js v.now.lane.admitted v.now.lane.refused × KnowsRules before v.now.lane.rules js))
+    (js : List Judged) × (AreItemsOf at.site before es js
+    × (IsCounted js v.now.lane.admitted v.now.lane.refused × KnowsRules at.site before v.now.lane.rules js))
 
 -- what a session leaves: what it found, or, where it is a relay, what it began with and what it used itself
 abbrev pub LeavesOf : Listening → (before found : RateMoments) → List Entry → Option LinkedValue → (left : RateMoments) → Type 0
 LeavesOf at before found es None left = left ≡ found
 LeavesOf at before found es (Some v) left =
-    (js : List Judged) × (AreItemsOf at.asset before es js × (KnowsRules before v.now.lane.rules js × (left ≡ used_at before js)))
+    (js : List Judged) × (AreItemsOf at.site before es js × (KnowsRules at.site before v.now.lane.rules js × (left ≡ used_at at.site before js)))
 
 -- what a turn at a moment leaves of the debt
 abbrev pub Owes : (moment : ℕ) → (old new : Option LinkedValue) → Type 0
@@ -97,23 +97,23 @@ abbrev pub seat_at : (session place : ℕ) → Endpoint → Seat
 seat_at session place client = record { session = session; place = place; client = client }
 
 -- the last line of a session whose client came again
-abbrev pub again_line : Asset → Endpoint → (moment : ℕ) → Option LinkedValue → List ℕ
-again_line asset client moment linked = line_about asset client moment (Again (admitted_at linked) (refused_at linked))
+abbrev pub again_line : SiteValue → Endpoint → (moment : ℕ) → Option LinkedValue → List ℕ
+again_line site client moment linked = line_about site.first client moment (Again (admitted_at linked) (refused_at linked))
 
--- the asset and the port of a session
+-- the site and the port of a session
 abbrev pub listening_of : Terms → Listening
-listening_of terms = record { asset = terms.asset.now; port = terms.port }
+listening_of terms = record { site = terms.site.now; port = terms.port }
 
 -- the controller was reached, and so many turns were made
 pub record StandsLinked (at : Listening) (before : RateMoments) (most : ℕ) (es : List Entry) (own : List (List ℕ)) (v : LinkedValue) : Type 0 where
   pub moment : ℕ
   pub count : ℕ
   pub answers : List Entry
-  pub split : es ≡ met_at at.port at.asset.endpoint v.met ∷ Moment moment ∷ answers
-  pub does : DoesStages at.asset before most (turns both.Separate count)
-      (met_at at.port at.asset.endpoint v.met ∷ Moment moment ∷ []) answers
-  pub stands : StandsFor at.asset before (Some (line_about at.asset v.met moment Begun ∷ []))
-      (met_at at.port at.asset.endpoint v.met ∷ Moment moment ∷ answers) v.now (Some own)
+  pub split : es ≡ met_at at.port at.site.first.endpoint v.met ∷ Moment moment ∷ answers
+  pub does : DoesStages at.site before most (turns both.Separate count)
+      (met_at at.port at.site.first.endpoint v.met ∷ Moment moment ∷ []) answers
+  pub stands : StandsFor at.site before (Some (line_about at.site.first v.met moment Begun ∷ []))
+      (met_at at.port at.site.first.endpoint v.met ∷ Moment moment ∷ answers) v.now (Some own)
 
 -- what is kept of a session stands for its own answers and its own lines
 abbrev pub StandsAs : Listening → (before : RateMoments) → (most : ℕ) → List Entry → (own : List (List ℕ)) → Option LinkedValue → Type 0
@@ -123,7 +123,7 @@ StandsAs at before most es own (Some v) = StandsLinked at before most es own v
 -- what lets a session be given one turn more, whatever its list
 abbrev pub MayTurn : Listening → (most : ℕ) → Option LinkedValue → Type 0
 MayTurn at most None = Unit {0}
-MayTurn at most (Some v) = IsSound at.asset most v.now × (AreClosed v.now → ⊥)
+MayTurn at most (Some v) = IsSound at.site most v.now × (AreClosed v.now → ⊥)
 
 -- what a turn leaves: a session that stands, or one that ended, of which the numbers are kept still
 abbrev pub TurnLeaves : Listening → (before : RateMoments) → (most : ℕ) → (client : Endpoint) → List Entry → (own : List (List ℕ))
@@ -132,13 +132,13 @@ TurnLeaves at before most client es own linked None = StandsAs at before most es
 TurnLeaves at before most client es own linked (Some end) = EndsSo at before most client es own end × KnowsOf at before es linked
 
 -- a relay that begins does so with what was left; nothing is said of any other session
-abbrev pub BeginsWith : (left : Option (List RingValue)) → (before : RateMoments) → (old new : Option LinkedValue) → Type 0
+abbrev pub BeginsWith : (left : Option (List (List RingValue))) → (before : RateMoments) → (old new : Option LinkedValue) → Type 0
 BeginsWith left before None None = Unit {0}
 BeginsWith left before None (Some v) = IsLeft left before
 BeginsWith left before (Some u) new = Unit {0}
 
 -- a turn adds answers, and lines to the log, whatever came before
-pub record TurnDoes (at : Listening) (left : Option (List RingValue)) (most : ℕ) (client : Endpoint) (told told_after : SessionTold)
+pub record TurnDoes (at : Listening) (left : Option (List (List RingValue))) (most : ℕ) (client : Endpoint) (told told_after : SessionTold)
     (log log_after : Option (List (List ℕ))) (old new : Option LinkedValue) (end : Option SessionEnd) : Type 0 where
   pub answers : List Entry
   pub tells : told_after ≡ with_answers told answers
@@ -147,7 +147,7 @@ pub record TurnDoes (at : Listening) (left : Option (List RingValue)) (most : �
       × TurnLeaves at before most client (es ++ answers) (own ++ lines) new end)
 
 -- what came of asking for a controller: nothing yet, a relay that has made no turn, or an end
-abbrev pub ReachLeaves : Listening → (left : Option (List RingValue)) → (most : ℕ) → (client : Endpoint) → List Entry
+abbrev pub ReachLeaves : Listening → (left : Option (List (List RingValue))) → (most : ℕ) → (client : Endpoint) → List Entry
     → (own : List (List ℕ)) → Reached → Type 0
 ReachLeaves at left most client es own reached.Waiting = (es ≡ []) × (own ≡ [])
 ReachLeaves at left most client es own (reached.Begun linked) =
@@ -156,7 +156,7 @@ ReachLeaves at left most client es own (reached.Ended end) =
     ((before : RateMoments) → EndsSo at before most client es own end) × (history_of es ≡ [])
 
 -- asking for it adds answers and lines, behind those of the session before
-pub record ReachDoes (at : Listening) (left : Option (List RingValue)) (most : ℕ) (client : Endpoint) (before : List Entry)
+pub record ReachDoes (at : Listening) (left : Option (List (List RingValue))) (most : ℕ) (client : Endpoint) (before : List Entry)
     (told told_after : SessionTold) (log log_after : Option (List (List ℕ))) (reached : Reached) : Type 0 where
   pub answers : List Entry
   pub lines : List (List ℕ)
@@ -171,52 +171,52 @@ BeginsFree client (reached.Begun linked) =
     (linked.debt ≡ no_debt) × (((linked_value linked).now.lane.refused ≡ 0) × (linked.met.address ≡ client.address))
 BeginsFree client (reached.Ended end) = Unit {0}
 
--- at an asset with rates a relay has what is kept of its client, as long as it stands
-abbrev pub HasLent : Asset → List KeptValue → Seat → Option LinkedValue → Type 0
-HasLent asset store seat None = Unit {0}
-HasLent asset store seat (Some v) = has_rates asset ≡ true → kept_at store seat.place seat.client.address ≡ Some (Lent seat.session)
+-- at a site with rates a relay has what is kept of its client, as long as it stands
+abbrev pub HasLent : SiteValue → List KeptValue → Seat → Option LinkedValue → Type 0
+HasLent site store seat None = Unit {0}
+HasLent site store seat (Some v) = has_rates site ≡ true → kept_at store seat.place seat.client.address ≡ Some (Lent seat.session)
 
--- what was left to a client: its rings, where the asset has rates
-abbrev pub rings_for : Asset → List KeptValue → (place address : ℕ) → Option (List RingValue)
-rings_for asset store place address = if has_rates asset then rings_in (kept_at store place address) else None
+-- what was left to a client: its rings, where the site has rates
+abbrev pub rings_for : SiteValue → List KeptValue → (place address : ℕ) → Option (List (List RingValue))
+rings_for site store place address = if has_rates site then rings_in (kept_at store place address) else None
 
 -- what is kept as a controller was asked for: a relay that begins has it
-pub record ReachKeeps (asset : Asset) (seat : Seat) (moment : ℕ) (store store_after : List KeptValue) (answer : Reached) : Type 0 where
+pub record ReachKeeps (site : SiteValue) (seat : Seat) (moment : ℕ) (store store_after : List KeptValue) (answer : Reached) : Type 0 where
   pub lends : Lends seat.session moment store store_after
-  pub free : (linked : Linked) → answer ≡ reached.Begun linked → has_rates asset ≡ true
+  pub free : (linked : Linked) → answer ≡ reached.Begun linked → has_rates site ≡ true
       → IsFree (kept_at store seat.place seat.client.address)
-  pub lent : (linked : Linked) → answer ≡ reached.Begun linked → has_rates asset ≡ true
+  pub lent : (linked : Linked) → answer ≡ reached.Begun linked → has_rates site ≡ true
       → kept_at store_after seat.place seat.client.address ≡ Some (Lent seat.session)
 
 -- a relay that begins stands, is of a client of the address that came, and what is kept of it was free; and a relay stays one
-abbrev pub BeginsBy : Asset → Seat → (store : List KeptValue) → (stays_on : Bool) → (old new : Option LinkedValue) → Type 0
-BeginsBy asset seat store stays_on None None = Unit {0}
-BeginsBy asset seat store stays_on None (Some v) =
+abbrev pub BeginsBy : SiteValue → Seat → (store : List KeptValue) → (stays_on : Bool) → (old new : Option LinkedValue) → Type 0
+BeginsBy site seat store stays_on None None = Unit {0}
+BeginsBy site seat store stays_on None (Some v) =
     (stays_on ≡ true) × ((v.met.address ≡ seat.client.address)
-    × (has_rates asset ≡ true → IsFree (kept_at store seat.place seat.client.address)))
-BeginsBy asset seat store stays_on (Some u) None = ⊥
-BeginsBy asset seat store stays_on (Some u) (Some v) = Unit {0}
+    × (has_rates site ≡ true → IsFree (kept_at store seat.place seat.client.address)))
+BeginsBy site seat store stays_on (Some u) None = ⊥
+BeginsBy site seat store stays_on (Some u) (Some v) = Unit {0}
 
--- the lane of a relay is one of the asset, also behind its end
-abbrev pub HasLane : Asset → Option LinkedValue → Type 0
-HasLane asset None = Unit {0}
-HasLane asset (Some v) = IsLaneOf asset v.now.lane
+-- the lane of a relay is one of the site, also behind its end
+abbrev pub HasLane : SiteValue → Option LinkedValue → Type 0
+HasLane site None = Unit {0}
+HasLane site (Some v) = IsLaneOf site v.now.lane
 
 -- what is kept behind a turn
-pub record TurnKeeps (asset : Asset) (seat : Seat) (moment : ℕ) (store store_after : List KeptValue) (stays_on : Bool)
+pub record TurnKeeps (site : SiteValue) (seat : Seat) (moment : ℕ) (store store_after : List KeptValue) (stays_on : Bool)
     (old new : Option LinkedValue) : Type 0 where
   pub lends : Lends seat.session moment store store_after
-  pub lent : HasLent asset store seat old → HasLent asset store_after seat new
-  pub begins : BeginsBy asset seat store stays_on old new
-  pub lane : HasLane asset new
+  pub lent : HasLent site store seat old → HasLent site store_after seat new
+  pub begins : BeginsBy site seat store stays_on old new
+  pub lane : HasLane site new
 
--- what is kept of a client behind the end of a session: at an asset with rates the rings of its relay, or nothing where they count no more
-abbrev pub IsGivenBack : Asset → (moment : ℕ) → Option LinkedValue → (old new : Option KeptRings) → Type 0
-IsGivenBack asset moment None old new = new ≡ old
-IsGivenBack asset moment (Some v) old new =
-    (has_rates asset ≡ false → new ≡ old)
-    × (has_rates asset ≡ true → (rings : List RingValue) × (AreRingsOf asset rings
-    × (((before : RateMoments) (js : List Judged) → KnowsRules before v.now.lane.rules js → KnowRings rings (used_at before js))
+-- what is kept of a client behind the end of a session: at a site with rates the rings of its relay, or nothing where they count no more
+abbrev pub IsGivenBack : SiteValue → (moment : ℕ) → Option LinkedValue → (old new : Option KeptRings) → Type 0
+IsGivenBack site moment None old new = new ≡ old
+IsGivenBack site moment (Some v) old new =
+    (has_rates site ≡ false → new ≡ old)
+    × (has_rates site ≡ true → (rings : List (List RingValue)) × (AreRingsOf site rings
+    × (((before : RateMoments) (js : List Judged) → KnowsRules site before v.now.lane.rules js → KnowRings rings (used_at site before js))
     × (new ≡ (if are_over moment rings then None else Some (Has rings))))))
 
 -- what a relay begins with, in the turn in which it does
@@ -251,9 +251,9 @@ last_value end.Gone admitted refused = Gone
 last_value end.Again admitted refused = Again admitted refused
 last_value end.NoMemory admitted refused = NoMemory
 
--- the assets that are served, each with the port at which its clients come
+-- the sites that are served, each with the port at which its clients come
 abbrev pub listening_at : Place → Listening
-listening_at place = record { asset = place.asset.now; port = place.at.port }
+listening_at place = record { site = place.site; port = place.at.port }
 
 abbrev pub listenings : List Place → List Listening
 listenings places = map listening_at places

@@ -1,13 +1,14 @@
 -- The rounds of a service: what the links answered and what the log got, in the order of the loop. The main definitions are `Round`,
 -- `round_entries`, `round_lines` and `AreRounds`. This project's own.
 --
--- In a round at most one client comes at each listening place: it is taken, or closed where no rule of its asset names it or there is no
--- place for it. Then each
--- session that stands has one place, in the order in which the sessions came: a turn where the links say that something can move for
--- it, and else nothing. A session of a client that came again at an asset with rates is ended there and not asked.
+-- In a round at most one client comes at each listening place: it is taken, or closed where no rule of an asset of its site names it or
+-- there is no place for it. Then each session that stands has one place, in the order in which the sessions came: a turn where the links
+-- say that something can move for it, and else nothing. A session of a client that came again at a site with rates is ended there and
+-- not asked.
 use Rattle.cf_lane.specs.Caller.{RateMoments}
 use Rattle.cf_links.specs.Links.{Came, Left, LinksEntry, Of, Ready, Woke}
 use Rattle.cf_outside.specs.Pair.{Entry}
+use Rattle.cf_policy.specs.Site.{SiteValue, assets_of}
 use Rattle.cf_policy.specs.declared.Asset.{Asset}
 use Rattle.cf_view.specs.declared.Endpoint.{Endpoint}
 use Rattle.std.specs.List.{AllByRecursion, flat_map, list_any, sum_by}
@@ -122,10 +123,10 @@ count_of place standing = sum_by (is_of place) standing
 abbrev pub has_place : List Seat → (place : ℕ) → Bool
 has_place standing place = nat_lt (length standing) 256 && nat_lt (count_of place standing) 32
 
--- why a client is closed as it comes to a listening place, if it is: no rule of the asset names it, or there is no place for it
-abbrev pub closing_of : Asset → (standing : List Seat) → (place address : ℕ) → Option Closing
-closing_of asset standing place address =
-    if is_named asset address then if has_place standing place then None else Some closing.Away else Some closing.Stranger
+-- why a client is closed as it comes to a listening place, if it is: no rule of an asset of the site names it, or there is no place for it
+abbrev pub closing_of : SiteValue → (standing : List Seat) → (place address : ℕ) → Option Closing
+closing_of site standing place address =
+    if is_named site address then if has_place standing place then None else Some closing.Away else Some closing.Stranger
 
 -- the line of a client that came at a listening place, if it has one
 abbrev pub arrival_lines : Listening → Lobby → (moment : ℕ) → Arrival → List (List ℕ)
@@ -143,14 +144,14 @@ abbrev pub lobby_behind : Lobby → (moment : ℕ) → List Arrival → Lobby
 lobby_behind lobby moment [] = lobby
 lobby_behind lobby moment (a ∷ more) = lobby_behind (lobby_with lobby moment a) moment more
 
--- a client came at a listening place, one from a number on: it has the next number; whether it is closed is what the rules of the asset
--- and the sessions that stand say; and it has its line where it is closed and a line is due
+-- a client came at a listening place, one from a number on: it has the next number; whether it is closed is what the rules of the site's
+-- assets and the sessions that stand say; and it has its line where it is closed and a line is due
 pub record IsArrival (places : List Listening) (moment from : ℕ) (lobby : Lobby) (standing : List Seat) (a : Arrival) : Type 0 where
   pub later : from ≤ a.seat.place
   pub at : Listening
   pub listens : slice_get places a.seat.place ≡ Some at
   pub number : a.seat.session ≡ lobby.next
-  pub why : a.closed ≡ closing_of at.asset standing a.seat.place a.seat.client.address
+  pub why : a.closed ≡ closing_of at.site standing a.seat.place a.seat.client.address
   pub own_lines : a.lines ≡ arrival_lines at lobby moment a
 
 -- arrivals from a listening place on, each at its own
@@ -167,9 +168,13 @@ is_client place address seat = seat.place == place && seat.client.address == add
 abbrev pub is_same_client : Seat → Seat → Bool
 is_same_client seat other = is_client other.place other.client.address seat
 
--- some rule has a rate
-abbrev pub has_rates : Asset → Bool
-has_rates asset = list_any (λ r. is_some r.rate) asset.rules
+-- some rule of an asset has a rate
+abbrev pub has_own_rates : Asset → Bool
+has_own_rates asset = list_any (λ r. is_some r.rate) asset.rules
+
+-- so has some rule of an asset of the site
+abbrev pub has_rates : SiteValue → Bool
+has_rates site = list_any has_own_rates (assets_of site)
 
 -- another session of the same client came later, and so did one among these
 abbrev pub is_later : Seat → (other : Seat) → Bool
@@ -178,10 +183,10 @@ is_later seat other = is_same_client other seat && nat_lt seat.session other.ses
 abbrev pub has_later : List Seat → Seat → Bool
 has_later standing seat = list_any (is_later seat) standing
 
--- the client of a session came again, at an asset that has rates: they are one client's, over all its sessions, one after the other
+-- the client of a session came again, at a site that has rates: they are one client's, over all its sessions, one after the other
 abbrev pub must_end : List Listening → (standing : List Seat) → Seat → Bool
 must_end places standing seat =
-    elim (slice_get places seat.place) [ None ↦ false | Some at ↦ has_rates at.asset && has_later standing seat ]
+    elim (slice_get places seat.place) [ None ↦ false | Some at ↦ has_rates at.site && has_later standing seat ]
 
 -- such a session is not asked, and ends; no other ends so
 abbrev pub IsAgain : (again : Bool) → TurnOf → Type 0

@@ -27,7 +27,7 @@ opened_from place (moment ∷ moments) = Opened place moment ∷ opened_from (pl
 abbrev pub listen_lines : List Place → (moments : List ℕ) → List (List ℕ)
 listen_lines [] moments = []
 listen_lines (place ∷ places) [] = []
-listen_lines (place ∷ places) (moment ∷ moments) = line_about place.asset.now place.at moment Listen ∷ listen_lines places moments
+listen_lines (place ∷ places) (moment ∷ moments) = line_about place.site.first place.at moment Listen ∷ listen_lines places moments
 
 -- the sessions that stand at last are left
 abbrev pub left_of : List Seat → List LinksEntry

@@ -34,10 +34,10 @@ pub record MayGo (places : List Listening) (most : ℕ) (store : List KeptValue)
   pub placed : p.seat.place < length places
   pub may : (at : Listening) → slice_get places p.seat.place ≡ Some at → MayTurn at most p.linked
   pub served : serves p.seat.session ≡ true
-  pub lent : (at : Listening) → slice_get places p.seat.place ≡ Some at → HasLent at.asset store p.seat p.linked
+  pub lent : (at : Listening) → slice_get places p.seat.place ≡ Some at → HasLent at.site store p.seat p.linked
 
 -- the sessions that stand, in the order of their numbers; the links have them, and none of a number from `next` on. What is kept of clients
--- fits their assets
+-- fits their sites
 pub record IsTable (places : List Listening) (most : ℕ) (store : List KeptValue) (serves : ℕ → Bool) (next : ℕ) (ps : List Phase) : Type 0
   where
     pub ordered : IsBetween 0 next ps

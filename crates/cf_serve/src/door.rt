@@ -1,15 +1,15 @@
-//! The door of a service: a client that no rule of its asset names, or for which there is no place, is closed as it comes, and has a line
-//! now and then.
+//! The door of a service: a client that no rule of an asset of its site names, or for which there is no place, is closed as it comes,
+//! and has a line now and then.
 ghost use Rattle.std.specs.Prelude.{◌≡◌, ◌&&◌, ◌+◌, ◌-◌, ◌<◌, ◌^◌, if◌then◌else◌, None, Some, pos};
 ghost use Rattle.std.specs.List.{list_any};
 ghost use Rattle.cf_audit.specs.Line.{HasShortRule, what_value};
 ghost use Rattle.cf_lane.specs.Log.{HasPlainRule};
 ghost use Rattle.cf_outside.specs.Faults.{counted};
 ghost use Rattle.cf_policy.specs.Verdict.{is_allow, takes};
-ghost use Rattle.cf_serve.specs.Door.{came_by, closing_value, crowd_with, door_with, has_line, is_due, is_due_after, is_named, lobby_closed, first_lobby};
+ghost use Rattle.cf_serve.specs.Door.{came_by, closing_value, crowd_with, door_with, has_line, is_due, is_due_after, is_named, is_named_by, first_lobby, lobby_closed};
 
 use cf_audit::What;
-use cf_policy::{Action, Asset, Rule, takes};
+use cf_policy::{Action, Asset, Rule, Site, takes};
 
 /// How long the strangers of one address have one line, in microseconds. This project's own choice.
 const SAME_MICROS: u64 = 60_000_000;
@@ -17,7 +17,7 @@ const SAME_MICROS: u64 = 60_000_000;
 /// How long all strangers have one line, in microseconds. This project's own choice.
 const ANY_MICROS: u64 = 1_000_000;
 
-/// How long the clients that come where one asset has no place have one line, in microseconds. This project's own choice.
+/// How long the clients that come where one site has no place have one line, in microseconds. This project's own choice.
 const AWAY_MICROS: u64 = 1_000_000;
 
 /// How many places a service listens at, at most.
@@ -26,7 +26,7 @@ pub(crate) const PLACES: usize = 256;
 /// Why a client is closed as it comes.
 #[derive(Clone, Copy)]
 pub(crate) enum Closing {
-    /// No rule of its asset that allows names it.
+    /// No rule of an asset of its site that allows names it.
     Stranger,
     /// All places that it could have are taken.
     Away,
@@ -88,11 +88,25 @@ fn some_allows_client(rules: &[Rule], client: u32) -> bool
     rules.iter().any(|rule| allows_client(rule, client))
 }
 
-/// Whether some rule of an asset that allows has this address: each command of a client that none has is refused.
-pub(crate) fn names_client(asset: &Asset, client: u32) -> bool
-    ensures { result ≡ is_named asset.now client }
+/// Whether some rule of an asset that allows has this address.
+fn asset_names_client(asset: &Asset, client: u32) -> bool
+    ensures { result ≡ is_named_by asset.now client }
 {
     some_allows_client(asset.rules.as_slice(), client)
+}
+
+fn some_names_client(assets: &[Asset], client: u32) -> bool
+    ensures { result ≡ list_any (λ a. is_named_by a client) assets.now }
+{
+    assets.iter().any(|asset| asset_names_client(asset, client))
+}
+
+/// Whether some rule of an asset of a site that allows has this address: each command to any of them of a client that none has is
+/// refused.
+pub(crate) fn names_client(site: &Site<'_>, client: u32) -> bool
+    ensures { result ≡ is_named site.now client }
+{
+    asset_names_client(site.first(), client) || some_names_client(site.others(), client)
 }
 
 impl Door {

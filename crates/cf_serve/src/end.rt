@@ -19,7 +19,7 @@ pub enum SessionEnd {
     Unreached,
     /// The client had gone before the controller was reached.
     Gone,
-    /// The client came again, at an asset that has rates.
+    /// The client came again, at a site that has rates.
     Again,
     /// Memory was wanting as the controller was reached, or room for what is kept of the client.
     NoMemory,

@@ -12,7 +12,7 @@ pub fn sessions_are_isolated()
     has_one_judgement();
 }
 
-/// A client that is closed at the door would have had each of its commands refused.
+/// A client that is closed at the door would have had each of its commands refused, to whichever asset of the site.
 pub fn strangers_are_refused()
     ensures refused { StrangersAreRefused }
 {
@@ -24,7 +24,8 @@ pub fn floods_are_bounded()
     ensures bounded { FloodsAreBounded }
 {}
 
-/// Over all sessions of a client address at an asset, one after the other, no rule lets more commands through than its rate.
+/// Over all sessions of a client address at a site, one after the other, no rule of an asset lets more commands to that asset through
+/// than its rate: no rate is shared by two assets.
 pub fn rates_last_over_sessions()
     ensures last { RatesLastOverSessions }
 {

@@ -14,7 +14,7 @@ ghost use Rattle.cf_outside.specs.Desk.{DeskValue};
 ghost use Rattle.cf_outside.specs.Faults.{HasCause, Rose};
 ghost use Rattle.cf_outq.specs.SendQueue.{empty};
 ghost use Rattle.cf_outside.specs.Pair.{Moment, met_at};
-ghost use Rattle.cf_policy.specs.Within.{IsAssetWithin};
+ghost use Rattle.cf_policy.specs.Site.{IsSiteWithin};
 ghost use Rattle.cf_relay.specs.declared.limit.TheConstants.{MOST_BYTES};
 ghost use Rattle.cf_relay.specs.Stands.{IsNewLane};
 ghost use Rattle.cf_serve.specs.Failing.{MissesReach, MissesTurn};
@@ -38,7 +38,7 @@ use cf_lane::{Lane, Rings};
 use cf_links::{Links, ReachAnswer};
 use cf_outq::Outq;
 use cf_outside::{Desk, MomentAnswer};
-use cf_policy::Asset;
+use cf_policy::Site;
 use cf_relay::{Directions, Relaying, Stop};
 use cf_view::{Endpoint, NoMemory, WriteFault};
 use std::alloc::Global;
@@ -61,11 +61,11 @@ pub(crate) struct Served {
     pub(crate) linked: Option<Linked>,
 }
 
-/// What a turn needs of its service: the asset of the session, the number of its listening place and the port at which its clients
+/// What a turn needs of its service: the site of the session, the number of its listening place and the port at which its clients
 /// come, the moment of the round in microseconds, and how many answers `Idle` in a row end it.
 #[derive(Drop)]
 pub(crate) struct Terms<'a> {
-    pub(crate) asset: &'a Asset,
+    pub(crate) site: &'a Site<'a>,
     pub(crate) place: usize,
     pub(crate) port: u16,
     pub(crate) moment: u64,
@@ -128,14 +128,14 @@ enum Reached {
 /// memory is wanting.
 fn make_parts(
     alloc: Global,
-    asset: &Asset,
+    site: &Site<'_>,
     met: Endpoint,
     left: Option<Rings>,
 ) -> Result<Parts, NoMemory>
-    requires within { IsAssetWithin asset.now }
-    requires left { IfSome left (AreRingsOf asset.now) }
-    ensures lane { IfOk result (λ parts. (before : RateMoments) → IsLeft left before → IsNewLane asset.now before met (Parts.lane parts)) }
-    ensures of_asset { IfOk result (λ parts. IsLaneOf asset.now (Parts.lane parts)) }
+    requires within { IsSiteWithin site.now }
+    requires left { IfSome left (AreRingsOf site.now) }
+    ensures lane { IfOk result (λ parts. (before : RateMoments) → IsLeft left before → IsNewLane site.now before met (Parts.lane parts)) }
+    ensures of_site { IfOk result (λ parts. IsLaneOf site.now (Parts.lane parts)) }
     ensures counts { IfOk result (λ parts. (LaneValue.admitted (Parts.lane parts) ≡ 0) × (LaneValue.refused (Parts.lane parts) ≡ 0)
         × (debt (Parts.lane parts) ≡ 0)) }
     ensures to_client { IfOk result (λ parts. Parts.to_client parts ≡ empty) }
@@ -143,7 +143,7 @@ fn make_parts(
 {
     let to_client = Outq::new(alloc)?;
     let to_controller = Outq::new(alloc)?;
-    let lane = Lane::new(alloc, asset, met, left)?;
+    let lane = Lane::new(alloc, site, met, left)?;
     Ok(Parts {
         lane,
         to_client,
@@ -163,22 +163,22 @@ fn open_relay<D: Desk>(
     keeping: &mut Keeping,
     desk: &mut D,
 ) -> Result<Reached, WriteFault>
-    requires within { IsAssetWithin terms.now.asset.now }
+    requires within { IsSiteWithin terms.now.site.now }
     requires most { 0 < terms.now.most }
-    requires fits { IfSome (rings_for terms.now.asset.now keeping.old terms.now.place client.address) (AreRingsOf terms.now.asset.now) }
-    requires free { has_rates terms.now.asset.now ≡ true → MayLend terms.now.place client.address keeping.old }
+    requires fits { IfSome (rings_for terms.now.site.now keeping.old terms.now.place client.address) (AreRingsOf terms.now.site.now) }
+    requires free { has_rates terms.now.site.now ≡ true → MayLend terms.now.place client.address keeping.old }
     requires address { met.address ≡ client.address }
     requires whole { DeskValue.whole (D.value desk.old) ≡ true }
     ensures does { IfOk result (λ reached. (told : SessionTold) → ReachDoes (listening_of terms.now)
-        (rings_for terms.now.asset.now keeping.old terms.now.place client.address) terms.now.most client
-        (met_at terms.now.port terms.now.asset.now.endpoint met ∷ Moment moment ∷ []) told told
+        (rings_for terms.now.site.now keeping.old terms.now.place client.address) terms.now.most client
+        (met_at terms.now.port terms.now.site.now.first.endpoint met ∷ Moment moment ∷ []) told told
         (DeskValue.lines (D.value desk.old)) (DeskValue.lines (D.value desk.new)) reached) }
     ensures breaks { OnErr result ((told : SessionTold) → MissesReach (listening_of terms.now) terms.now.most client
-        (met_at terms.now.port terms.now.asset.now.endpoint met ∷ Moment moment ∷ []) told told
+        (met_at terms.now.port terms.now.site.now.first.endpoint met ∷ Moment moment ∷ []) told told
         (DeskValue.lines (D.value desk.old)) (DeskValue.lines (D.value desk.new)) (DeskValue.line_part (D.value desk.new))) }
     ensures may { IfOk result (λ reached. IsSoundBegun (listening_of terms.now) terms.now.most reached) }
     ensures free { IfOk result (λ reached. BeginsFree client reached) }
-    ensures keeps { IfOk result (λ reached. ReachKeeps terms.now.asset.now (seat_at session terms.now.place client) terms.now.moment
+    ensures keeps { IfOk result (λ reached. ReachKeeps terms.now.site.now (seat_at session terms.now.place client) terms.now.moment
         keeping.old keeping.new reached) }
     ensures again { IfOk result (λ reached. reached ≡ Reached.Ended SessionEnd.Again → ⊥) }
     ensures met { (result ≡ Ok (Reached.Ended SessionEnd.Unreached) → ⊥) × (result ≡ Ok (Reached.Ended SessionEnd.Gone) → ⊥) }
@@ -187,14 +187,14 @@ fn open_relay<D: Desk>(
     ensures cause { HasCause (DeskValue.faults (D.value desk.old)) (DeskValue.faults (D.value desk.new)) (IsErr result) }
 {
     let left = lend_rings(session, client, terms, keeping);
-    let parts = match make_parts(alloc, terms.asset, met, left) {
+    let parts = match make_parts(alloc, terms.site, met, left) {
         Ok(parts) => parts,
         Err(_) => {
-            log_line(terms.asset, met, terms.moment, What::NoMemory, desk)?;
+            log_line(terms.site, met, terms.moment, What::NoMemory, desk)?;
             return Ok(Reached::Ended(SessionEnd::NoMemory));
         }
     };
-    log_line(terms.asset, met, moment, What::Begun, desk)?;
+    log_line(terms.site, met, moment, What::Begun, desk)?;
     let relaying = Relaying::begun(moment, parts.lane, parts.to_client, parts.to_controller);
     Ok(Reached::Begun(Linked {
         met,
@@ -205,16 +205,16 @@ fn open_relay<D: Desk>(
 
 /// The end of a session whose connection failed before its first moment, or that met a client of another address.
 fn lose<D: Desk>(met: Endpoint, terms: &Terms<'_>, desk: &mut D) -> Result<Reached, WriteFault>
-    requires within { IsAssetWithin terms.now.asset.now }
+    requires within { IsSiteWithin terms.now.site.now }
     requires most { 0 < terms.now.most }
     requires whole { DeskValue.whole (D.value desk.old) ≡ true }
     ensures end { IfOk result (λ reached. reached ≡ Reached.Ended SessionEnd.Lost) }
-    ensures does { IfOk result (λ reached. (left : Option (List RingValue)) (client : EndpointOf) (told : SessionTold)
+    ensures does { IfOk result (λ reached. (left : Option (List (List RingValue))) (client : EndpointOf) (told : SessionTold)
         → ReachDoes (listening_of terms.now) left terms.now.most client
-        (met_at terms.now.port terms.now.asset.now.endpoint met ∷ []) told told
+        (met_at terms.now.port terms.now.site.now.first.endpoint met ∷ []) told told
         (DeskValue.lines (D.value desk.old)) (DeskValue.lines (D.value desk.new)) reached) }
     ensures breaks { OnErr result ((client : EndpointOf) (told : SessionTold) → MissesReach (listening_of terms.now) terms.now.most client
-        (met_at terms.now.port terms.now.asset.now.endpoint met ∷ []) told told
+        (met_at terms.now.port terms.now.site.now.first.endpoint met ∷ []) told told
         (DeskValue.lines (D.value desk.old)) (DeskValue.lines (D.value desk.new)) (DeskValue.line_part (D.value desk.new))) }
     ensures whole { OnOk result (DeskValue.whole (D.value desk.new) ≡ true) }
     ensures log { WritesLog (D.value desk.old) (D.value desk.new) }
@@ -224,16 +224,16 @@ fn lose<D: Desk>(met: Endpoint, terms: &Terms<'_>, desk: &mut D) -> Result<Reach
         admitted: 0,
         refused: 0,
     };
-    log_line(terms.asset, met, 0, what, desk)?;
+    log_line(terms.site, met, 0, what, desk)?;
     Ok(Reached::Ended(SessionEnd::Lost))
 }
 
 /// The end of a session for whose client nothing more can be kept, or whose client's rings are lost.
 fn refuse<D: Desk>(client: Endpoint, terms: &Terms<'_>, desk: &mut D) -> Result<Reached, WriteFault>
-    requires within { IsAssetWithin terms.now.asset.now }
+    requires within { IsSiteWithin terms.now.site.now }
     requires whole { DeskValue.whole (D.value desk.old) ≡ true }
     ensures end { IfOk result (λ reached. reached ≡ Reached.Ended SessionEnd.NoMemory) }
-    ensures does { IfOk result (λ reached. (left : Option (List RingValue)) (told : SessionTold)
+    ensures does { IfOk result (λ reached. (left : Option (List (List RingValue))) (told : SessionTold)
         → ReachDoes (listening_of terms.now) left terms.now.most client [] told told
         (DeskValue.lines (D.value desk.old)) (DeskValue.lines (D.value desk.new)) reached) }
     ensures breaks { OnErr result ((told : SessionTold) → MissesReach (listening_of terms.now) terms.now.most client [] told told
@@ -242,7 +242,7 @@ fn refuse<D: Desk>(client: Endpoint, terms: &Terms<'_>, desk: &mut D) -> Result<
     ensures log { WritesLog (D.value desk.old) (D.value desk.new) }
     ensures cause { HasCause (DeskValue.faults (D.value desk.old)) (DeskValue.faults (D.value desk.new)) (IsErr result) }
 {
-    log_line(terms.asset, client, terms.moment, What::NoMemory, desk)?;
+    log_line(terms.site, client, terms.moment, What::NoMemory, desk)?;
     Ok(Reached::Ended(SessionEnd::NoMemory))
 }
 
@@ -282,24 +282,24 @@ fn begin<L: Links, D: Desk>(
     desk: &mut D,
 ) -> Result<Reached, WriteFault>
     requires serves { LinksPlace.serves (L.place links.old) session ≡ true }
-    requires within { IsAssetWithin terms.now.asset.now }
+    requires within { IsSiteWithin terms.now.site.now }
     requires most { 0 < terms.now.most }
-    requires fits { IfSome (rings_for terms.now.asset.now keeping.old terms.now.place client.address) (AreRingsOf terms.now.asset.now) }
-    requires free { has_rates terms.now.asset.now ≡ true → MayLend terms.now.place client.address keeping.old }
+    requires fits { IfSome (rings_for terms.now.site.now keeping.old terms.now.place client.address) (AreRingsOf terms.now.site.now) }
+    requires free { has_rates terms.now.site.now ≡ true → MayLend terms.now.place client.address keeping.old }
     requires whole { DeskValue.whole (D.value desk.old) ≡ true }
     ensures place { L.place links.new ≡ L.place links.old }
     ensures does { IfOk result (λ reached. ReachDoes (listening_of terms.now)
-        (rings_for terms.now.asset.now keeping.old terms.now.place client.address) terms.now.most client
-        (met_at terms.now.port terms.now.asset.now.endpoint met ∷ [])
+        (rings_for terms.now.site.now keeping.old terms.now.place client.address) terms.now.most client
+        (met_at terms.now.port terms.now.site.now.first.endpoint met ∷ [])
         (told_of L.Links session links.old) (told_of L.Links session links.new)
         (DeskValue.lines (D.value desk.old)) (DeskValue.lines (D.value desk.new)) reached) }
     ensures breaks { OnErr result (MissesReach (listening_of terms.now) terms.now.most client
-        (met_at terms.now.port terms.now.asset.now.endpoint met ∷ [])
+        (met_at terms.now.port terms.now.site.now.first.endpoint met ∷ [])
         (told_of L.Links session links.old) (told_of L.Links session links.new)
         (DeskValue.lines (D.value desk.old)) (DeskValue.lines (D.value desk.new)) (DeskValue.line_part (D.value desk.new))) }
     ensures may { IfOk result (λ reached. IsSoundBegun (listening_of terms.now) terms.now.most reached) }
     ensures free { IfOk result (λ reached. BeginsFree client reached) }
-    ensures keeps { IfOk result (λ reached. ReachKeeps terms.now.asset.now (seat_at session terms.now.place client) terms.now.moment
+    ensures keeps { IfOk result (λ reached. ReachKeeps terms.now.site.now (seat_at session terms.now.place client) terms.now.moment
         keeping.old keeping.new reached) }
     ensures again { IfOk result (λ reached. reached ≡ Reached.Ended SessionEnd.Again → ⊥) }
     ensures met { (result ≡ Ok (Reached.Ended SessionEnd.Unreached) → ⊥) × (result ≡ Ok (Reached.Ended SessionEnd.Gone) → ⊥) }
@@ -324,13 +324,13 @@ fn reach<L: Links, D: Desk>(
     desk: &mut D,
 ) -> Result<Reached, WriteFault>
     requires serves { LinksPlace.serves (L.place links.old) session ≡ true }
-    requires within { IsAssetWithin terms.now.asset.now }
+    requires within { IsSiteWithin terms.now.site.now }
     requires most { 0 < terms.now.most }
-    requires fits { IfSome (rings_for terms.now.asset.now keeping.old terms.now.place client.address) (AreRingsOf terms.now.asset.now) }
+    requires fits { IfSome (rings_for terms.now.site.now keeping.old terms.now.place client.address) (AreRingsOf terms.now.site.now) }
     requires whole { DeskValue.whole (D.value desk.old) ≡ true }
     ensures place { L.place links.new ≡ L.place links.old }
     ensures does { IfOk result (λ reached. ReachDoes (listening_of terms.now)
-        (rings_for terms.now.asset.now keeping.old terms.now.place client.address) terms.now.most client []
+        (rings_for terms.now.site.now keeping.old terms.now.place client.address) terms.now.most client []
         (told_of L.Links session links.old) (told_of L.Links session links.new)
         (DeskValue.lines (D.value desk.old)) (DeskValue.lines (D.value desk.new)) reached) }
     ensures breaks { OnErr result (MissesReach (listening_of terms.now) terms.now.most client []
@@ -338,7 +338,7 @@ fn reach<L: Links, D: Desk>(
         (DeskValue.lines (D.value desk.old)) (DeskValue.lines (D.value desk.new)) (DeskValue.line_part (D.value desk.new))) }
     ensures may { IfOk result (λ reached. IsSoundBegun (listening_of terms.now) terms.now.most reached) }
     ensures free { IfOk result (λ reached. BeginsFree client reached) }
-    ensures keeps { IfOk result (λ reached. ReachKeeps terms.now.asset.now (seat_at session terms.now.place client) terms.now.moment
+    ensures keeps { IfOk result (λ reached. ReachKeeps terms.now.site.now (seat_at session terms.now.place client) terms.now.moment
         keeping.old keeping.new reached) }
     ensures again { IfOk result (λ reached. reached ≡ Reached.Ended SessionEnd.Again → ⊥) }
     ensures unreached { result ≡ Ok (Reached.Ended SessionEnd.Unreached) → Rose (L.faults links.old) (L.faults links.new) }
@@ -350,15 +350,15 @@ fn reach<L: Links, D: Desk>(
     if !may_begin(client, terms, keeping) {
         return refuse(client, terms, desk);
     }
-    match links.meet(session, terms.port, terms.asset.endpoint) {
+    match links.meet(session, terms.port, terms.site.first().endpoint) {
         ReachAnswer::Met(met) => begin(alloc, session, client, met, terms, keeping, links, desk),
         ReachAnswer::Waiting => Ok(Reached::Waiting),
         ReachAnswer::Gone => {
-            log_line(terms.asset, client, terms.moment, What::Gone, desk)?;
+            log_line(terms.site, client, terms.moment, What::Gone, desk)?;
             Ok(Reached::Ended(SessionEnd::Gone))
         }
         ReachAnswer::Failed => {
-            log_line(terms.asset, client, terms.moment, What::Unreached, desk)?;
+            log_line(terms.site, client, terms.moment, What::Unreached, desk)?;
             Ok(Reached::Ended(SessionEnd::Unreached))
         }
     }
@@ -382,13 +382,13 @@ impl Linked {
         desk: &mut D,
     ) -> Result<Option<SessionEnd>, WriteFault>
         requires serves { LinksPlace.serves (L.place links.old) session ≡ true }
-        requires within { IsAssetWithin terms.now.asset.now }
+        requires within { IsSiteWithin terms.now.site.now }
         requires may { MayTurn (listening_of terms.now) terms.now.most (Some (linked_value self.old)) }
         requires no_rest { must_rest self.old.debt terms.now.moment ≡ false }
         requires whole { DeskValue.whole (D.value desk.old) ≡ true }
         requires buffer { length buf.old ≡ MOST_BYTES }
         ensures place { L.place links.new ≡ L.place links.old }
-        ensures does { IfOk result (λ end. (left : Option (List RingValue)) (client : EndpointOf)
+        ensures does { IfOk result (λ end. (left : Option (List (List RingValue))) (client : EndpointOf)
             → TurnDoes (listening_of terms.now) left terms.now.most client
             (told_of L.Links session links.old) (told_of L.Links session links.new)
             (DeskValue.lines (D.value desk.old)) (DeskValue.lines (D.value desk.new))
@@ -399,7 +399,7 @@ impl Linked {
             (Some (linked_value self.old))) }
         ensures may { IfOk result (λ end. end ≡ None → MayTurn (listening_of terms.now) terms.now.most (Some (linked_value self.new))) }
         ensures again { IfOk result (λ end. end ≡ Some SessionEnd.Again → ⊥) }
-        ensures lane { OnOk result (HasLane terms.now.asset.now (Some (linked_value self.new))) }
+        ensures lane { OnOk result (HasLane terms.now.site.now (Some (linked_value self.new))) }
         ensures owes { IfOk result (λ end. end ≡ None
             → Owes terms.now.moment (Some (linked_value self.old)) (Some (linked_value self.new))) }
         ensures whole { OnOk result (DeskValue.whole (D.value desk.new) ≡ true) }
@@ -409,7 +409,7 @@ impl Linked {
     {
         let earlier = self.relaying.refused();
         let answer = self.relaying.turn(
-            terms.asset,
+            terms.site,
             Directions::Separate,
             terms.most,
             buf,
@@ -426,7 +426,7 @@ impl Linked {
             }
         };
         let what = last_what(end, self.relaying.admitted(), self.relaying.refused());
-        log_line(terms.asset, self.met, self.relaying.moment(), what, desk)?;
+        log_line(terms.site, self.met, self.relaying.moment(), what, desk)?;
         Ok(Some(end))
     }
 }
@@ -478,12 +478,12 @@ impl Served {
         terms: &Terms<'_>,
         desk: &mut D,
     ) -> Result<(), WriteFault>
-        requires within { IsAssetWithin terms.now.asset.now }
+        requires within { IsSiteWithin terms.now.site.now }
         requires whole { DeskValue.whole (D.value desk.old) ≡ true }
         ensures lines { OnOk result (DeskValue.lines (D.value desk.new) ≡ with_lines (DeskValue.lines (D.value desk.old))
-            (again_line terms.now.asset.now self.now.client terms.now.moment (Phase.linked (phase_of self.now)) ∷ [])) }
+            (again_line terms.now.site.now self.now.client terms.now.moment (Phase.linked (phase_of self.now)) ∷ [])) }
         ensures fails { OnErr result (MayHaveMore
-            (again_line terms.now.asset.now self.now.client terms.now.moment (Phase.linked (phase_of self.now)) ∷ [])
+            (again_line terms.now.site.now self.now.client terms.now.moment (Phase.linked (phase_of self.now)) ∷ [])
             (DeskValue.lines (D.value desk.old)) (DeskValue.lines (D.value desk.new)) (DeskValue.line_part (D.value desk.new))) }
         ensures whole { OnOk result (DeskValue.whole (D.value desk.new) ≡ true) }
         ensures log { WritesLog (D.value desk.old) (D.value desk.new) }
@@ -491,7 +491,7 @@ impl Served {
     {
         let tally = self.counts();
         let what = last_what(SessionEnd::Again, tally.admitted, tally.refused);
-        log_line(terms.asset, self.client, terms.moment, what, desk)
+        log_line(terms.site, self.client, terms.moment, what, desk)
     }
 
     /// One turn: its controller is asked for, or its relay has its turn; and the last line where it ends.
@@ -505,17 +505,17 @@ impl Served {
         desk: &mut D,
     ) -> Result<Option<SessionEnd>, WriteFault>
         requires serves { LinksPlace.serves (L.place links.old) self.old.number ≡ true }
-        requires within { IsAssetWithin terms.now.asset.now }
+        requires within { IsSiteWithin terms.now.site.now }
         requires most { 0 < terms.now.most }
         requires may { MayTurn (listening_of terms.now) terms.now.most (Phase.linked (phase_of self.old)) }
-        requires fits { IfSome (rings_for terms.now.asset.now keeping.old terms.now.place self.old.client.address)
-            (AreRingsOf terms.now.asset.now) }
+        requires fits { IfSome (rings_for terms.now.site.now keeping.old terms.now.place self.old.client.address)
+            (AreRingsOf terms.now.site.now) }
         requires no_rest { must_rest (debt_at (Phase.linked (phase_of self.old))) terms.now.moment ≡ false }
         requires whole { DeskValue.whole (D.value desk.old) ≡ true }
         requires buffer { length buf.old ≡ MOST_BYTES }
         ensures place { L.place links.new ≡ L.place links.old }
         ensures does { IfOk result (λ end. TurnDoes (listening_of terms.now)
-            (rings_for terms.now.asset.now keeping.old terms.now.place self.old.client.address) terms.now.most self.old.client
+            (rings_for terms.now.site.now keeping.old terms.now.place self.old.client.address) terms.now.most self.old.client
             (told_of L.Links self.old.number links.old) (told_of L.Links self.old.number links.new)
             (DeskValue.lines (D.value desk.old)) (DeskValue.lines (D.value desk.new))
             (Phase.linked (phase_of self.old)) (Phase.linked (phase_of self.new)) end) }
@@ -527,7 +527,7 @@ impl Served {
         ensures owes { IfOk result (λ end. end ≡ None
             → Owes terms.now.moment (Phase.linked (phase_of self.old)) (Phase.linked (phase_of self.new))) }
         ensures again { IfOk result (λ end. end ≡ Some SessionEnd.Again → ⊥) }
-        ensures keeps { IfOk result (λ end. TurnKeeps terms.now.asset.now (seat_at self.old.number terms.now.place self.old.client)
+        ensures keeps { IfOk result (λ end. TurnKeeps terms.now.site.now (seat_at self.old.number terms.now.place self.old.client)
             terms.now.moment keeping.old keeping.new (not (is_some end)) (Phase.linked (phase_of self.old)) (Phase.linked (phase_of self.new))) }
         ensures same { self.new ≡ record self.old { linked = self.new.linked } }
         ensures whole { OnOk result (DeskValue.whole (D.value desk.new) ≡ true) }

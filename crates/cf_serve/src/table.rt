@@ -10,7 +10,7 @@ ghost use Rattle.cf_links.specs.Links.{LinksPlace};
 ghost use Rattle.cf_outside.specs.Desk.{DeskValue};
 ghost use Rattle.cf_outside.specs.Faults.{HasCause};
 ghost use Rattle.cf_outside.specs.Pair.{Entry, FaultsBy};
-ghost use Rattle.cf_policy.specs.Within.{IsAssetWithin};
+ghost use Rattle.cf_policy.specs.Site.{IsSiteWithin};
 ghost use Rattle.cf_relay.specs.declared.limit.TheConstants.{MOST_BYTES};
 ghost use Rattle.cf_serve.specs.Lending.{KeptValue};
 ghost use Rattle.cf_serve.specs.Phase.{BeginsWith, KeepsPlace, MayTurn, Phase, SeatDoes, StandsAs, TurnKeeps, debt_at, listening_at, listening_of};
@@ -37,7 +37,7 @@ use cf_audit::What;
 use cf_driver::log_line;
 use cf_links::{ArriveAnswer, Service};
 use cf_outside::{Desk, MomentAnswer};
-use cf_policy::Asset;
+use cf_policy::Site;
 use cf_relay::MOST_BYTES;
 use cf_view::{Endpoint, WriteFault};
 use std::alloc::{AllocError, Global};
@@ -45,26 +45,27 @@ use std::alloc::{AllocError, Global};
 /// How many sessions stand at most. This project's own choice.
 const SESSION_LIMIT: usize = 256;
 
-/// How many of them are of one listening place at most, so that the clients of one asset keep no others out. This project's own
+/// How many of them are of one listening place at most, so that the clients of one site keep no others out. This project's own
 /// choice.
 const PLACE_LIMIT: usize = 32;
 
-/// An asset that is served, and the address and the port of this machine at which its clients come.
-#[derive(Clone, Copy)]
+/// A site that is served, all assets behind one address and port, and the address and the port of this machine at which its clients
+/// come: there is one place for each site. Lines about the place have the name of the first asset.
+#[derive(Drop)]
 pub struct Place<'a> {
-    pub asset: &'a Asset,
+    pub site: Site<'a>,
     pub at: Endpoint,
 }
 
 /// A listening place by its number.
-pub(crate) fn place_of<'a>(places: &[Place<'a>], number: usize) -> Place<'a>
+pub(crate) fn place_of<'p, 'a>(places: &'p [Place<'a>], number: usize) -> &'p Place<'a>
     requires number { number < length places.now }
-    requires within { AllByRecursion (λ place. IsAssetWithin (PlaceOf.asset place).now) places.now }
-    ensures is { slice_get places.now number ≡ Some result }
-    ensures place { slice_get (listenings places.now) number ≡ Some (listening_at result) }
-    ensures within { IsAssetWithin result.asset.now }
+    requires within { AllByRecursion (λ place. IsSiteWithin (PlaceOf.site place)) places.now }
+    ensures is { slice_get places.now number ≡ Some result.now }
+    ensures place { slice_get (listenings places.now) number ≡ Some (listening_at result.now) }
+    ensures within { IsSiteWithin (PlaceOf.site result.now) }
 {
-    places[number]
+    &places[number]
 }
 
 /// The place behind a session that had its turn, which those behind it move up to where it does not stay.
@@ -88,11 +89,11 @@ fn turn_one<L: Service, D: Desk>(
     desk: &mut D,
 ) -> Result<bool, WriteFault>
     requires serves { LinksPlace.serves (L.place links.old) served.old.number ≡ true }
-    requires within { IsAssetWithin terms.now.asset.now }
+    requires within { IsSiteWithin terms.now.site.now }
     requires most { 0 < terms.now.most }
     requires may { MayTurn (listening_of terms.now) terms.now.most (Phase.linked (phase_of served.old)) }
-    requires fits { IfSome (rings_for terms.now.asset.now keeping.old terms.now.place served.old.client.address)
-        (AreRingsOf terms.now.asset.now) }
+    requires fits { IfSome (rings_for terms.now.site.now keeping.old terms.now.place served.old.client.address)
+        (AreRingsOf terms.now.site.now) }
     requires whole { DeskValue.whole (D.value desk.old) ≡ true }
     requires buffer { length buf.old ≡ MOST_BYTES }
     ensures over { IfOk result (λ stays. again ≡ true → stays ≡ false) }
@@ -100,7 +101,7 @@ fn turn_one<L: Service, D: Desk>(
     ensures served { OnErr result (L.place links.new ≡ L.place links.old) }
     ensures round { LinksPlace.round_faults (L.place links.new) ≡ LinksPlace.round_faults (L.place links.old) }
     ensures does { IfOk result (λ stays. (before found : RateMoments) (es : List Entry) (own : List (List ℕ))
-        → BeginsWith (rings_for terms.now.asset.now keeping.old terms.now.place served.old.client.address) before
+        → BeginsWith (rings_for terms.now.site.now keeping.old terms.now.place served.old.client.address) before
         (Phase.linked (phase_of served.old)) (Phase.linked (phase_of served.new))
         → StandsAs (listening_of terms.now) before terms.now.most es own (Phase.linked (phase_of served.old))
         → SeatDoes (listening_of terms.now) again before found terms.now.most terms.now.moment es own (L.told links.old) (L.told links.new)
@@ -110,7 +111,7 @@ fn turn_one<L: Service, D: Desk>(
         → MissesSeat (listening_of terms.now) again before terms.now.most terms.now.moment es own (L.told links.old) (L.told links.new)
         (DeskValue.lines (D.value desk.old)) (DeskValue.lines (D.value desk.new)) (DeskValue.line_part (D.value desk.new))
         (Phase.seat (phase_of served.old)) (debt_at (Phase.linked (phase_of served.old))) (Phase.linked (phase_of served.old))) }
-    ensures keeps { IfOk result (λ stays. TurnKeeps terms.now.asset.now (seat_at served.old.number terms.now.place served.old.client)
+    ensures keeps { IfOk result (λ stays. TurnKeeps terms.now.site.now (seat_at served.old.number terms.now.place served.old.client)
         terms.now.moment keeping.old keeping.new stays (Phase.linked (phase_of served.old)) (Phase.linked (phase_of served.new))) }
     ensures may { IfOk result (λ stays. stays ≡ true
         → MayTurn (listening_of terms.now) terms.now.most (Phase.linked (phase_of served.new))) }
@@ -142,14 +143,14 @@ fn turn_one<L: Service, D: Desk>(
     }
 }
 
-/// The sessions that stand, in the order in which they came, what is kept of all clients that came, what is kept of the clients of assets
+/// The sessions that stand, in the order in which they came, what is kept of all clients that came, what is kept of the clients of sites
 /// with rates between their sessions, and what is kept for the lines of a minute.
 #[derive(Drop)]
 pub(crate) struct Table {
     pub(crate) sessions: Vec<Served>,
     pub(crate) lobby: Lobby,
     pub(crate) keeping: Keeping,
-    /// Whether a client of an asset with rates was taken since the last turns.
+    /// Whether a client of a site with rates was taken since the last turns.
     pub(crate) has_new: bool,
     pub(crate) minutes: Minutes,
 }
@@ -195,28 +196,28 @@ impl Table {
             .any(|other| other.is_later(place, client, number))
     }
 
-    /// Whether the client of a session came again, where a client of an asset with rates was taken since the last turns.
-    fn came_again(&self, served: &Served, asset: &Asset) -> bool
-        ensures { result ≡ ((self.now.has_new && has_rates asset.now)
+    /// Whether the client of a session came again, where a client of a site with rates was taken since the last turns.
+    fn came_again(&self, served: &Served, site: &Site<'_>) -> bool
+        ensures { result ≡ ((self.now.has_new && has_rates site.now)
             && list_any (λ (s : ServedOf). is_later (Phase.seat (phase_of served.now)) (Phase.seat (phase_of s))) self.now.sessions.items) }
     {
         self.has_new
-            && has_rates(asset)
+            && has_rates(site)
             && self.has_later(served.place, served.client, served.number)
     }
 
-    /// Whether the client of the session of a place came again, and its asset has rates.
+    /// Whether the client of the session of a place came again, and its site has rates.
     fn must_end(&self, index: usize, places: &[Place<'_>]) -> bool
         requires index { index < length self.now.sessions.items }
         requires placed { AllByRecursion (λ (p : Phase). p.seat.place < length (listenings places.now)) (map phase_of self.now.sessions.items) }
-        requires within { AllByRecursion (λ place. IsAssetWithin (PlaceOf.asset place).now) places.now }
+        requires within { AllByRecursion (λ place. IsSiteWithin (PlaceOf.site place)) places.now }
         requires calm { self.now.has_new ≡ false → AreCalm (listenings places.now) (seats_of (map phase_of self.now.sessions.items)) }
         ensures { (served : ServedOf) → slice_get self.now.sessions.items index ≡ Some served
             → result ≡ must_end (listenings places.now) (seats_of (map phase_of self.now.sessions.items)) (Phase.seat (phase_of served)) }
     {
         let served = &self.sessions[index];
         let place = place_of(places, served.place);
-        self.came_again(served, place.asset)
+        self.came_again(served, &place.site)
     }
 
     /// Gives the session of a place its turn; it is taken out where it ends. Answers whether it stays.
@@ -238,7 +239,7 @@ impl Table {
             (map phase_of self.old.sessions.items) }
         requires again { (served : ServedOf) → slice_get self.old.sessions.items index ≡ Some served
             → again ≡ must_end (listenings places.now) (seats_of (map phase_of self.old.sessions.items)) (Phase.seat (phase_of served)) }
-        requires within { AllByRecursion (λ place. IsAssetWithin (PlaceOf.asset place).now) places.now }
+        requires within { AllByRecursion (λ place. IsSiteWithin (PlaceOf.site place)) places.now }
         requires most { 0 < most }
         requires whole { DeskValue.whole (D.value desk.old) ≡ true }
         requires buffer { length buf.old ≡ MOST_BYTES }
@@ -273,7 +274,7 @@ impl Table {
         let number = served.place;
         let place = place_of(places, number);
         let terms = Terms {
-            asset: place.asset,
+            site: &place.site,
             place: number,
             port: place.at.port,
             moment,
@@ -286,7 +287,7 @@ impl Table {
         self.minutes.add(number, before, after);
         if !stays {
             let served = self.sessions.remove(index);
-            keep_rings(served, place.asset, moment, &mut self.keeping);
+            keep_rings(served, &place.site, moment, &mut self.keeping);
         }
         Ok(stays)
     }
@@ -310,7 +311,7 @@ impl Table {
     }
 
     /// The place of the next session, from this one on, for which the links say that something can move; how many stand where there is
-    /// none. Where a client of an asset with rates was taken, none is passed over.
+    /// none. Where a client of a site with rates was taken, none is passed over.
     fn next_at<L: Service>(&self, index: usize, links: &mut L) -> usize
         requires index { index ≤ vec_len self.now.sessions }
         ensures index { index ≤ result }
@@ -345,7 +346,7 @@ impl Table {
             (map phase_of self.old.sessions.items) }
         requires few { length places.now ≤ 256 }
         requires calm { self.old.has_new ≡ false → AreCalm (listenings places.now) (seats_of (map phase_of self.old.sessions.items)) }
-        requires within { AllByRecursion (λ place. IsAssetWithin (PlaceOf.asset place).now) places.now }
+        requires within { AllByRecursion (λ place. IsSiteWithin (PlaceOf.site place)) places.now }
         requires most { 0 < most }
         requires whole { DeskValue.whole (D.value desk.old) ≡ true }
         ensures table { OnOk result (IsTable (listenings places.now) most self.new.keeping (LinksPlace.serves (L.place links.new)) self.new.lobby.next
@@ -404,11 +405,11 @@ impl Table {
         self.sessions.len() < SESSION_LIMIT && self.count_at(place) < PLACE_LIMIT
     }
 
-    /// Why a client of this address is closed as it comes to a listening place of the asset, if it is.
-    fn closing(&self, asset: &Asset, place: usize, address: u32) -> Option<Closing>
-        ensures { result ≡ closing_of asset.now (seats_of (map phase_of self.now.sessions.items)) place address }
+    /// Why a client of this address is closed as it comes to a listening place of the site, if it is.
+    fn closing(&self, site: &Site<'_>, place: usize, address: u32) -> Option<Closing>
+        ensures { result ≡ closing_of site.now (seats_of (map phase_of self.now.sessions.items)) place address }
     {
-        if !names_client(asset, address) {
+        if !names_client(site, address) {
             Some(Closing::Stranger)
         } else if self.has_place(place) {
             None
@@ -417,7 +418,7 @@ impl Table {
         }
     }
 
-    /// Takes a client at one place, where one came; one that no rule of the asset names, or for which there is no place, is closed.
+    /// Takes a client at one place, where one came; one that no rule of an asset of the site names, or for which there is no place, is closed.
     fn arrive<L: Service, D: Desk>(
         &mut self,
         place: usize,
@@ -430,7 +431,7 @@ impl Table {
         requires few { length places.now ≤ 256 }
         requires room { 256 ≤ vec_capacity self.old.sessions }
         requires free { (session : ℕ) → self.old.lobby.next ≤ session → LinksPlace.serves (L.place links.old) session ≡ false }
-        requires within { AllByRecursion (λ place. IsAssetWithin (PlaceOf.asset place).now) places.now }
+        requires within { AllByRecursion (λ place. IsSiteWithin (PlaceOf.site place)) places.now }
         requires whole { DeskValue.whole (D.value desk.old) ≡ true }
         ensures table { (most : ℕ) → IsTable (listenings places.now) most self.old.keeping (LinksPlace.serves (L.place links.old)) self.old.lobby.next
             (map phase_of self.old.sessions.items) → IsTable (listenings places.now) most self.new.keeping (LinksPlace.serves (L.place links.new))
@@ -460,26 +461,26 @@ impl Table {
             ArriveAnswer::Nobody => return Ok(()),
         };
         let at = place_of(places, place);
-        let Some(closing) = self.closing(at.asset, place, client.address) else {
-            self.take_in(place, client, at.asset);
+        let Some(closing) = self.closing(&at.site, place, client.address) else {
+            self.take_in(place, client, &at.site);
             return Ok(());
         };
         links.leave(self.lobby.next);
         match self.lobby.close(closing, place, moment, client.address) {
-            Some(came) => log_line(at.asset, client, moment, closing.line(came), desk),
+            Some(came) => log_line(&at.site, client, moment, closing.line(came), desk),
             None => Ok(()),
         }
     }
 
     /// A client has its place in the table, under the next number.
-    fn take_in(&mut self, place: usize, client: Endpoint, asset: &Asset)
+    fn take_in(&mut self, place: usize, client: Endpoint, site: &Site<'_>)
         requires room { vec_len self.old.sessions < vec_capacity self.old.sessions }
         requires next { self.old.lobby.next < 2 ^ 64 - 1 }
         ensures items { map phase_of self.new.sessions.items ≡ map phase_of self.old.sessions.items
             ++ new_phase self.old.lobby.next place client ∷ [] }
         ensures lobby { self.new.lobby ≡ record self.old.lobby { next = self.old.lobby.next + 1 } }
         ensures keeping { self.new.keeping ≡ self.old.keeping }
-        ensures has_new { self.new.has_new ≡ (self.old.has_new || has_rates asset.now) }
+        ensures has_new { self.new.has_new ≡ (self.old.has_new || has_rates site.now) }
         ensures minutes { self.new.minutes ≡ self.old.minutes }
         ensures room { vec_capacity self.old.sessions ≤ vec_capacity self.new.sessions }
     {
@@ -491,7 +492,7 @@ impl Table {
         };
         let _ = self.sessions.push(served);
         self.lobby.next += 1;
-        self.has_new = self.has_new || has_rates(asset);
+        self.has_new = self.has_new || has_rates(site);
     }
 
     /// Takes a client at each listening place that has one, or closes it.
@@ -505,7 +506,7 @@ impl Table {
         requires few { length places.now ≤ 256 }
         requires room { 256 ≤ vec_capacity self.old.sessions }
         requires free { (session : ℕ) → self.old.lobby.next ≤ session → LinksPlace.serves (L.place links.old) session ≡ false }
-        requires within { AllByRecursion (λ place. IsAssetWithin (PlaceOf.asset place).now) places.now }
+        requires within { AllByRecursion (λ place. IsSiteWithin (PlaceOf.site place)) places.now }
         requires whole { DeskValue.whole (D.value desk.old) ≡ true }
         ensures table { (most : ℕ) → IsTable (listenings places.now) most self.old.keeping (LinksPlace.serves (L.place links.old)) self.old.lobby.next
             (map phase_of self.old.sessions.items) → IsTable (listenings places.now) most self.new.keeping (LinksPlace.serves (L.place links.new))
@@ -540,7 +541,7 @@ impl Table {
         desk: &mut D,
     ) -> Result<(), WriteFault>
         requires few { length places.now ≤ 256 }
-        requires within { AllByRecursion (λ place. IsAssetWithin (PlaceOf.asset place).now) places.now }
+        requires within { AllByRecursion (λ place. IsSiteWithin (PlaceOf.site place)) places.now }
         requires whole { DeskValue.whole (D.value desk.old) ≡ true }
         ensures lines { OnOk result (DeskValue.lines (D.value desk.new) ≡ with_lines (DeskValue.lines (D.value desk.old))
             (stands_lines places.now 0 (seats_of (map phase_of self.now.sessions.items)) (tally_at self.now.minutes.tallies) moment)) }
@@ -559,7 +560,7 @@ impl Table {
                 admitted: tally.admitted,
                 refused: tally.refused,
             };
-            log_line(place.asset, place.at, moment, what, desk)?;
+            log_line(&place.site, place.at, moment, what, desk)?;
         }
         Ok(())
     }
@@ -572,7 +573,7 @@ impl Table {
         desk: &mut D,
     ) -> Result<(), WriteFault>
         requires few { length places.now ≤ 256 }
-        requires within { AllByRecursion (λ place. IsAssetWithin (PlaceOf.asset place).now) places.now }
+        requires within { AllByRecursion (λ place. IsSiteWithin (PlaceOf.site place)) places.now }
         requires whole { DeskValue.whole (D.value desk.old) ≡ true }
         ensures lines { OnOk result (DeskValue.lines (D.value desk.new) ≡ with_lines (DeskValue.lines (D.value desk.old))
             (lines_at places.now self.old.minutes.last (seats_of (map phase_of self.old.sessions.items))
@@ -612,7 +613,7 @@ impl Table {
         requires table { IsTable (listenings places.now) most self.old.keeping (LinksPlace.serves (L.place links.old)) self.old.lobby.next
             (map phase_of self.old.sessions.items) }
         requires calm { self.old.has_new ≡ false → AreCalm (listenings places.now) (seats_of (map phase_of self.old.sessions.items)) }
-        requires within { AllByRecursion (λ place. IsAssetWithin (PlaceOf.asset place).now) places.now }
+        requires within { AllByRecursion (λ place. IsSiteWithin (PlaceOf.site place)) places.now }
         requires most { 0 < most }
         requires whole { DeskValue.whole (D.value desk.old) ≡ true }
         ensures table { OnOk result (IsTable (listenings places.now) most self.new.keeping (LinksPlace.serves (L.place links.new)) self.new.lobby.next
@@ -676,7 +677,7 @@ impl Table {
         requires table { IsTable (listenings places.now) most self.old.keeping (LinksPlace.serves (L.place links.old)) self.old.lobby.next
             (map phase_of self.old.sessions.items) }
         requires calm { self.old.has_new ≡ false → AreCalm (listenings places.now) (seats_of (map phase_of self.old.sessions.items)) }
-        requires within { AllByRecursion (λ place. IsAssetWithin (PlaceOf.asset place).now) places.now }
+        requires within { AllByRecursion (λ place. IsSiteWithin (PlaceOf.site place)) places.now }
         requires most { 0 < most }
         requires whole { DeskValue.whole (D.value desk.old) ≡ true }
         ensures table { IfWhole result (IsTable (listenings places.now) most self.new.keeping (LinksPlace.serves (L.place links.new)) self.new.lobby.next

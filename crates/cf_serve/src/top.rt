@@ -10,7 +10,7 @@ ghost use Rattle.cf_outside.specs.Faults.{HasCause};
 ghost use Rattle.cf_outside.specs.Files.{KeepsOthers, content_gone_on};
 ghost use Rattle.cf_outside.specs.Lines.{file_lines};
 ghost use Rattle.cf_outside.specs.Pair.{FaultsBy};
-ghost use Rattle.cf_policy.specs.Within.{IsAssetWithin};
+ghost use Rattle.cf_policy.specs.Site.{IsSiteWithin};
 ghost use Rattle.cf_serve.specs.Broken.{Breaks, BreaksLog};
 ghost use Rattle.cf_serve.specs.Served.{HasMade, OpensDo, Serves};
 ghost use Rattle.cf_serve.specs.Table.{IfWhole};
@@ -31,7 +31,7 @@ fn open_places<L: Service, D: Desk>(
     desk: &mut D,
 ) -> Result<(), ServeFault>
     requires few { length places.now ≤ 256 }
-    requires within { AllByRecursion (λ place. IsAssetWithin (PlaceOf.asset place).now) places.now }
+    requires within { AllByRecursion (λ place. IsSiteWithin (PlaceOf.site place)) places.now }
     requires whole { DeskValue.whole (D.value desk.old) ≡ true }
     ensures served { LinksPlace.serves (L.place links.new) ≡ LinksPlace.serves (L.place links.old) }
     ensures all { OnOk result (OpensDo places.now (length places.now) (L.told links.old) (L.told links.new)
@@ -54,7 +54,7 @@ fn open_places<L: Service, D: Desk>(
             MomentAnswer::Told(moment) => moment,
             MomentAnswer::Failed => return Err(ServeFault::Loop),
         };
-        match log_line(place.asset, place.at, moment, What::Listen, desk) {
+        match log_line(&place.site, place.at, moment, What::Listen, desk) {
             Ok(()) => {}
             Err(_) => return Err(ServeFault::Write),
         }
@@ -62,7 +62,7 @@ fn open_places<L: Service, D: Desk>(
     Ok(())
 }
 
-/// Serves the clients that come at some places, each session between its client and the controller of its asset, until a line of the
+/// Serves the clients that come at some places, each session between its client and the controller of its site, until a line of the
 /// log fails, or a place cannot be listened at, or the wait fails, or 2^64 - 1 rounds were made. Each line goes to the desk as it comes.
 /// A session in which nothing moves goes after twice `seconds` answers `Idle` of its own in a row. At most 256 sessions stand, and 32 of
 /// one place. `seconds` is from 1 to 1,000,000; there are at most 256 places. Sessions that still stand are left as it stops; behind a
@@ -75,7 +75,7 @@ pub fn serve_desk<L: Service, D: Desk>(
     desk: &mut D,
 ) -> Result<(), ServeFault>
     requires few { length places.now ≤ 256 }
-    requires within { AllByRecursion (λ place. IsAssetWithin (PlaceOf.asset place).now) places.now }
+    requires within { AllByRecursion (λ place. IsSiteWithin (PlaceOf.site place)) places.now }
     requires seconds { (1 ≤ seconds) × (seconds ≤ 1000000) }
     requires free { (session : ℕ) → LinksPlace.serves (L.place links.old) session ≡ false }
     requires whole { DeskValue.whole (D.value desk.old) ≡ true }
@@ -117,7 +117,7 @@ pub fn serve<L: Service, F: Files>(
     files: &mut F,
 ) -> Result<(), ServeFault>
     requires few { length places.now ≤ 256 }
-    requires within { AllByRecursion (λ place. IsAssetWithin (PlaceOf.asset place).now) places.now }
+    requires within { AllByRecursion (λ place. IsSiteWithin (PlaceOf.site place)) places.now }
     requires seconds { (1 ≤ seconds) × (seconds ≤ 1000000) }
     requires free { (session : ℕ) → LinksPlace.serves (L.place links.old) session ≡ false }
     ensures serves { IfWhole result (Serves places.now (2 * seconds) (HasMade result) (L.told links.old) (L.told links.new)

@@ -2,7 +2,8 @@
 //! is compared with it as text. What is wanted was written by hand, from the pages on the log and on the service.
 ghost use Rattle.std.specs.Prelude.{◌≡◌, false, ℕ};
 ghost use Rattle.cf_links.specs.MemoryLinks.{serves_in};
-ghost use Rattle.cf_policy.specs.Within.{IsAssetWithin, IsWithin};
+ghost use Rattle.cf_policy.specs.Site.{IsSiteWithin};
+ghost use Rattle.cf_policy.specs.Within.{IsWithin};
 
 mod door;
 mod flood;
@@ -13,10 +14,11 @@ mod rates;
 mod runs;
 mod sessions;
 mod set_back;
+mod sites;
 
 use cf_links::{LinksTold, MemoryClient, MemoryLinks};
 use cf_outside::{Fail as Scripted, MemoryFiles, MemoryPair, Told};
-use cf_policy::{Asset, Policy};
+use cf_policy::{Policy, Site, site_at, sites_are_whole};
 use cf_policylang::read_policy;
 use cf_samples::rows::{hex, octets};
 use cf_serve::{Place, ServeFault, serve};
@@ -177,7 +179,7 @@ fn fail_at(rt: &impl Abort, pair: &mut MemoryPair, call: u64) {
         .expect(rt, "memory");
 }
 
-/// The client of a row, at the place of its asset.
+/// The client of a row, at the place of the site of its asset.
 fn client_of(rt: &impl Abort, alloc: Global, row: &str) -> MemoryClient {
     let place = match field(row, "asset:") {
         "pump" => 0,
@@ -223,17 +225,20 @@ fn policy(rt: &impl Abort, alloc: Global) -> Policy
     read_policy(alloc, POLICY.as_bytes()).expect(rt, "policy")
 }
 
-fn asset_named<'a>(rt: &impl Abort, policy: &'a Policy, name: &str) -> &'a Asset
+/// The site of the asset with a name.
+fn site_named<'a>(rt: &impl Abort, policy: &'a Policy, name: &str) -> Site<'a>
     requires { IsWithin policy.now }
-    ensures { IsAssetWithin result.now }
+    ensures { IsSiteWithin result }
 {
+    sites_are_whole();
     let mut assets = policy.assets.as_slice().iter();
-    assets
+    let asset = assets
         .find(|asset| asset.name.as_str() == name)
-        .expect(rt, name)
+        .expect(rt, name);
+    site_at(policy.assets.as_slice(), &asset.endpoint).expect(rt, name)
 }
 
-/// Serves the assets `pump`, `rtu` and `sub` at 10.0.0.1, ports 5020 to 5022.
+/// Serves the sites of `pump`, `rtu` and `sub`, each of one asset, at 10.0.0.1, ports 5020 to 5022.
 fn serve_three(
     rt: &impl Abort,
     alloc: Global,
@@ -246,15 +251,15 @@ fn serve_three(
 {
     let places = [
         Place {
-            asset: asset_named(rt, policy, "pump"),
+            site: site_named(rt, policy, "pump"),
             at: host(1, 5020),
         },
         Place {
-            asset: asset_named(rt, policy, "rtu"),
+            site: site_named(rt, policy, "rtu"),
             at: host(1, 5021),
         },
         Place {
-            asset: asset_named(rt, policy, "sub"),
+            site: site_named(rt, policy, "sub"),
             at: host(1, 5022),
         },
     ];

@@ -105,8 +105,8 @@ module _ (begin : EventsBegin) (f : Flow) (tick : ℕ) (s : SessionValue) (m : I
       parts = record {
         client = client_first;
         controller = stands;
-        lane = subst (λ xs. IsLaneAfter f.asset (client_of f) s.lane (record { client = xs; controller = c2.window.pending }) [] no_work) (sym (no_pending s.client.window m.client_base))
-            (subst (λ xs. IsLaneAfter f.asset (client_of f) s.lane (record { client = []; controller = xs }) [] no_work) (sym (same ∙ no_pending s.controller.window m.controller_base)) m.lane);
+        lane = subst (λ xs. IsLaneAfter f.site (client_of f) s.lane (record { client = xs; controller = c2.window.pending }) [] no_work) (sym (no_pending s.client.window m.client_base))
+            (subst (λ xs. IsLaneAfter f.site (client_of f) s.lane (record { client = []; controller = xs }) [] no_work) (sym (same ∙ no_pending s.controller.window m.controller_base)) m.lane);
         to_client = m.client_list;
         to_controller = list;
         taken = record { client = none_taken; controller = none_taken };

@@ -5,13 +5,13 @@ use Rattle.cf_lane.specs.Follows.{Rests}
 use Rattle.cf_lane.specs.Handled.{Knows, LaneValue, state}
 use Rattle.cf_lane.specs.History.{Element}
 use Rattle.cf_outq.specs.SendQueue.{IsQueueOf, Queue}
-use Rattle.cf_policy.specs.declared.Asset.{Asset}
+use Rattle.cf_policy.specs.Site.{SiteValue}
 use Rattle.cf_view.specs.declared.Endpoint.{Endpoint}
 use Rattle.cf_session.specs.Parts.{IsLaneAfter}
 use Rattle.cf_session.specs.Work.{Work}
 
-module _ (asset : Asset) (client : Endpoint) (lane : LaneValue) (r : Rests) (h : List Element) (w : Work) (c k : Queue) (l : IsLaneAfter asset client lane r h w) (qc : IsQueueOf c w.to_client) (qk : IsQueueOf k w.to_controller) where
-  knows : Knows asset none_before (state lane c k None) l.works.judged
+module _ (site : SiteValue) (client : Endpoint) (lane : LaneValue) (r : Rests) (h : List Element) (w : Work) (c k : Queue) (l : IsLaneAfter site client lane r h w) (qc : IsQueueOf c w.to_client) (qk : IsQueueOf k w.to_controller) where
+  knows : Knows site none_before (state lane c k None) l.works.judged
   knows = l.knows c k None (qc.ended ∙ ap (λ (x : Work). x.to_client.ended) l.works.is_work) (qk.ended ∙ ap (λ (x : Work). x.to_controller.ended) l.works.is_work)
 
   pub admitted_is : lane.admitted ≡ w.admitted

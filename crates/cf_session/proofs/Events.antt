@@ -44,7 +44,7 @@ module _ (f : Flow) (limit : ℕ) (es : List SessionEvent) (t : SessionEvent) (n
       (right_c : IsRight (controller_ends f) (controllers es) the_event.controller) (right_d : IsRight (client_ends f) (clients es) the_event.client)
       (are_taken : AreTaken f (the_event ∷ es))
       (unended : ended_of s (history es) ≡ true → letter_count letters ≡ 0)
-      (works : Works f.asset (client_of f) (history (the_event ∷ es)) w)
+      (works : Works f.site (client_of f) (history (the_event ∷ es)) w)
       (cut : why ≡ packet_cut f limit es the_event)
       (ends_c : EndsPacket why w.to_controller (has_room f (the_event ∷ es)) ending_c) (ends_d : EndsPacket why w.to_client (has_room f (the_event ∷ es)) ending_d) where
     pub heard_is_packet : IsPacket f limit es t s p the_event

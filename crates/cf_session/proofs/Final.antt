@@ -14,7 +14,7 @@ use Rattle.cf_leg.specs.declared.LegAnswer.{LegAnswer}
 use Rattle.cf_outq.specs.SendQueue.{IsQueueOf}
 use Rattle.cf_outside.specs.Desk.{DeskValue}
 use Rattle.cf_packet.specs.Packet.{PacketValue}
-use Rattle.cf_policy.specs.declared.Asset.{Asset}
+use Rattle.cf_policy.specs.Site.{SiteValue}
 use Rattle.cf_rebuild.specs.ReceiveWindow.{base_of}
 use Rattle.cf_stream.specs.FirstCopy.{IsTaken, first_copy}
 use Rattle.cf_stream.specs.Stream.{Stream, letter_count}
@@ -40,8 +40,8 @@ use Rattle.cf_session.specs.Work.{Work, Works}
 abbrev pub BaseCounts : Type 0
 BaseCounts = (leg : LegValue) (m : Marks) (xs : List LegEvent) (st : Stream) → IsLegOf leg m xs → IsTaken (first_copy (offers leg.ends.role xs)) st → base_of leg.window ≡ letter_count st
 
-pub works_of : (asset : Asset) (client : Endpoint) (lane : LaneValue) (r : _) (h : _) (w : Work) → IsLaneAfter asset client lane r h w → Works asset client h w
-works_of asset client lane r h w l = l.works
+pub works_of : (site : SiteValue) (client : Endpoint) (lane : LaneValue) (r : _) (h : _) (w : Work) → IsLaneAfter site client lane r h w → Works site client h w
+works_of site client lane r h w l = l.works
 
 abbrev quiet : Bool → Came → PacketValue → List PacketValue
 quiet b came rst = greeted_by came ++ cond b [] (rst ∷ [])
@@ -55,9 +55,9 @@ pub record HeardAt (f : Flow) (es : List SessionEvent) (t : SessionEvent) (s0 : 
   pub law : BaseCounts
   pub is_now : moment t.client ≡ now
 
-pub heard_at : {f : Flow} {es : List SessionEvent} {t : SessionEvent} {s0 : SessionValue} {s : Side} {p : PacketValue} {s1 : SessionValue} {given : LegAnswer} {cut : Option CutReason} {t0 t1 : Told} {now : ℕ} {asset : Asset} →
-    ((f : Flow) (es : List SessionEvent) (t : SessionEvent) → f.asset ≡ asset → IsHalf t → moment t.client ≡ now → AreParts f es t s0 → HeardBy f es t s p s1 given cut t0 t1) →
-    (s1.limit ≡ s0.limit) × (s1.source ≡ s0.source) × (s1.closed ≡ s0.closed) → BaseCounts → f.asset ≡ asset → IsSessionOf f es t s0 → IsTick f es t.client.tick t → moment t.client ≡ now →
+pub heard_at : {f : Flow} {es : List SessionEvent} {t : SessionEvent} {s0 : SessionValue} {s : Side} {p : PacketValue} {s1 : SessionValue} {given : LegAnswer} {cut : Option CutReason} {t0 t1 : Told} {now : ℕ} {site : SiteValue} →
+    ((f : Flow) (es : List SessionEvent) (t : SessionEvent) → f.site ≡ site → IsHalf t → moment t.client ≡ now → AreParts f es t s0 → HeardBy f es t s p s1 given cut t0 t1) →
+    (s1.limit ≡ s0.limit) × (s1.source ≡ s0.source) × (s1.closed ≡ s0.closed) → BaseCounts → f.site ≡ site → IsSessionOf f es t s0 → IsTick f es t.client.tick t → moment t.client ≡ now →
     HeardAt f es t s0 s p s1 given cut t0 t1 now
 heard_at {f} {es} {t} {s0} hears same law is stands tick at = record {
   stands = stands;
@@ -133,7 +133,7 @@ module _ {f : Flow} {es : List SessionEvent} {t : SessionEvent} {s0 : SessionVal
     cut_packet = heard_is_packet f s0.limit es t tick.fed s p h.letters h.work (Some r) (came_controller s p) (came_first s p) (Cut cuts.to_controller) (Cut cuts.to_client)
         refl (came_cut f es t s p (Cut cuts.to_controller)) cuts.controller_right cuts.client_right
         (are_taken f es t s p s1 given cut t0 t1 h (Some r) None (inl refl) (Cut cuts.to_controller) (Cut cuts.to_client)) h.unended
-        (works_of f.asset (client_of f) s1.lane _ _ h.work h.parts.lane) cut_here (cuts.to_controller, refl) (cuts.to_client, refl)
+        (works_of f.site (client_of f) s1.lane _ _ h.work h.parts.lane) cut_here (cuts.to_controller, refl) (cuts.to_client, refl)
 
     pub last_cut : last_line f es cut_event (Some r) ≡ line f now (CutLine r) ∷ []
     last_cut = ap (λ b. cond b [] (line f (moment t.client) (CutLine r) ∷ [])) loud ∙ ap (λ n. line f n (CutLine r) ∷ []) is_now
@@ -155,8 +155,8 @@ module _ {f : Flow} {es : List SessionEvent} {t : SessionEvent} {s0 : SessionVal
 
     pub counts_cut : (y : SessionValue) → y.lane ≡ s1.lane → CountsAs cut_event y
     counts_cut y same = record {
-      admitted = ap (λ (l : LaneValue). l.admitted) same ∙ admitted_is f.asset (client_of f) s1.lane _ _ h.work s1.to_client s1.to_controller h.parts.lane h.parts.to_client h.parts.to_controller;
-      refused = ap (λ (l : LaneValue). l.refused) same ∙ refused_is f.asset (client_of f) s1.lane _ _ h.work s1.to_client s1.to_controller h.parts.lane h.parts.to_client h.parts.to_controller;
+      admitted = ap (λ (l : LaneValue). l.admitted) same ∙ admitted_is f.site (client_of f) s1.lane _ _ h.work s1.to_client s1.to_controller h.parts.lane h.parts.to_client h.parts.to_controller;
+      refused = ap (λ (l : LaneValue). l.refused) same ∙ refused_is f.site (client_of f) s1.lane _ _ h.work s1.to_client s1.to_controller h.parts.lane h.parts.to_client h.parts.to_controller;
     }
 
   -- ---- the session goes on
@@ -174,7 +174,7 @@ module _ {f : Flow} {es : List SessionEvent} {t : SessionEvent} {s0 : SessionVal
       let room = room_is f es t s p s1 given cut t0 t1 h None number (inr refl) x y in
       heard_is_packet f s0.limit es t tick.fed s p h.letters h.work None (came_controller s p) (came_greeted f number (came_first s p)) x y
       refl (came_due f es t s p given x h.answer_is) right_c right_d
-      (are_taken f es t s p s1 given cut t0 t1 h None number (inr refl) x y) h.unended (works_of f.asset (client_of f) s1.lane _ _ h.work h.parts.lane)
+      (are_taken f es t s p s1 given cut t0 t1 h None number (inr refl) x y) h.unended (works_of f.site (client_of f) s1.lane _ _ h.work h.parts.lane)
       (because ∙ cut_is f es t s p s1 given cut t0 t1 h None number (inr refl) x y law s1.limit (is_some s1.closed) was ∙ ap (λ n. packet_cut f n es (spoken_event outs_c outs_d)) same.0)
       (outs_c, ap (λ b. Spoke h.work.to_controller b outs_c) room) (outs_d, ap (λ b. Spoke h.work.to_client b outs_d) room)
 
@@ -189,7 +189,7 @@ module _ {f : Flow} {es : List SessionEvent} {t : SessionEvent} {s0 : SessionVal
       (says : SaysBoth f now number half_heard.controller (controllers es) half_heard.client (clients es) h.work.to_client h.work.to_controller (is_roomy s1) s2 t1 t2)
       (only : OnlySpeaks s1 s2) (queue_c : IsQueueOf s2.to_client h.work.to_client) (queue_k : IsQueueOf s2.to_controller h.work.to_controller)
       (others : s3 ≡ record s2 { closed = s3.closed }) (closing : s3.closed ≡ option_or s2.closed (cond (is_done_now s2) (Some now) None))
-      (asset : Asset) (is : f.asset ≡ asset) (put : t3 ≡ with_both t2 [] (closing_lines asset s2 now)) where
+      (site : SiteValue) (is : f.site ≡ site) (put : t3 ≡ with_both t2 [] (closing_lines site s2 now)) where
     abbrev pub live_event : SessionEvent
     live_event = spoken_event says.outs_c says.outs_d
 
@@ -218,7 +218,7 @@ module _ {f : Flow} {es : List SessionEvent} {t : SessionEvent} {s0 : SessionVal
     lane_two : s2.lane ≡ s1.lane
     lane_two = ap (λ (x : SessionValue). x.lane) only.rest
 
-    pub close_line : closing_lines asset s2 now ≡ last_line f es live_event None
+    pub close_line : closing_lines site s2 now ≡ last_line f es live_event None
     close_line =
         rw (
           done_closed,
@@ -227,8 +227,8 @@ module _ {f : Flow} {es : List SessionEvent} {t : SessionEvent} {s0 : SessionVal
           source_two,
           ← is_now,
           lane_two,
-          admitted_is f.asset (client_of f) s1.lane _ _ h.work s1.to_client s1.to_controller h.parts.lane h.parts.to_client h.parts.to_controller,
-          refused_is f.asset (client_of f) s1.lane _ _ h.work s1.to_client s1.to_controller h.parts.lane h.parts.to_client h.parts.to_controller,
+          admitted_is f.site (client_of f) s1.lane _ _ h.work s1.to_client s1.to_controller h.parts.lane h.parts.to_client h.parts.to_controller,
+          refused_is f.site (client_of f) s1.lane _ _ h.work s1.to_client s1.to_controller h.parts.lane h.parts.to_client h.parts.to_controller,
         ) refl
 
     -- ---- what is told
@@ -239,9 +239,9 @@ module _ {f : Flow} {es : List SessionEvent} {t : SessionEvent} {s0 : SessionVal
     pub hears_live : Hears f s0.limit es t s p t0 t3 live_event
     hears_live = record {
       is_packet = live_packet;
-      told = then_told t0 t1 t3 [] (at now outs ++ []) h.lines ([] ++ closing_lines asset s2 now) h.told (then_told t1 t2 t3 (at now outs) [] [] (closing_lines asset s2 now) says.told put)
-          ∙ ap (λ xs. with_both t0 xs (h.lines ++ closing_lines asset s2 now)) (append-nil (at now outs) ∙ spoken_sent says.outs_c says.outs_d)
-          ∙ ap (λ xs. with_both t0 (sent_second live_event) (xs ++ closing_lines asset s2 now)) (sym (lines_are live_event refl))
+      told = then_told t0 t1 t3 [] (at now outs ++ []) h.lines ([] ++ closing_lines site s2 now) h.told (then_told t1 t2 t3 (at now outs) [] [] (closing_lines site s2 now) says.told put)
+          ∙ ap (λ xs. with_both t0 xs (h.lines ++ closing_lines site s2 now)) (append-nil (at now outs) ∙ spoken_sent says.outs_c says.outs_d)
+          ∙ ap (λ xs. with_both t0 (sent_second live_event) (xs ++ closing_lines site s2 now)) (sym (lines_are live_event refl))
           ∙ ap (λ xs. with_both t0 (sent_second live_event) ((first_line f es live_event ++ new_lines es live_event) ++ xs)) close_line;
     }
 

@@ -13,7 +13,7 @@ use Rattle.cf_leg.specs.declared.LegAnswer.{LegAnswer}
 use Rattle.cf_outq.specs.SendQueue.{IsQueueOf}
 use Rattle.cf_outside.specs.Desk.{DeskValue}
 use Rattle.cf_packet.specs.Packet.{PacketValue}
-use Rattle.cf_policy.specs.declared.Asset.{Asset}
+use Rattle.cf_policy.specs.Site.{SiteValue}
 use Rattle.cf_stream.specs.FirstCopy.{IsTaken, first_copy}
 use Rattle.cf_view.specs.declared.Side.{Side}
 use Rattle.cf_view.specs.declared.Side.TheVariants as side
@@ -155,24 +155,24 @@ module _ {f : Flow} {es : List SessionEvent} {t : SessionEvent} {s0 : SessionVal
     module _ (s2 : SessionValue) (d2 d3 : DeskValue)
         (says : SaysBoth f now number (half_heard heard).controller (controllers es) (half_heard heard).client (clients es) h.work.to_client h.work.to_controller roomy s2 (told d1) (told d2))
         (only : OnlySpeaks s1 s2) (queue_c : IsQueueOf s2.to_client h.work.to_client) (queue_k : IsQueueOf s2.to_controller h.work.to_controller)
-        (asset : Asset) (is : f.asset ≡ asset) (more : EmitsAndLogs d1 d2 false) (x : BreaksAmid [] (closing_lines asset s2 now) d2 d3) where
+        (site : SiteValue) (is : f.site ≡ site) (more : EmitsAndLogs d1 d2 false) (x : BreaksAmid [] (closing_lines site s2 now) d2 d3) where
       abbrev s3 : SessionValue
       s3 = record s2 { closed = option_or s2.closed (cond (is_done_now s2) (Some now) None) }
 
       abbrev t3 : Told
-      t3 = with_both (told d2) [] (closing_lines asset s2 now)
+      t3 = with_both (told d2) [] (closing_lines site s2 now)
 
       pub close_failed : BreaksPacket f s0.limit es t s p d0 d3
       close_failed =
-          let e = live_event heard because uncut s2 s3 (told d2) t3 says only queue_c queue_k refl refl asset is refl in
+          let e = live_event heard because uncut s2 s3 (told d2) t3 says only queue_c queue_k refl refl site is refl in
           let outs = at now (says.outs_c ++ (greetings f number ++ says.outs_d)) in
           record {
             event = e;
-            is_packet = live_packet heard because uncut s2 s3 (told d2) t3 says only queue_c queue_k refl refl asset is refl;
-            amid = amid_as (outs ++ []) (sent_second e) (h.lines ++ closing_lines asset s2 now) _ d0 d3
+            is_packet = live_packet heard because uncut s2 s3 (told d2) t3 says only queue_c queue_k refl refl site is refl;
+            amid = amid_as (outs ++ []) (sent_second e) (h.lines ++ closing_lines site s2 now) _ d0 d3
                 (append-nil outs ∙ spoken_sent heard says.outs_c says.outs_d)
-                (ap (λ xs. xs ++ closing_lines asset s2 now) (sym (lines_are heard e refl))
-                ∙ ap (λ xs. (first_line f es e ++ new_lines es e) ++ xs) (close_line heard because uncut s2 s3 (told d2) t3 says only queue_c queue_k refl refl asset is refl))
-                (amid_after [] (outs ++ []) h.lines (closing_lines asset s2 now) d0 d1 d3 h.told frame
-                (amid_after outs [] [] (closing_lines asset s2 now) d1 d2 d3 says.told more x));
+                (ap (λ xs. xs ++ closing_lines site s2 now) (sym (lines_are heard e refl))
+                ∙ ap (λ xs. (first_line f es e ++ new_lines es e) ++ xs) (close_line heard because uncut s2 s3 (told d2) t3 says only queue_c queue_k refl refl site is refl))
+                (amid_after [] (outs ++ []) h.lines (closing_lines site s2 now) d0 d1 d3 h.told frame
+                (amid_after outs [] [] (closing_lines site s2 now) d1 d2 d3 says.told more x));
           }

@@ -14,7 +14,7 @@ use Rattle.cf_leg.specs.Heard.{opening}
 use Rattle.cf_leg.specs.declared.Ends.{Ends}
 use Rattle.cf_leg.specs.declared.Role.{Role}
 use Rattle.cf_packet.specs.Packet.{PacketValue}
-use Rattle.cf_policy.specs.declared.Asset.{Asset}
+use Rattle.cf_policy.specs.Site.{SiteValue}
 use Rattle.cf_stream.proofs.Taken.{same_taken}
 use Rattle.cf_stream.specs.Stream.{Stream}
 use Rattle.cf_view.specs.declared.Endpoint.{Endpoint}
@@ -73,10 +73,10 @@ legs_fixed law f limit es h =
     (leg_fixed law (controller_ends f) (controllers es) (legs_right f limit es side.Controller h), leg_fixed law (client_ends f) (clients es) (legs_right f limit es side.Client h))
 
 abbrev pub WorkIsOne : Type 0
-WorkIsOne = (asset : Asset) (client : Endpoint) (h : List Element) (w v : Work) → Works asset client h w → Works asset client h v → w ≡ v
+WorkIsOne = (site : SiteValue) (client : Endpoint) (h : List Element) (w v : Work) → Works site client h w → Works site client h v → w ≡ v
 
 pub work_is_one : HasOneJudgement → WorkIsOne
-work_is_one one asset client h w v a b = a.is_work ∙ ap (work_by asset client) (one asset (newcomer client.address) h a.judged b.judged a.are_judged b.are_judged) ∙ sym b.is_work
+work_is_one one site client h w v a b = a.is_work ∙ ap (work_by site client) (one site (newcomer client.address) h a.judged b.judged a.are_judged b.are_judged) ∙ sym b.is_work
 
 same_event : (a b : SessionEvent) → a.controller ≡ b.controller → a.client ≡ b.client → a.fed ≡ b.fed → a.work ≡ b.work → a.cut ≡ b.cut → a ≡ b
 same_event a b p q r s t = rw (p, q, r, s, t) refl
@@ -159,7 +159,7 @@ module _ (one : WorkIsOne) (f : Flow) (limit : ℕ) (es : List SessionEvent) (le
       (own_taken f limit es before p a b s h g client_fired controller_fired)
 
   work_same : a.work ≡ b.work
-  work_same = one f.asset (client_of f) (history (b ∷ es)) a.work b.work (subst (λ x. Works f.asset (client_of f) (history es ++ x) a.work) fed_same h.work) g.work
+  work_same = one f.site (client_of f) (history (b ∷ es)) a.work b.work (subst (λ x. Works f.site (client_of f) (history es ++ x) a.work) fed_same h.work) g.work
 
   cut_same : a.cut ≡ b.cut
   cut_same =

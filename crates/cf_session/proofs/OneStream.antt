@@ -20,7 +20,7 @@ use Rattle.cf_leg.specs.OneStream.{CarryAll, Grows, IsOneStream}
 use Rattle.cf_leg.specs.Told.{letters_sent, letters_sent_by, own_number}
 use Rattle.cf_leg.specs.declared.Role.{Role}
 use Rattle.cf_packet.specs.Packet.{PacketValue}
-use Rattle.cf_policy.specs.declared.Asset.{Asset}
+use Rattle.cf_policy.specs.Site.{SiteValue}
 use Rattle.cf_policy.specs.declared.Protocol.{Protocol}
 use Rattle.cf_stream.proofs.Extends.{extends_both, extends_none}
 use Rattle.cf_stream.proofs.Taken.{same_stream}
@@ -76,24 +76,24 @@ placed_end : (s : Side) (js : List Judged) → list_any (is_end s) (map place_of
 placed_end s [] = refl
 placed_end s (j ∷ js) = ap (λ b. ends s j.item || b) (placed_end s js)
 
-judged_end : (asset : Asset) (client : Caller) (s : Side) (h : List Element) (js : List Judged) → AreJudged asset client h js → has_ended s js ≡ true → ended_of s h ≡ true
-judged_end asset client s h js a e =
-    items_end asset.protocol s [] h a.items a.are_items
+judged_end : (site : SiteValue) (client : Caller) (s : Side) (h : List Element) (js : List Judged) → AreJudged site client h js → has_ended s js ≡ true → ended_of s h ≡ true
+judged_end site client s h js a e =
+    items_end site.first.protocol s [] h a.items a.are_items
     (ap (list_any (is_end s)) a.are_first ∙ list_any-append (is_end s) (map place_of js) a.dropped
     ∙ or_left (list_any (is_end s) (map place_of js)) (list_any (is_end s) a.dropped) (placed_end s js ∙ e))
 
 -- ---- the streams of the lane go on
 
-works_none : (asset : Asset) (client : Endpoint) → Works asset client [] no_work
-works_none asset client = record { judged = []; are_judged = record { items = []; are_items = refl; dropped = []; are_first = refl; goes_on = refl; fates = tt }; is_work = refl }
+works_none : (site : SiteValue) (client : Endpoint) → Works site client [] no_work
+works_none site client = record { judged = []; are_judged = record { items = []; are_items = refl; dropped = []; are_first = refl; goes_on = refl; fates = tt }; is_work = refl }
 
-works_one : (f : Flow) (limit : ℕ) (es : List SessionEvent) (e : SessionEvent) → IsEvent f limit es e → Works f.asset (client_of f) (history es) (work_of es) → Works f.asset (client_of f) (history (e ∷ es)) e.work
+works_one : (f : Flow) (limit : ℕ) (es : List SessionEvent) (e : SessionEvent) → IsEvent f limit es e → Works f.site (client_of f) (history es) (work_of es) → Works f.site (client_of f) (history (e ∷ es)) e.work
 works_one f limit [] e h w = rw (h.fed, h.work) w
 works_one f limit (d ∷ es) e (inl h) w = rw (h.fed, append-nil (history (d ∷ es)), h.work) w
 works_one f limit (d ∷ es) e (inr h) w = h.5.work
 
-pub works_of : (f : Flow) (limit : ℕ) (es : List SessionEvent) → AreEvents f limit es → Works f.asset (client_of f) (history es) (work_of es)
-works_of f limit [] h = works_none f.asset (client_of f)
+pub works_of : (f : Flow) (limit : ℕ) (es : List SessionEvent) → AreEvents f limit es → Works f.site (client_of f) (history es) (work_of es)
+works_of f limit [] h = works_none f.site (client_of f)
 works_of f limit (e ∷ es) h = works_one f limit es e h.0 (works_of f limit es h.1)
 
 -- a side whose End was taken brings no more bytes
@@ -108,32 +108,32 @@ fed_quiet f limit [] e t h d = ap (bytes_of t) h.fed
 fed_quiet f limit (d0 ∷ es) e t (inl h) d = ap (bytes_of t) h.fed
 fed_quiet f limit (d0 ∷ es) e t (inr h) d = quiet_side h.1 t _ h.5.fed.0 (history (d0 ∷ es)) e.fed h.5.fed.1 h.5.unended d
 
-outputs_on : (asset : Asset) (client : Endpoint) (to : Side) (js ks : List Judged) → (g : GoOn asset client js ks) → outputs asset to [] ks ≡ outputs asset to [] js ++ outputs asset to js g.ms
-outputs_on asset client side.Client js ks g = g.to_client
-outputs_on asset client side.Controller js ks g = g.to_controller
+outputs_on : (site : SiteValue) (client : Endpoint) (to : Side) (js ks : List Judged) → (g : GoOn site client js ks) → outputs site to [] ks ≡ outputs site to [] js ++ outputs site to js g.ms
+outputs_on site client side.Client js ks g = g.to_client
+outputs_on site client side.Controller js ks g = g.to_controller
 
 -- the lane's stream to a side
 abbrev pub stream_of : Side → Work → Stream
 stream_of side.Client w = w.to_client
 stream_of side.Controller w = w.to_controller
 
-is_stream : (to : Side) (asset : Asset) (client : Endpoint) {h : List Element} (w : Work) (a : Works asset client h w) → stream_of to w ≡ stream_to asset to a.judged
-is_stream side.Client asset client w a = ap (λ (x : Work). x.to_client) a.is_work
-is_stream side.Controller asset client w a = ap (λ (x : Work). x.to_controller) a.is_work
+is_stream : (to : Side) (site : SiteValue) (client : Endpoint) {h : List Element} (w : Work) (a : Works site client h w) → stream_of to w ≡ stream_to site to a.judged
+is_stream side.Client site client w a = ap (λ (x : Work). x.to_client) a.is_work
+is_stream side.Controller site client w a = ap (λ (x : Work). x.to_controller) a.is_work
 
 module _ (go : StreamsGoOn) (quiet : QuietBehindEnd) (f : Flow) (limit : ℕ) where
-  judged_extend : (es : List SessionEvent) (e : SessionEvent) (to : Side) → AreEvents f limit (e ∷ es) → (a : Works f.asset (client_of f) (history es) (work_of es)) → (b : Works f.asset (client_of f) (history (e ∷ es)) e.work) →
-      Extends (stream_to f.asset to a.judged) (stream_to f.asset to b.judged)
+  judged_extend : (es : List SessionEvent) (e : SessionEvent) (to : Side) → AreEvents f limit (e ∷ es) → (a : Works f.site (client_of f) (history es) (work_of es)) → (b : Works f.site (client_of f) (history (e ∷ es)) e.work) →
+      Extends (stream_to f.site to a.judged) (stream_to f.site to b.judged)
   judged_extend es e to are a b =
-      let g = go f.asset none_before (client_of f) (history es) e.fed a.judged b.judged a.are_judged b.are_judged in
+      let g = go f.site none_before (client_of f) (history es) e.fed a.judged b.judged a.are_judged b.are_judged in
       record {
-        more = outputs f.asset to a.judged g.ms;
-        bytes = outputs_on f.asset (client_of f) to a.judged b.judged g;
+        more = outputs f.site to a.judged g.ms;
+        bytes = outputs_on f.site (client_of f) to a.judged b.judged g;
         ended = λ d.
-            (let still = fed_quiet f limit es e (other to) are.0 (judged_end f.asset (newcomer (client_of f).address) (other to) (history es) a.judged a.are_judged d) in
-            let none = quiet f.asset (newcomer (client_of f).address) (history es) e.fed a.judged g.ms to a.are_judged (subst (AreJudged f.asset (newcomer (client_of f).address) (history (e ∷ es))) g.all b.are_judged) d still in
-            same_stream (stream_to f.asset to b.judged) (stream_to f.asset to a.judged)
-            (outputs_on f.asset (client_of f) to a.judged b.judged g ∙ ap (λ xs. outputs f.asset to [] a.judged ++ xs) none ∙ append-nil (outputs f.asset to [] a.judged))
+            (let still = fed_quiet f limit es e (other to) are.0 (judged_end f.site (newcomer (client_of f).address) (other to) (history es) a.judged a.are_judged d) in
+            let none = quiet f.site (newcomer (client_of f).address) (history es) e.fed a.judged g.ms to a.are_judged (subst (AreJudged f.site (newcomer (client_of f).address) (history (e ∷ es))) g.all b.are_judged) d still in
+            same_stream (stream_to f.site to b.judged) (stream_to f.site to a.judged)
+            (outputs_on f.site (client_of f) to a.judged b.judged g ∙ ap (λ xs. outputs f.site to [] a.judged ++ xs) none ∙ append-nil (outputs f.site to [] a.judged))
             (ap (has_ended (other to)) g.all ∙ list_any-append (λ j. ends (other to) j.item) a.judged g.ms ∙ or_left (has_ended (other to) a.judged) (has_ended (other to) g.ms) d ∙ sym d));
       }
 
@@ -141,8 +141,8 @@ module _ (go : StreamsGoOn) (quiet : QuietBehindEnd) (f : Flow) (limit : ℕ) wh
   work_on to es e are =
       let a = works_of f limit es are.1 in
       let b = works_of f limit (e ∷ es) are in
-      subst (λ (x : Stream). Extends x (stream_of to e.work)) (sym (is_stream to f.asset (client_of f) (work_of es) a))
-      (subst (λ (x : Stream). Extends (stream_to f.asset to a.judged) x) (sym (is_stream to f.asset (client_of f) e.work b)) (judged_extend es e to are a b))
+      subst (λ (x : Stream). Extends x (stream_of to e.work)) (sym (is_stream to f.site (client_of f) (work_of es) a))
+      (subst (λ (x : Stream). Extends (stream_to f.site to a.judged) x) (sym (is_stream to f.site (client_of f) e.work b)) (judged_extend es e to are a b))
 
 -- ---- what a leg was to say
 

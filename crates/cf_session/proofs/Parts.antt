@@ -12,7 +12,7 @@ use Rattle.cf_leg.specs.declared.Ends.{Ends}
 use Rattle.cf_leg.specs.declared.LegAnswer.{LegAnswer}
 use Rattle.cf_outq.specs.SendQueue.{Queue}
 use Rattle.cf_packet.specs.Packet.{PacketValue}
-use Rattle.cf_policy.specs.declared.Asset.{Asset}
+use Rattle.cf_policy.specs.Site.{SiteValue}
 use Rattle.cf_stream.specs.FirstCopy.{IsTaken, Offer, first_copy}
 use Rattle.cf_stream.specs.Stream.{Stream}
 use Rattle.cf_view.specs.declared.Side.{Side}
@@ -39,9 +39,9 @@ idle_leg ends leg q d es a b h = subst (λ x. IsLegBetween ends leg q (x ∷ es)
 pub idle_taken : (ends : Ends) (d : LegEvent) (es : List LegEvent) (t : _) → d.came ≡ Nothing → IsTaken (first_copy (offers ends.role (d ∷ es))) t → IsTaken (first_copy (offers ends.role es)) t
 idle_taken ends d es t a h = subst (λ (x : Came). IsTaken (first_copy (offers ends.role (record d { came = x } ∷ es))) t) a h
 
-pub are_uncut : {f : Flow} {es : List SessionEvent} {t : SessionEvent} {s : SessionValue} {asset : Asset} → IsHalf t → AreParts f es t s → f.asset ≡ asset → AreUncut asset (client_of f) (rests s) (history (t ∷ es)) t.work s.lane s.to_client s.to_controller
+pub are_uncut : {f : Flow} {es : List SessionEvent} {t : SessionEvent} {s : SessionValue} {site : SiteValue} → IsHalf t → AreParts f es t s → f.site ≡ site → AreUncut site (client_of f) (rests s) (history (t ∷ es)) t.work s.lane s.to_client s.to_controller
 are_uncut {f} {es} {t} {s} half parts is = record {
-  lane_stands = subst (λ (a : Asset). IsLaneAfter a (client_of f) s.lane (rests s) (history (t ∷ es)) t.work) is parts.lane;
+  lane_stands = subst (λ (a : SiteValue). IsLaneAfter a (client_of f) s.lane (rests s) (history (t ∷ es)) t.work) is parts.lane;
   uncut = half.uncut;
   client_stands = parts.to_client;
   controller_stands = parts.to_controller;
@@ -73,11 +73,11 @@ module _ (f : Flow) (es : List SessionEvent) (t : SessionEvent) (half : IsHalf t
       (idle_taken (client_ends f) t.client (clients es) _ half.client_came parts.taken.client) in
       record { client = b.1; controller = b.0 }
 
-  module _ (new : SessionValue) (answer : LegAnswer) (cut : Option CutReason) (t0 t1 : Told) (asset : Asset) (is : f.asset ≡ asset) (time : ℕ) (at : moment t.client ≡ time) where
-    abbrev Hears : Side → LegValue → Asset → ℕ → Type 0
+  module _ (new : SessionValue) (answer : LegAnswer) (cut : Option CutReason) (t0 t1 : Told) (site : SiteValue) (is : f.site ≡ site) (time : ℕ) (at : moment t.client ≡ time) where
+    abbrev Hears : Side → LegValue → SiteValue → ℕ → Type 0
     Hears s leg a n = Hearing s (ends_of f s) a (client_of f) n (leg_in s t) (legs_of s es) p (rests old) (history (t ∷ es)) t.work leg new.lane new.to_client new.to_controller answer cut t0 t1
 
-    heard_by : (s : Side) (leg : LegValue) (h : Hears s leg f.asset (moment t.client)) → with_rest s (rests old) leg.window.pending ≡ rests new →
+    heard_by : (s : Side) (leg : LegValue) (h : Hears s leg f.site (moment t.client)) → with_rest s (rests old) leg.window.pending ≡ rests new →
         IsLegBetween (client_ends f) new.client new.to_client ((heard_half t s p h.letters h.follows.work).client ∷ clients es) →
         IsLegBetween (controller_ends f) new.controller new.to_controller ((heard_half t s p h.letters h.follows.work).controller ∷ controllers es) → HeardBy f es t s p new answer cut t0 t1
     heard_by s leg h rest client controller =
@@ -89,8 +89,8 @@ module _ (f : Flow) (es : List SessionEvent) (t : SessionEvent) (half : IsHalf t
           parts = record {
             client = client;
             controller = controller;
-            lane = subst (λ r. IsLaneAfter f.asset (client_of f) new.lane r (history (e ∷ es)) w.work) rest
-                (subst (λ h. IsLaneAfter f.asset (client_of f) new.lane (with_rest s (rests old) leg.window.pending) (h ++ e.fed) w.work) (before_history es t half.fed) w.lane_stands);
+            lane = subst (λ r. IsLaneAfter f.site (client_of f) new.lane r (history (e ∷ es)) w.work) rest
+                (subst (λ h. IsLaneAfter f.site (client_of f) new.lane (with_rest s (rests old) leg.window.pending) (h ++ e.fed) w.work) (before_history es t half.fed) w.lane_stands);
             to_client = w.client_stands;
             to_controller = w.controller_stands;
             taken = both_taken s h.letters w.work h.taken_is;
@@ -103,16 +103,16 @@ module _ (f : Flow) (es : List SessionEvent) (t : SessionEvent) (half : IsHalf t
           told = w.told;
         }
 
-    as_flow : (s : Side) (leg : LegValue) → Hears s leg asset time → Hears s leg f.asset (moment t.client)
-    as_flow s leg h = subst (Hears s leg f.asset) (sym at) (subst (λ a. Hears s leg a time) (sym is) h)
+    as_flow : (s : Side) (leg : LegValue) → Hears s leg site time → Hears s leg f.site (moment t.client)
+    as_flow s leg h = subst (Hears s leg f.site) (sym at) (subst (λ a. Hears s leg a time) (sym is) h)
 
-    pub client_at : Hears side.Client new.client asset time → new.controller ≡ old.controller → OnlyPushed old.to_controller new.to_controller → HeardBy f es t side.Client p new answer cut t0 t1
+    pub client_at : Hears side.Client new.client site time → new.controller ≡ old.controller → OnlyPushed old.to_controller new.to_controller → HeardBy f es t side.Client p new answer cut t0 t1
     client_at h same pushed =
         let own = as_flow side.Client new.client h in
         heard_by side.Client new.client own (ap (λ (l : LegValue). let r : Rests = record { client = new.client.window.pending; controller = l.window.pending } in r) (sym same)) own.leg_stands
         (other_leg (controller_ends f) old.controller new.controller old.to_controller new.to_controller t.controller (controllers es) half.controller_came half.controller_ending same pushed parts.controller)
 
-    pub controller_at : Hears side.Controller new.controller asset time → new.client ≡ old.client → OnlyPushed old.to_client new.to_client → HeardBy f es t side.Controller p new answer cut t0 t1
+    pub controller_at : Hears side.Controller new.controller site time → new.client ≡ old.client → OnlyPushed old.to_client new.to_client → HeardBy f es t side.Controller p new answer cut t0 t1
     controller_at h same pushed =
         let own = as_flow side.Controller new.controller h in
         heard_by side.Controller new.controller own (ap (λ (l : LegValue). let r : Rests = record { client = l.window.pending; controller = new.controller.window.pending } in r) (sym same))

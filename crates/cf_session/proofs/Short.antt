@@ -66,14 +66,14 @@ uncut_later [] u = tt
 uncut_later (e ∷ es) u = u.1
 
 module _ (one : WorkIsOne) (f : Flow) (limit : ℕ) where
-  packet_short : (es : List SessionEvent) (half : SessionEvent) (e : SessionEvent) → Works f.asset (client_of f) (history es) (work_of es) → IsShortWork limit (work_of es) →
-      (from : Side) → (ended_of from (history es) ≡ true → e.fed ≡ []) → Works f.asset (client_of f) (history (e ∷ es)) e.work →
+  packet_short : (es : List SessionEvent) (half : SessionEvent) (e : SessionEvent) → Works f.site (client_of f) (history es) (work_of es) → IsShortWork limit (work_of es) →
+      (from : Side) → (ended_of from (history es) ≡ true → e.fed ≡ []) → Works f.site (client_of f) (history (e ∷ es)) e.work →
       None ≡ (if was_closed f es then None else option_or (reset_cut f es e) (option_or e.work.cut (limit_cut limit (history (e ∷ es)) e.work.to_client e.work.to_controller))) →
       IsShortWork limit e.work
   packet_short es half e works short from unended now cut = elim (cases_Bool (was_closed f es)) [
     | inl closed ↦
         let same : history (e ∷ es) ≡ history es = ap (λ x. history es ++ x) (unended (closed_ended f es from closed)) ∙ append-nil (history es) in
-        subst (IsShortWork limit) (one f.asset (client_of f) (history es) (work_of es) e.work works (subst (λ h. Works f.asset (client_of f) h e.work) same now)) short
+        subst (IsShortWork limit) (one f.site (client_of f) (history es) (work_of es) e.work works (subst (λ h. Works f.site (client_of f) h e.work) same now)) short
     | inr still ↦
         short_by limit (history (e ∷ es)) e.work
         (or_none e.work.cut _ (or_none (reset_cut f es e) _ (sym (cut ∙ ap (λ b. cond b None (option_or (reset_cut f es e) (option_or e.work.cut (limit_cut limit (history (e ∷ es)) e.work.to_client e.work.to_controller)))) still))))

@@ -8,8 +8,7 @@ use Rattle.cf_driver.proofs.Limits.{limit_short}
 use Rattle.cf_lane.specs.Handled.{IsLaneOf, LaneValue}
 use Rattle.cf_leg.specs.declared.LegAnswer.{LegAnswer}
 use Rattle.cf_outq.specs.SendQueue.{Queue, queue_length}
-use Rattle.cf_policy.specs.Within.{IsAssetWithin}
-use Rattle.cf_policy.specs.declared.Asset.{Asset}
+use Rattle.cf_policy.specs.Site.{IsSiteWithin, SiteValue}
 use Rattle.cf_rebuild.specs.ReceiveWindow.{Window, base_of}
 use Rattle.cf_view.specs.declared.Side.{Side}
 use Rattle.cf_session.proofs.Heards.{full_of}
@@ -66,14 +65,14 @@ closed_done (Some m) done now n P f g = f (some_closed (Some m) refl)
 closed_done None true now n P f g = g refl
 closed_done None false now n P f g = absurd (n refl)
 
-pub sound_after : (asset : Asset) (s1 s2 s3 : SessionValue) (now : ℕ) → IsAssetWithin asset → IsLaneOf asset s1.lane → OnlySpeaks s1 s2 → IsSteady s2 None → IsShort s1 →
-    s3 ≡ record s2 { closed = s3.closed } → s3.closed ≡ option_or s2.closed (cond (is_done_now s2) (Some now) None) → IsSound asset s3
-sound_after asset s1 s2 s3 now within serves only h short same closing =
+pub sound_after : (site : SiteValue) (s1 s2 s3 : SessionValue) (now : ℕ) → IsSiteWithin site → IsLaneOf site s1.lane → OnlySpeaks s1 s2 → IsSteady s2 None → IsShort s1 →
+    s3 ≡ record s2 { closed = s3.closed } → s3.closed ≡ option_or s2.closed (cond (is_done_now s2) (Some now) None) → IsSound site s3
+sound_after site s1 s2 s3 now within serves only h short same closing =
     let x = short_on s1 s2 only short in
     let closed : s3.closed ≢ None → option_or s2.closed (cond (is_done_now s2) (Some now) None) ≢ None = λ n e. n (closing ∙ e) in
-    subst (IsSound asset) (sym same) (record {
+    subst (IsSound site) (sym same) (record {
       within = within;
-      serves = subst (λ (l : LaneValue). IsLaneOf asset l) (sym (ap (λ (s : SessionValue). s.lane) only.rest)) serves;
+      serves = subst (λ (l : LaneValue). IsLaneOf site l) (sym (ap (λ (s : SessionValue). s.lane) only.rest)) serves;
       passive = h.passive;
       limit = h.limit;
       client_letters = x.client_letters;

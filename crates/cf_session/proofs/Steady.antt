@@ -18,8 +18,8 @@ pub few_open : (w : Window) → length w.pending < 300 → w.edge ≤ base_of w 
 few_open w few near = (let b = small_base w.ended w.consumed (length w.pending) few in omega (arith, b, near))
 
 -- the room after a speech: where both edges may move, little is kept
-room_by : (roomy : Bool) (kept kept' debt a a' b b' : ℕ) → kept + debt + 2 * (a + b) ≤ 90112 → debt ≤ 5300 → (roomy ≡ true → kept ≤ 16384) → kept' ≡ kept → a' ≤ 16684 → b' ≤ 16684 → (roomy ≡ false → a' ≡ a) → (roomy ≡ false → b' ≡ b) →
-    kept' + debt + 2 * (a' + b') ≤ 90112
+room_by : (roomy : Bool) (kept kept' debt a a' b b' : ℕ) → kept + debt + 2 * (a + b) ≤ 131072 → debt ≤ 42400 → (roomy ≡ true → kept ≤ 16384) → kept' ≡ kept → a' ≤ 16684 → b' ≤ 16684 → (roomy ≡ false → a' ≡ a) → (roomy ≡ false → b' ≡ b) →
+    kept' + debt + 2 * (a' + b') ≤ 131072
 room_by true kept kept' debt a a' b b' room few short k x y same other = (let s = short refl in omega (arith, few, s, k, x, y))
 room_by false kept kept' debt a a' b b' room few short k x y same other = rw (k, same refl, other refl) room
 

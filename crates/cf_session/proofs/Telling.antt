@@ -6,7 +6,7 @@ use Rattle.cf_lane.specs.Log.{line_about}
 use Rattle.cf_leg.specs.Emitted.{with_segment, with_segments, spelled}
 use Rattle.cf_outside.specs.Desk.{DeskValue, SentValue}
 use Rattle.cf_packet.specs.Packet.{PacketValue}
-use Rattle.cf_policy.specs.declared.Asset.{Asset}
+use Rattle.cf_policy.specs.Site.{SiteValue}
 use Rattle.cf_view.specs.declared.Endpoint.{Endpoint}
 use Rattle.cf_session.specs.Sent.{Sent, at, line}
 use Rattle.cf_session.specs.Session.{Flow, client_of}
@@ -51,8 +51,8 @@ told_lines a b ls e d =
     ap (λ x. let r : Told = record { packets = x; lines = b.lines } in r) (e ∙ more-none a.packets)
     ∙ ap (λ x. let r : Told = record { packets = with_more a.packets []; lines = x } in r) d
 
--- a line about the client of an asset, which are those of a flow
-pub line_is : {asset : Asset} {client : Endpoint} {now moment : ℕ} (f : Flow) (what : WhatValue) → f.asset ≡ asset → client ≡ client_of f → now ≡ moment → line_about asset client now what ≡ line f moment what
+-- a line about the client of a site, which are those of a flow
+pub line_is : {site : SiteValue} {client : Endpoint} {now moment : ℕ} (f : Flow) (what : WhatValue) → f.site ≡ site → client ≡ client_of f → now ≡ moment → line_about site.first client now what ≡ line f moment what
 line_is f what is source at = rw (source, is, at) refl
 
 -- one call after another

@@ -134,7 +134,7 @@ module _ (f : Flow) (es : List SessionEvent) (e : SessionEvent) (now : ℕ) wher
           parts = record {
             client = lc;
             controller = ld;
-            lane = subst (λ h. IsLaneAfter f.asset (client_of f) s.lane (record { client = client.window.pending; controller = controller.window.pending }) h e.work) same
+            lane = subst (λ h. IsLaneAfter f.site (client_of f) s.lane (record { client = client.window.pending; controller = controller.window.pending }) h e.work) same
                 (rw (wc, wd) stands.parts.lane);
             to_client = qc;
             to_controller = qd;

@@ -7,7 +7,7 @@ use Rattle.cf_lane.specs.Follows.{Rests, rest_of, with_rest}
 use Rattle.cf_lane.specs.Handled.{LaneValue}
 use Rattle.cf_lane.specs.History.{Element}
 use Rattle.cf_outq.specs.SendQueue.{Queue}
-use Rattle.cf_policy.specs.declared.Asset.{Asset}
+use Rattle.cf_policy.specs.Site.{SiteValue}
 use Rattle.cf_stream.specs.Stream.{Stream}
 use Rattle.cf_view.specs.declared.Endpoint.{Endpoint}
 use Rattle.cf_view.specs.declared.Side.{Side}
@@ -22,12 +22,12 @@ rest_of-with side.Client r rest = refl
 rest_of-with side.Controller r rest = refl
 
 -- bytes were fed, and then End
-pub follows_both : (asset : Asset) (client : Endpoint) (now : ℕ) (s : Side) (r : Rests) (h : List Element) (w : Work) (piece : List ℕ)
+pub follows_both : (site : SiteValue) (client : Endpoint) (now : ℕ) (s : Side) (r : Rests) (h : List Element) (w : Work) (piece : List ℕ)
     (lane1 lane2 : LaneValue) (c1 k1 c2 k2 : Queue) (cut : Option CutReason) (t0 t1 t2 : Told) →
-    (first : FollowsMore asset client now s r h w (record { bytes = piece; ended = false }) lane1 c1 k1 cut t0 t1) →
-    FollowsMore asset client now s r h first.work (record { bytes = piece; ended = true }) lane2 c2 k2 None t1 t2 →
-    FollowsMore asset client now s r h w (record { bytes = piece; ended = true }) lane2 c2 k2 None t0 t2
-follows_both asset client now s r h w piece lane1 lane2 c1 k1 c2 k2 cut t0 t1 t2 a b = record {
+    (first : FollowsMore site client now s r h w (record { bytes = piece; ended = false }) lane1 c1 k1 cut t0 t1) →
+    FollowsMore site client now s r h first.work (record { bytes = piece; ended = true }) lane2 c2 k2 None t1 t2 →
+    FollowsMore site client now s r h w (record { bytes = piece; ended = true }) lane2 c2 k2 None t0 t2
+follows_both site client now s r h w piece lane1 lane2 c1 k1 c2 k2 cut t0 t1 t2 a b = record {
   work = b.work;
   lane_stands = b.lane_stands;
   client_stands = b.client_stands;
@@ -43,6 +43,6 @@ none_of None e = refl
 none_of (Some x) e = absurd (false≢true e)
 
 -- where the letters did not cut the session, it may go on
-pub still_uncut : {asset : Asset} {client : Endpoint} {now : ℕ} {s : Side} {r : Rests} {h : List Element} {w : Work} {letters : Stream} {lane : LaneValue} {c k : Queue} {cut : Option CutReason} {t0 t1 : Told} →
-    (a : FollowsMore asset client now s r h w letters lane c k cut t0 t1) → cut ≡ None → AreUncut asset client r (h ++ fed_at now s letters) a.work lane c k
+pub still_uncut : {site : SiteValue} {client : Endpoint} {now : ℕ} {s : Side} {r : Rests} {h : List Element} {w : Work} {letters : Stream} {lane : LaneValue} {c k : Queue} {cut : Option CutReason} {t0 t1 : Told} →
+    (a : FollowsMore site client now s r h w letters lane c k cut t0 t1) → cut ≡ None → AreUncut site client r (h ++ fed_at now s letters) a.work lane c k
 still_uncut a none = record { lane_stands = a.lane_stands; uncut = a.cut_is ∙ none; client_stands = a.client_stands; controller_stands = a.controller_stands }

@@ -109,7 +109,7 @@ pub record IsPacket (flow : Flow) (limit : ℕ) (earlier : List SessionEvent) (h
   -- nothing is taken after an End
   pub unended : ended_of from (history earlier) ≡ true → event.fed ≡ []
   pub taken : AreTaken flow (event ∷ earlier)
-  pub work : Works flow.asset (client_of flow) (history (event ∷ earlier)) event.work
+  pub work : Works flow.site (client_of flow) (history (event ∷ earlier)) event.work
   pub cut : event.cut ≡ packet_cut flow limit earlier event
   pub controller_ending : EndsPacket event.cut event.work.to_controller (has_room flow (event ∷ earlier)) event.controller.ending
   pub client_ending : EndsPacket event.cut event.work.to_client (has_room flow (event ∷ earlier)) event.client.ending

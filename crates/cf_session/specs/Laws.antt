@@ -52,7 +52,7 @@ FirstCopiesAreTaken = (flow : Flow) (limit : ℕ) (events : List SessionEvent) �
 abbrev pub WorkIsOfTheTaken : Type 0
 WorkIsOfTheTaken =
     (flow : Flow) (limit : ℕ) (events : List SessionEvent) → AreEvents flow limit events
-    → Works flow.asset (client_of flow) (history events) (work_of events)
+    → Works flow.site (client_of flow) (history events) (work_of events)
 
 -- ---- one stream: whatever copies of letters a receiver takes, it gets a beginning of the stream to it
 

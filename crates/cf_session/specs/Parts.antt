@@ -11,7 +11,7 @@ use Rattle.cf_leg.specs.declared.Ends.{Ends}
 use Rattle.cf_leg.specs.declared.Role.{Role}
 use Rattle.cf_leg.specs.declared.Role.TheVariants as role
 use Rattle.cf_outq.specs.SendQueue.{IsQueueOf, Queue}
-use Rattle.cf_policy.specs.declared.Asset.{Asset}
+use Rattle.cf_policy.specs.Site.{SiteValue}
 use Rattle.cf_rebuild.specs.ReceiveWindow.{Window}
 use Rattle.cf_stream.specs.Sizes.{window_size}
 use Rattle.cf_view.specs.declared.Endpoint.{Endpoint}
@@ -43,14 +43,14 @@ pub record IsLegBetween (ends : Ends) (leg : LegValue) (queue : Queue) (events :
   pub stands : IsLegOf leg (marks queue) events
 
 -- the lane stands for a history, of which these bytes of each side are left, and this is the work of it
-pub record IsLaneAfter (asset : Asset) (client : Endpoint) (lane : LaneValue) (rests : Rests) (history : List Element) (work : Work) : Type
+pub record IsLaneAfter (site : SiteValue) (client : Endpoint) (lane : LaneValue) (rests : Rests) (history : List Element) (work : Work) : Type
     0 where
-  pub works : Works asset client history work
+  pub works : Works site client history work
   pub is_client : lane.client ≡ client
-  pub are_rests : AreRests asset.protocol history rests work.cut
+  pub are_rests : AreRests site.first.protocol history rests work.cut
   pub knows : (to_client to_controller : Queue) (log : Option (List (List ℕ))) →
       to_client.ended ≡ has_ended side.Controller works.judged → to_controller.ended ≡ has_ended side.Client works.judged →
-      Knows asset none_before (state lane to_client to_controller log) works.judged
+      Knows site none_before (state lane to_client to_controller log) works.judged
 
 -- the bytes of each side that are no whole unit stay pending in its window
 abbrev pub rests : SessionValue → Rests
@@ -60,7 +60,7 @@ rests s = record { client = s.client.window.pending; controller = s.controller.w
 pub record AreParts (flow : Flow) (earlier : List SessionEvent) (event : SessionEvent) (s : SessionValue) : Type 0 where
   pub client : IsLegBetween (client_ends flow) s.client s.to_client (event.client ∷ clients earlier)
   pub controller : IsLegBetween (controller_ends flow) s.controller s.to_controller (event.controller ∷ controllers earlier)
-  pub lane : IsLaneAfter flow.asset (client_of flow) s.lane (rests s) (history (event ∷ earlier)) event.work
+  pub lane : IsLaneAfter flow.site (client_of flow) s.lane (rests s) (history (event ∷ earlier)) event.work
   pub to_client : IsQueueOf s.to_client event.work.to_client
   pub to_controller : IsQueueOf s.to_controller event.work.to_controller
   pub taken : AreTaken flow (event ∷ earlier)

@@ -41,9 +41,9 @@ sent_second event = at (moment event.client) (late (is_first_half event) event.c
 
 -- ---- lines
 
--- a line that names the client and the asset of the session
+-- a line that names the client and the first asset of the site
 abbrev pub line : Flow → (now : ℕ) → WhatValue → List ℕ
-line flow now what = line_about flow.asset (client_of flow) now what
+line flow now what = line_about flow.site.first (client_of flow) now what
 
 -- the line of a cut, if there is one
 abbrev pub cut_line : Flow → (now : ℕ) → Option CutReason → List (List ℕ)

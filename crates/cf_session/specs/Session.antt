@@ -1,4 +1,4 @@
--- A session: a client, an asset, and what happened, event by event. The main definitions are `Flow` and `SessionEvent`, and `has_room`,
+-- A session: a client, a site, and what happened, event by event. The main definitions are `Flow` and `SessionEvent`, and `has_room`,
 -- `is_closed` and `is_expired`, which read a session's events alone.
 --
 -- Lists of events have the newest one first, so that what was before an event is the list after it.
@@ -11,16 +11,16 @@ use Rattle.cf_leg.specs.Heard.{acked}
 use Rattle.cf_leg.specs.declared.Ends.{Ends}
 use Rattle.cf_leg.specs.declared.Role.TheVariants as role
 use Rattle.cf_packet.specs.Packet.{PacketValue}
-use Rattle.cf_policy.specs.declared.Asset.{Asset}
+use Rattle.cf_policy.specs.Site.{SiteValue}
 use Rattle.cf_stream.specs.Sizes.{window_size}
 use Rattle.cf_stream.specs.Stream.{Stream, letter_count}
 use Rattle.cf_view.specs.declared.Endpoint.{Endpoint}
 use Rattle.cf_view.specs.declared.Side.TheVariants as side
 use Rattle.cf_session.specs.Work.{Work, no_work}
 
--- who speaks to whom: the asset, and the SYN that began the session; its source is the client
+-- who speaks to whom: the site, and the SYN that began the session; its source is the client
 pub record Flow : Type 0 where
-  pub asset : Asset
+  pub site : SiteValue
   pub syn : PacketValue
 
 -- the client: the source of the SYN
@@ -29,11 +29,11 @@ client_of flow = flow.syn.source
 
 -- the two ends of the box. It has the client's endpoint towards the controller, and the controller's towards the client
 abbrev pub controller_ends : Flow → Ends
-controller_ends flow = record { own = flow.syn.source; peer = flow.asset.endpoint; role = role.Active flow.syn.seq }
+controller_ends flow = record { own = flow.syn.source; peer = flow.site.first.endpoint; role = role.Active flow.syn.seq }
 
 -- the end towards the client, which has the controller's endpoint
 abbrev pub client_ends : Flow → Ends
-client_ends flow = record { own = flow.asset.endpoint; peer = flow.syn.source; role = role.Passive flow.syn.seq flow.syn.mss }
+client_ends flow = record { own = flow.site.first.endpoint; peer = flow.syn.source; role = role.Passive flow.syn.seq flow.syn.mss }
 
 -- one event of a session: a tick, and a microsecond later perhaps a packet
 pub record SessionEvent : Type 0 where

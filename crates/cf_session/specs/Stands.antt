@@ -1,15 +1,14 @@
 -- Steps of the proof: what a session in memory stands for, `IsSessionOf` and `IsSound`, and what its calls do: `Begins`, `TicksBy` and
 -- `HearsBy`, one for each call.
 use Rattle.std.specs.Prelude.{◌≡◌, ◌≢◌, ℕ, ◌+◌, ◌-◌, ◌*◌, ◌^◌, min, ◌<◌, ◌≤◌, Bool, true, false, List, [], ◌∷◌, length, Option, None, Some}
-use Rattle.cf_lane.specs.Handled.{IsLaneOf, debt, debt_limit, rest_limit}
+use Rattle.cf_lane.specs.Handled.{IsLaneOf, debt, rest_limit}
 use Rattle.cf_leg.specs.Calls.{due_of as leg_due}
 use Rattle.cf_leg.specs.Event.{is_settled, stream_after}
 use Rattle.cf_leg.specs.Heard.{opened}
 use Rattle.cf_leg.specs.Told.{is_greeted}
-use Rattle.cf_outq.specs.SendQueue.{Queue, queue_length}
+use Rattle.cf_outq.specs.SendQueue.{Queue, queue_length, queue_size}
 use Rattle.cf_packet.specs.Packet.{PacketValue}
-use Rattle.cf_policy.specs.Within.{IsAssetWithin}
-use Rattle.cf_policy.specs.declared.Asset.{Asset}
+use Rattle.cf_policy.specs.Site.{IsSiteWithin, SiteValue}
 use Rattle.cf_rebuild.specs.ReceiveWindow.{base_of}
 use Rattle.cf_view.specs.declared.Side.{Side}
 use Rattle.cf_session.specs.Event.{AreEvents, IsBeginning, IsPacket, IsTick}
@@ -42,14 +41,18 @@ pub record IsSessionOf (flow : Flow) (earlier : List SessionEvent) (event : Sess
 
 -- ---- what holds of every session, whatever happened
 
+-- the octets that unfinished fragments may still put out, at most: 5,300 for each of the eight assets of DNP3 that a site has at most
+abbrev pub most_owed : ℕ
+most_owed = 42400
+
 -- what a queue keeps, what the lane may still put there, and two bytes for each place of both windows have room
 abbrev pub HasRoomFor : Queue → SessionValue → Type 0
-HasRoomFor queue s = length queue.kept + debt s.lane + 2 * (open_places s.client.window + open_places s.controller.window) ≤ 90112
+HasRoomFor queue s = length queue.kept + debt s.lane + 2 * (open_places s.client.window + open_places s.controller.window) ≤ queue_size
 
 -- the session can take whatever its windows let in
-pub record IsSound (asset : Asset) (s : SessionValue) : Type 0 where
-  pub within : IsAssetWithin asset
-  pub serves : IsLaneOf asset s.lane
+pub record IsSound (site : SiteValue) (s : SessionValue) : Type 0 where
+  pub within : IsSiteWithin site
+  pub serves : IsLaneOf site s.lane
   -- the client's end is the one that greets in answer
   pub passive : IsPassive s.client.ends.role
   pub limit : s.limit ≤ 2 ^ 30
@@ -66,7 +69,7 @@ pub record IsSound (asset : Asset) (s : SessionValue) : Type 0 where
   pub client_done : s.closed ≢ None → s.client.window.ended ≡ true
   pub controller_done : s.closed ≢ None → s.controller.window.ended ≡ true
   pub commands : s.lane.admitted + s.lane.refused ≤ s.client.window.consumed + s.controller.window.consumed
-  pub owed : debt s.lane ≤ debt_limit
+  pub owed : debt s.lane ≤ most_owed
   pub client_room : HasRoomFor s.to_client s
   pub controller_room : HasRoomFor s.to_controller s
 

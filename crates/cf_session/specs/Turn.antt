@@ -15,7 +15,7 @@ use Rattle.cf_leg.specs.LegValue.{LegValue}
 use Rattle.cf_leg.specs.declared.Ends.{Ends}
 use Rattle.cf_leg.specs.declared.LegAnswer.{LegAnswer}
 use Rattle.cf_leg.specs.declared.Phase.TheVariants as phase
-use Rattle.cf_outq.specs.SendQueue.{IsQueueOf, Queue, empty, queue_length}
+use Rattle.cf_outq.specs.SendQueue.{IsQueueOf, Queue, empty, queue_length, queue_size}
 use Rattle.cf_outside.specs.Desk.{DeskValue}
 use Rattle.cf_packet.specs.Packet.{PacketValue}
 use Rattle.cf_rebuild.specs.ReceiveWindow.{Window, base_of}
@@ -23,16 +23,16 @@ use Rattle.cf_stream.specs.FirstCopy.{IsTaken, first_copy}
 use Rattle.cf_stream.specs.Sizes.{window_size}
 use Rattle.cf_stream.specs.Stream.{Stream, letter_count, no_letters}
 use Rattle.cf_lane.specs.Follows.{Rests, no_rests, with_rest}
-use Rattle.cf_lane.specs.Handled.{LaneValue, debt, debt_limit, rest_limit}
+use Rattle.cf_lane.specs.Handled.{LaneValue, debt, rest_limit}
 use Rattle.cf_lane.specs.Log.{line_about}
 use Rattle.cf_lane.specs.History.{Element, ended_of, taken}
-use Rattle.cf_policy.specs.declared.Asset.{Asset}
+use Rattle.cf_policy.specs.Site.{SiteValue}
 use Rattle.cf_view.specs.declared.Endpoint.{Endpoint}
 use Rattle.cf_view.specs.declared.Side.{Side}
 use Rattle.cf_view.specs.declared.Side.TheVariants as side
 use Rattle.cf_session.specs.Broken.{BreaksAmid, Gets}
 use Rattle.cf_session.specs.Event.{AreTaken, came_controller}
-use Rattle.cf_session.specs.Stands.{HasRoomFor}
+use Rattle.cf_session.specs.Stands.{HasRoomFor, most_owed}
 use Rattle.cf_session.specs.Parts.{AreParts, IsLaneAfter, IsPassive, IsLegBetween, SessionValue, open_places, other_queue, own_queue}
 use Rattle.cf_session.specs.Sent.{at, line}
 use Rattle.cf_session.specs.Session.{Flow, SessionEvent, client_ends, client_of, clients, controller_ends, controllers, history}
@@ -61,7 +61,7 @@ pub record IsMade (flow : Flow) (s : SessionValue) : Type 0 where
   pub client_edge : s.client.window.edge ≡ 0
   pub controller_edge : s.controller.window.edge ≡ 0
   pub controller_made : s.controller.phase ≡ phase.Made
-  pub lane : IsLaneAfter flow.asset (client_of flow) s.lane no_rests [] no_work
+  pub lane : IsLaneAfter flow.site (client_of flow) s.lane no_rests [] no_work
   pub owed : debt s.lane ≡ 0
   pub commands : s.lane.admitted + s.lane.refused ≡ 0
   pub to_client : s.to_client ≡ empty
@@ -74,19 +74,19 @@ pub record IsMade (flow : Flow) (s : SessionValue) : Type 0 where
 -- ---- letters are handed to the lane
 
 -- lane and queues stand for a history whose work has not cut the session
-pub record AreUncut (asset : Asset) (client : Endpoint) (rests : Rests) (earlier : List Element) (work : Work) (lane : LaneValue)
+pub record AreUncut (site : SiteValue) (client : Endpoint) (rests : Rests) (earlier : List Element) (work : Work) (lane : LaneValue)
     (to_client to_controller : Queue) : Type 0 where
-  pub lane_stands : IsLaneAfter asset client lane rests earlier work
+  pub lane_stands : IsLaneAfter site client lane rests earlier work
   pub uncut : work.cut ≡ None
   pub client_stands : IsQueueOf to_client work.to_client
   pub controller_stands : IsQueueOf to_controller work.to_controller
 
 -- lane, queues and log stand for a history with more letters of a side: the lane's work went on by these lines
-pub record FollowsMore (asset : Asset) (client : Endpoint) (now : ℕ) (s : Side) (rests : Rests) (earlier : List Element) (before : Work)
+pub record FollowsMore (site : SiteValue) (client : Endpoint) (now : ℕ) (s : Side) (rests : Rests) (earlier : List Element) (before : Work)
     (letters : Stream)
     (lane : LaneValue) (to_client to_controller : Queue) (cut : Option CutReason) (old new : Told) : Type 0 where
   pub work : Work
-  pub lane_stands : IsLaneAfter asset client lane rests (earlier ++ fed_at now s letters) work
+  pub lane_stands : IsLaneAfter site client lane rests (earlier ++ fed_at now s letters) work
   pub client_stands : IsQueueOf to_client work.to_client
   pub controller_stands : IsQueueOf to_controller work.to_controller
   pub cut_is : work.cut ≡ cut
@@ -104,7 +104,7 @@ pub record HandsOver (s : Side) (old new : Window) (lane lane' : LaneValue) (c c
   pub client_pushed : OnlyPushed c c'
   pub controller_pushed : OnlyPushed k k'
   pub commands : lane'.admitted + lane'.refused + old.consumed ≤ lane.admitted + lane.refused + new.consumed
-  pub owed : debt lane' ≤ debt_limit
+  pub owed : debt lane' ≤ most_owed
   -- End went to the other side alone, and only where the window has it
   pub own_ended : (own_queue s c' k').ended ≡ (own_queue s c k).ended
   pub other_ended : old.ended ≡ false → (other_queue s c' k').ended ≡ (other_queue s c k).ended
@@ -115,8 +115,8 @@ pub record HandsOver (s : Side) (old new : Window) (lane lane' : LaneValue) (c c
 pub record MayHear (s : Side) (leg : LegValue) (lane : LaneValue) (c k : Queue) : Type 0 where
   pub base : base_of leg.window ≤ 2 ^ 30 + window_size
   pub is_open : leg.window.ended ≡ false → (other_queue s c k).ended ≡ false
-  pub client_room : length c.kept + debt lane + 2 * open_places leg.window ≤ 90112
-  pub controller_room : length k.kept + debt lane + 2 * open_places leg.window ≤ 90112
+  pub client_room : length c.kept + debt lane + 2 * open_places leg.window ≤ queue_size
+  pub controller_room : length k.kept + debt lane + 2 * open_places leg.window ≤ queue_size
   pub client_limit : queue_length c ≤ 2 ^ 30
   pub controller_limit : queue_length k ≤ 2 ^ 30
   pub commands : lane.admitted + lane.refused < 2 ^ 40
@@ -131,7 +131,7 @@ pub record KeepsRoom (s : Side) (old new : Window) (lane lane' : LaneValue) (c c
   pub client_room : length c'.kept + debt lane' + 2 * open_places new ≤ length c.kept + debt lane + 2 * open_places old
   pub controller_room : length k'.kept + debt lane' + 2 * open_places new ≤ length k.kept + debt lane + 2 * open_places old
   pub commands : lane'.admitted + lane'.refused + old.consumed ≤ lane.admitted + lane.refused + new.consumed
-  pub owed : debt lane ≤ debt_limit → debt lane' ≤ debt_limit
+  pub owed : debt lane ≤ most_owed → debt lane' ≤ most_owed
   pub own_ended : (own_queue s c' k').ended ≡ (own_queue s c k).ended
   pub other_ended : new.ended ≡ false → (other_queue s c' k').ended ≡ (other_queue s c k).ended
   pub other_pushed : OnlyPushed (other_queue s c k) (other_queue s c' k')
@@ -139,7 +139,7 @@ pub record KeepsRoom (s : Side) (old new : Window) (lane lane' : LaneValue) (c c
   pub still : old.ended ≡ true → (base_of new ≡ base_of old) × (queue_length c' ≡ queue_length c) × (queue_length k' ≡ queue_length k)
 
 -- a packet of a side was heard after the earlier events of its leg, in an event, and its letters were handed over
-pub record Hearing (s : Side) (ends : Ends) (asset : Asset) (client : Endpoint) (now : ℕ) (e : LegEvent) (es : List LegEvent)
+pub record Hearing (s : Side) (ends : Ends) (site : SiteValue) (client : Endpoint) (now : ℕ) (e : LegEvent) (es : List LegEvent)
     (packet : PacketValue) (rests : Rests) (earlier : List Element) (before : Work)
     (leg : LegValue) (lane : LaneValue) (to_client to_controller : Queue) (given : LegAnswer) (cut : Option CutReason) (old new : Told) :
     Type 0 where
@@ -149,7 +149,7 @@ pub record Hearing (s : Side) (ends : Ends) (asset : Asset) (client : Endpoint) 
   pub taken_is : IsTaken (first_copy (offers ends.role (record e { came = Packet packet; ending = Unspoken } ∷ es)))
       (with_letters (taken s earlier) letters)
   pub unended : ended_of s earlier ≡ true → letter_count letters ≡ 0
-  pub follows : FollowsMore asset client now s (with_rest s rests leg.window.pending) earlier before letters lane to_client to_controller
+  pub follows : FollowsMore site client now s (with_rest s rests leg.window.pending) earlier before letters lane to_client to_controller
       cut old new
 
 -- ---- the same for a session
@@ -234,7 +234,7 @@ pub record IsSteady (s : SessionValue) (cut : Option CutReason) : Type 0 where
   pub uncut : s.closed ≢ None → cut ≡ None
   pub short : s.closed ≢ None → IsShort s
   pub commands : s.lane.admitted + s.lane.refused ≤ s.client.window.consumed + s.controller.window.consumed
-  pub owed : debt s.lane ≤ debt_limit
+  pub owed : debt s.lane ≤ most_owed
   pub client_room : HasRoomFor s.to_client s
   pub controller_room : HasRoomFor s.to_controller s
 
@@ -315,30 +315,30 @@ abbrev pub is_done_now : SessionValue → Bool
 is_done_now s = (s.client.window.ended && s.controller.window.ended) && (is_acknowledged s.to_client && is_acknowledged s.to_controller)
 
 -- the line of a session that closes now
-abbrev pub closing_lines : Asset → SessionValue → (now : ℕ) → List (List ℕ)
-closing_lines asset s now =
-    if is_done_now s && not (is_some s.closed) then line_about asset s.source now (Close s.lane.admitted s.lane.refused) ∷ [] else []
+abbrev pub closing_lines : SiteValue → SessionValue → (now : ℕ) → List (List ℕ)
+closing_lines site s now =
+    if is_done_now s && not (is_some s.closed) then line_about site.first s.source now (Close s.lane.admitted s.lane.refused) ∷ [] else []
 
 -- ---- the same where the desk failed amid it: what is right to send and to log, of which the desk got a beginning
 
 -- letters that are handed to the lane: the lines by which its work goes on
-pub record FollowsAmid (asset : Asset) (client : Endpoint) (now : ℕ) (s : Side) (earlier : List Element) (before : Work) (letters : Stream)
+pub record FollowsAmid (site : SiteValue) (client : Endpoint) (now : ℕ) (s : Side) (earlier : List Element) (before : Work) (letters : Stream)
     (old new : DeskValue) : Type 0 where
   pub work : Work
-  pub works : Works asset client (earlier ++ fed_at now s letters) work
+  pub works : Works site client (earlier ++ fed_at now s letters) work
   pub lines : List (List ℕ)
   pub log_is : work.log ≡ before.log ++ lines
   pub amid : BreaksAmid [] lines old new
 
 -- a packet of a side that is heard: its letters are taken, and handed over
-pub record HearingAmid (s : Side) (ends : Ends) (asset : Asset) (client : Endpoint) (now : ℕ) (e : LegEvent) (es : List LegEvent)
+pub record HearingAmid (s : Side) (ends : Ends) (site : SiteValue) (client : Endpoint) (now : ℕ) (e : LegEvent) (es : List LegEvent)
     (packet : PacketValue) (earlier : List Element) (before : Work)
     (old new : DeskValue) : Type 0 where
   pub letters : Stream
   pub taken_is : IsTaken (first_copy (offers ends.role (record e { came = Packet packet; ending = Unspoken } ∷ es)))
       (with_letters (taken s earlier) letters)
   pub unended : ended_of s earlier ≡ true → letter_count letters ≡ 0
-  pub follows : FollowsAmid asset client now s earlier before letters old new
+  pub follows : FollowsAmid site client now s earlier before letters old new
 
 -- a packet that a session heard and amid which the desk failed
 pub record HeardAmid (flow : Flow) (earlier : List SessionEvent) (half : SessionEvent) (from : Side) (packet : PacketValue)
@@ -347,7 +347,7 @@ pub record HeardAmid (flow : Flow) (earlier : List SessionEvent) (half : Session
   pub work : Work
   pub are_taken : AreTaken flow (heard_half half from packet letters work ∷ earlier)
   pub unended : ended_of from (history earlier) ≡ true → letter_count letters ≡ 0
-  pub works : Works flow.asset (client_of flow) (history (heard_half half from packet letters work ∷ earlier)) work
+  pub works : Works flow.site (client_of flow) (history (heard_half half from packet letters work ∷ earlier)) work
   pub lines : List (List ℕ)
   pub log_is : work.log ≡ half.work.log ++ lines
   pub amid : BreaksAmid [] lines old new

@@ -7,7 +7,7 @@ use Rattle.cf_lane.specs.History.{Element}
 use Rattle.cf_lane.specs.Judged.{Judged, cut_of, is_admitted, is_refused}
 use Rattle.cf_lane.specs.Log.{lines}
 use Rattle.cf_lane.specs.Output.{stream_to}
-use Rattle.cf_policy.specs.declared.Asset.{Asset}
+use Rattle.cf_policy.specs.Site.{SiteValue}
 use Rattle.cf_stream.specs.Stream.{Stream, letter_count, no_letters}
 use Rattle.cf_view.specs.declared.Endpoint.{Endpoint}
 use Rattle.cf_view.specs.declared.Side.{Side}
@@ -35,18 +35,18 @@ abbrev pub no_work : Work
 no_work = record { to_client = no_letters; to_controller = no_letters; log = []; admitted = 0; refused = 0; cut = None }
 
 -- what judged items come to
-abbrev pub work_by : Asset → (client : Endpoint) → List Judged → Work
-work_by asset client judged = record {
-  to_client = stream_to asset side.Client judged;
-  to_controller = stream_to asset side.Controller judged;
-  log = lines asset client [] judged;
+abbrev pub work_by : SiteValue → (client : Endpoint) → List Judged → Work
+work_by site client judged = record {
+  to_client = stream_to site side.Client judged;
+  to_controller = stream_to site side.Controller judged;
+  log = lines site client [] judged;
   admitted = count_by (λ j. is_admitted j.fate) judged;
   refused = count_by (λ j. is_refused j.fate) judged;
   cut = cut_of judged;
 }
 
 -- the work of the items of a history, the oldest element first
-pub record Works (asset : Asset) (client : Endpoint) (history : List Element) (work : Work) : Type 0 where
+pub record Works (site : SiteValue) (client : Endpoint) (history : List Element) (work : Work) : Type 0 where
   pub judged : List Judged
-  pub are_judged : AreJudged asset (newcomer client.address) history judged
-  pub is_work : work ≡ work_by asset client judged
+  pub are_judged : AreJudged site (newcomer client.address) history judged
+  pub is_work : work ≡ work_by site client judged

@@ -16,7 +16,7 @@ use crate::session::Session;
 use cf_audit::CutReason;
 use cf_leg::{ClockAnswer, events_begin};
 use cf_outside::Desk;
-use cf_policy::Asset;
+use cf_policy::Site;
 use cf_view::{Side, WriteFault};
 
 /// How long a closed session is kept, in microseconds. This project's own choice.
@@ -27,20 +27,20 @@ impl Session {
     /// has expired. Else its two ends have their clock calls, and a peer that was silent for too long cuts it.
     pub fn on_clock<D: Desk>(
         &mut self,
-        asset: &Asset,
+        site: &Site<'_>,
         moment: u64,
         desk: &mut D,
     ) -> Result<Life, WriteFault>
-        requires sound { IsSound asset.now self.old }
+        requires sound { IsSound site.now self.old }
         requires moment { moment < moment_limit }
         requires whole { DeskValue.whole (D.value desk.old) ≡ true }
-        ensures ticks { IfOk result (λ life. (flow : Flow) (earlier : List SessionEvent) (last : SessionEvent) → flow.asset ≡ asset.now
+        ensures ticks { IfOk result (λ life. (flow : Flow) (earlier : List SessionEvent) (last : SessionEvent) → flow.site ≡ site.now
             → IsSessionOf flow earlier last self.old
             → TicksBy flow (last ∷ earlier) moment self.new (told (D.value desk.old)) (told (D.value desk.new)) life) }
-        ensures broken { OnErr result ((flow : Flow) (earlier : List SessionEvent) (last : SessionEvent) → flow.asset ≡ asset.now
+        ensures broken { OnErr result ((flow : Flow) (earlier : List SessionEvent) (last : SessionEvent) → flow.site ≡ site.now
             → IsSessionOf flow earlier last self.old
             → BreaksTick flow (last ∷ earlier) moment (D.value desk.old) (D.value desk.new)) }
-        ensures sound { IfOk result (λ life. IsLife life → IsSound asset.now self.new) }
+        ensures sound { IfOk result (λ life. IsLife life → IsSound site.now self.new) }
         ensures same { (SessionValue.limit self.new ≡ SessionValue.limit self.old)
             × (SessionValue.source self.new ≡ SessionValue.source self.old) }
         ensures frame { EmitsAndLogs (D.value desk.old) (D.value desk.new) (is_err result) }
@@ -53,10 +53,10 @@ impl Session {
             self.controller
                 .on_clock(moment, &mut self.to_controller, desk)?,
         ) {
-            return self.cut_at(asset, moment, CutReason::NoAnswer(Side::Controller), desk);
+            return self.cut_at(site, moment, CutReason::NoAnswer(Side::Controller), desk);
         }
         if is_silent(self.client.on_clock(moment, &mut self.to_client, desk)?) {
-            return self.cut_at(asset, moment, CutReason::NoAnswer(Side::Client), desk);
+            return self.cut_at(site, moment, CutReason::NoAnswer(Side::Client), desk);
         }
         Ok(life_of(self.closed))
     }

@@ -5,7 +5,7 @@ ghost use Rattle.std.specs.Option.{option_or};
 ghost use Rattle.cf_outq.specs.SendQueue.{queue_length};
 ghost use Rattle.cf_outside.specs.Desk.{DeskValue};
 ghost use Rattle.cf_outside.specs.Frames.{EmitsAndLogs};
-ghost use Rattle.cf_policy.specs.Within.{IsAssetWithin};
+ghost use Rattle.cf_policy.specs.Site.{IsSiteWithin};
 ghost use Rattle.cf_rebuild.specs.ReceiveWindow.{base_of};
 ghost use Rattle.cf_lane.specs.Limit.{limit_by};
 ghost use Rattle.cf_session.specs.Broken.{BreaksAmid};
@@ -22,7 +22,7 @@ use cf_driver::{length_cut, log_line};
 use cf_leg::LegAnswer;
 use cf_outq::Outq;
 use cf_outside::Desk;
-use cf_policy::Asset;
+use cf_policy::Site;
 use cf_view::{Side, WriteFault};
 
 /// The peer gave up.
@@ -102,18 +102,18 @@ impl Session {
     /// Where a session closes that had not closed, its line is written.
     pub(crate) fn close<D: Desk>(
         &mut self,
-        asset: &Asset,
+        site: &Site<'_>,
         moment: u64,
         desk: &mut D,
     ) -> Result<(), WriteFault>
-        requires within { IsAssetWithin asset.now }
+        requires within { IsSiteWithin site.now }
         requires whole { DeskValue.whole (D.value desk.old) ≡ true }
         ensures same { self.new ≡ record self.old { closed = SessionValue.closed self.new } }
         ensures closed { OnOk result (SessionValue.closed self.new ≡ option_or (SessionValue.closed self.old)
             (if is_done_now self.old then Some moment else None)) }
         ensures told { OnOk result (told (D.value desk.new) ≡ with_both (told (D.value desk.old)) []
-            (closing_lines asset.now self.old moment)) }
-        ensures broken { OnErr result (BreaksAmid [] (closing_lines asset.now self.old moment) (D.value desk.old) (D.value desk.new)) }
+            (closing_lines site.now self.old moment)) }
+        ensures broken { OnErr result (BreaksAmid [] (closing_lines site.now self.old moment) (D.value desk.old) (D.value desk.new)) }
         ensures frame { EmitsAndLogs (D.value desk.old) (D.value desk.new) (is_err result) }
     {
         if self.closed.is_some() || !self.is_done() {
@@ -122,7 +122,7 @@ impl Session {
         self.closed = Some(moment);
         let (admitted, refused) = (self.lane.admitted(), self.lane.refused());
         log_line(
-            asset,
+            site,
             self.source,
             moment,
             What::Close { admitted, refused },

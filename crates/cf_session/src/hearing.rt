@@ -13,7 +13,7 @@ ghost use Rattle.cf_outq.specs.SendQueue.{IsQueueOf};
 ghost use Rattle.cf_outside.specs.Desk.{DeskValue};
 ghost use Rattle.cf_outside.specs.Frames.{EmitsAndLogs};
 ghost use Rattle.cf_packet.specs.Packet.{packet_value};
-ghost use Rattle.cf_policy.specs.Within.{IsAssetWithin};
+ghost use Rattle.cf_policy.specs.Site.{IsSiteWithin};
 ghost use Rattle.cf_rebuild.specs.ReceiveWindow.{base_of};
 ghost use Rattle.cf_stream.specs.FirstCopy.{IsTaken, first_copy};
 ghost use Rattle.cf_stream.specs.Sizes.{window_size};
@@ -32,7 +32,7 @@ use cf_leg::{Leg, LegAnswer};
 use cf_outq::Outq;
 use cf_outside::Desk;
 use cf_packet::Packet;
-use cf_policy::Asset;
+use cf_policy::Site;
 use cf_view::{Side, WriteFault};
 
 /// What became of a packet.
@@ -77,7 +77,7 @@ fn take_in(
 pub(crate) fn hear<D: Desk>(
     leg: &mut Leg,
     lane: &mut Lane,
-    asset: &Asset,
+    site: &Site<'_>,
     moment: u64,
     side: Side,
     packet: &Packet<'_>,
@@ -85,8 +85,8 @@ pub(crate) fn hear<D: Desk>(
     to_controller: &mut Outq,
     desk: &mut D,
 ) -> Result<Heard, WriteFault>
-    requires serves { IsLaneOf asset.now lane.old }
-    requires within { IsAssetWithin asset.now }
+    requires serves { IsLaneOf site.now lane.old }
+    requires within { IsSiteWithin site.now }
     requires text { length packet.now.text.now ≤ 65535 }
     requires moment { moment < moment_limit }
     requires whole { DeskValue.whole (D.value desk.old) ≡ true }
@@ -95,23 +95,23 @@ pub(crate) fn hear<D: Desk>(
         (earlier : List Element) (before : Work)
         → moment ≡ leg_event.moment e → IsLegBetween ends leg.old (own_queue side to_client.old to_controller.old)
         (record e { came = Nothing; ending = Unspoken } ∷ es)
-        → AreUncut asset.now client rests earlier before lane.old to_client.old to_controller.old
+        → AreUncut site.now client rests earlier before lane.old to_client.old to_controller.old
         → rest_of side rests ≡ leg.old.window.pending
         → IsTaken (first_copy (offers ends.role es)) (taken side earlier)
-        → Hearing side ends asset.now client moment e es (packet_value packet.now) rests earlier before leg.new lane.new to_client.new
+        → Hearing side ends site.now client moment e es (packet_value packet.now) rests earlier before leg.new lane.new to_client.new
         to_controller.new heard.answer heard.cut
         (told (D.value desk.old)) (told (D.value desk.new))) }
     ensures broken { OnErr result ((ends : Ends) (client : EndpointOf) (e : LegEvent) (es : List LegEvent) (rests : Rests)
         (earlier : List Element) (before : Work)
         → moment ≡ leg_event.moment e → IsLegBetween ends leg.old (own_queue side to_client.old to_controller.old)
         (record e { came = Nothing; ending = Unspoken } ∷ es)
-        → AreUncut asset.now client rests earlier before lane.old to_client.old to_controller.old
+        → AreUncut site.now client rests earlier before lane.old to_client.old to_controller.old
         → rest_of side rests ≡ leg.old.window.pending
         → IsTaken (first_copy (offers ends.role es)) (taken side earlier)
-        → HearingAmid side ends asset.now client moment e es (packet_value packet.now) earlier before (D.value desk.old)
+        → HearingAmid side ends site.now client moment e es (packet_value packet.now) earlier before (D.value desk.old)
         (D.value desk.new)) }
     ensures ends { OnOk result (leg.new.ends ≡ leg.old.ends) }
-    ensures serves { OnOk result (IsLaneOf asset.now lane.new) }
+    ensures serves { OnOk result (IsLaneOf site.now lane.new) }
     ensures room { IfOk result (λ heard. KeepsRoom side leg.old.window leg.new.window lane.old lane.new to_client.old to_client.new
         to_controller.old to_controller.new heard.cut) }
     ensures frame { EmitsAndLogs (D.value desk.old) (D.value desk.new) (is_err result) }
@@ -126,7 +126,7 @@ pub(crate) fn hear<D: Desk>(
     let cut = hand_over(
         leg,
         lane,
-        asset,
+        site,
         moment,
         side,
         to_client,

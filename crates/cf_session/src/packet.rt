@@ -23,7 +23,7 @@ use crate::session::Session;
 use cf_leg::base_counts_the_taken;
 use cf_outside::Desk;
 use cf_packet::Packet;
-use cf_policy::Asset;
+use cf_policy::Site;
 use cf_view::{Side, WriteFault};
 
 impl Session {
@@ -31,31 +31,31 @@ impl Session {
     /// taken, judged and passed on; both ends then speak, or the session is cut.
     pub fn on_packet<D: Desk>(
         &mut self,
-        asset: &Asset,
+        site: &Site<'_>,
         moment: u64,
         side: Side,
         packet: &Packet<'_>,
         desk: &mut D,
     ) -> Result<Life, WriteFault>
-        requires sound { IsSound asset.now self.old }
+        requires sound { IsSound site.now self.old }
         requires text { length packet.now.text.now ≤ 65535 }
         requires moment { moment < moment_limit }
         requires whole { DeskValue.whole (D.value desk.old) ≡ true }
-        ensures hears { IfOk result (λ life. (flow : Flow) (earlier : List SessionEvent) (half : SessionEvent) → flow.asset ≡ asset.now
+        ensures hears { IfOk result (λ life. (flow : Flow) (earlier : List SessionEvent) (half : SessionEvent) → flow.site ≡ site.now
             → IsSessionOf flow earlier half self.old → IsTick flow earlier half.client.tick half → leg_event.moment half.client ≡ moment
             → HearsBy flow (SessionValue.limit self.old) earlier half side (packet_value packet.now) self.new (told (D.value desk.old))
             (told (D.value desk.new)) life) }
-        ensures broken { OnErr result ((flow : Flow) (earlier : List SessionEvent) (half : SessionEvent) → flow.asset ≡ asset.now
+        ensures broken { OnErr result ((flow : Flow) (earlier : List SessionEvent) (half : SessionEvent) → flow.site ≡ site.now
             → IsSessionOf flow earlier half self.old → IsTick flow earlier half.client.tick half → leg_event.moment half.client ≡ moment
             → BreaksPacket flow (SessionValue.limit self.old) earlier half side (packet_value packet.now) (D.value desk.old)
             (D.value desk.new)) }
-        ensures sound { IfOk result (λ life. IsLife life → IsSound asset.now self.new) }
+        ensures sound { IfOk result (λ life. IsLife life → IsSound site.now self.new) }
         ensures few { OnOk result (CountsBy 32768 (SessionValue.lane self.old) (SessionValue.lane self.new)) }
         ensures same { (SessionValue.limit self.new ≡ SessionValue.limit self.old)
             × (SessionValue.source self.new ≡ SessionValue.source self.old) }
         ensures frame { EmitsAndLogs (D.value desk.old) (D.value desk.new) (is_err result) }
     {
-        let heard = self.hear(asset, moment, side, packet, desk)?;
+        let heard = self.hear(site, moment, side, packet, desk)?;
         base_counts_the_taken();
         let full = self.full();
         if let Some(reason) = why(
@@ -65,39 +65,39 @@ impl Session {
             heard.cut,
             full,
         ) {
-            return self.cut_at(asset, moment, reason, desk);
+            return self.cut_at(site, moment, reason, desk);
         }
         self.speak(
             moment,
             greeting_number(side, heard.answer, packet.seq),
             desk,
         )?;
-        self.close(asset, moment, desk)?;
+        self.close(site, moment, desk)?;
         Ok(life_of(self.closed))
     }
 
     /// The packet is heard by the leg of its side and by the lane.
     fn hear<D: Desk>(
         &mut self,
-        asset: &Asset,
+        site: &Site<'_>,
         moment: u64,
         side: Side,
         packet: &Packet<'_>,
         desk: &mut D,
     ) -> Result<Heard, WriteFault>
-        requires sound { IsSound asset.now self.old }
+        requires sound { IsSound site.now self.old }
         requires text { length packet.now.text.now ≤ 65535 }
         requires moment { moment < moment_limit }
         requires whole { DeskValue.whole (D.value desk.old) ≡ true }
-        ensures hears { IfOk result (λ heard. (flow : Flow) (earlier : List SessionEvent) (half : SessionEvent) → flow.asset ≡ asset.now
+        ensures hears { IfOk result (λ heard. (flow : Flow) (earlier : List SessionEvent) (half : SessionEvent) → flow.site ≡ site.now
             → IsHalf half → leg_event.moment half.client ≡ moment → AreParts flow earlier half self.old
             → HeardBy flow earlier half side (packet_value packet.now) self.new heard.answer heard.cut (told (D.value desk.old))
             (told (D.value desk.new))) }
-        ensures broken { OnErr result ((flow : Flow) (earlier : List SessionEvent) (half : SessionEvent) → flow.asset ≡ asset.now
+        ensures broken { OnErr result ((flow : Flow) (earlier : List SessionEvent) (half : SessionEvent) → flow.site ≡ site.now
             → IsHalf half → leg_event.moment half.client ≡ moment → AreParts flow earlier half self.old
             → HeardAmid flow earlier half side (packet_value packet.now) (D.value desk.old) (D.value desk.new)) }
         ensures steady { IfOk result (λ heard. IsSteady self.new heard.cut) }
-        ensures serves { OnOk result (IsLaneOf asset.now (SessionValue.lane self.new)) }
+        ensures serves { OnOk result (IsLaneOf site.now (SessionValue.lane self.new)) }
         ensures few { OnOk result (CountsBy 32768 (SessionValue.lane self.old) (SessionValue.lane self.new)) }
         ensures same { (SessionValue.limit self.new ≡ SessionValue.limit self.old)
             × (SessionValue.source self.new ≡ SessionValue.source self.old)
@@ -109,7 +109,7 @@ impl Session {
                 let heard = hear(
                     &mut self.client,
                     &mut self.lane,
-                    asset,
+                    site,
                     moment,
                     Side::Client,
                     packet,
@@ -123,7 +123,7 @@ impl Session {
                 let heard = hear(
                     &mut self.controller,
                     &mut self.lane,
-                    asset,
+                    site,
                     moment,
                     Side::Controller,
                     packet,

@@ -1,4 +1,4 @@
-//! One session between a client and an asset: two ends of TCP connections, and the lane between them.
+//! One session between a client and a site: two ends of TCP connections, and the lane between them.
 ghost use Rattle.std.specs.Prelude.{◌≡◌, ◌-◌, ◌^◌, ◌<◌, ◌≤◌, true, List, IfOk, IsErrOf, OnErr, OnOk, pos, ◌≤ℤ◌};
 ghost use Rattle.std.specs.Result.{is_err};
 ghost use Rattle.std.specs.Option.{is_some};
@@ -7,7 +7,7 @@ ghost use Rattle.cf_leg.specs.Calls.{Widens};
 ghost use Rattle.cf_outside.specs.Desk.{DeskValue};
 ghost use Rattle.cf_outside.specs.Frames.{EmitsAndLogs};
 ghost use Rattle.cf_packet.specs.Packet.{packet_value};
-ghost use Rattle.cf_policy.specs.Within.{IsAssetWithin};
+ghost use Rattle.cf_policy.specs.Site.{IsSiteWithin};
 ghost use Rattle.cf_rebuild.specs.ReceiveWindow.{base_of};
 ghost use Rattle.cf_session.specs.Broken.{BreaksBeginning, has_failed};
 ghost use Rattle.cf_session.specs.Parts.{SessionValue};
@@ -24,7 +24,7 @@ use cf_leg::{Leg, Phase, Role, events_begin};
 use cf_outq::Outq;
 use cf_outside::Desk;
 use cf_packet::Packet;
-use cf_policy::Asset;
+use cf_policy::Site;
 use cf_view::{Endpoint, NoMemory, WriteFault};
 use std::alloc::Global;
 use std::marker::Model;
@@ -78,50 +78,56 @@ pub enum BeginFault {
 
 impl Session {
     /// Begins a session at a moment in microseconds: the controller gets the SYN of the box, and the log a line. The packet
-    /// has SYN and none of ACK, RST and FIN, and goes to the endpoint of the asset; its source, which is another endpoint,
-    /// is the client. A stream of as many letters as the limit cuts the session. Each later call is handed the same asset.
+    /// has SYN and none of ACK, RST and FIN, and goes to the endpoint of the site; its source, which is another endpoint,
+    /// is the client. A stream of as many letters as the limit cuts the session. Each later call is handed the same site.
     pub fn begin<D: Desk>(
         alloc: Global,
-        asset: &Asset,
+        site: &Site<'_>,
         moment: u64,
         limit: i64,
         syn: &Packet<'_>,
         desk: &mut D,
     ) -> Result<Session, BeginFault>
-        requires within { IsAssetWithin asset.now }
+        requires within { IsSiteWithin site.now }
         requires moment { (1 ≤ moment) × (moment < moment_limit) }
         requires limit { (pos 1 ≤ℤ limit) × (limit ≤ℤ pos (2 ^ 30)) }
         requires whole { DeskValue.whole (D.value desk.old) ≡ true }
-        ensures begins { IfOk result (λ s. Begins (record { asset = asset.now; syn = packet_value syn.now }) (moment - 1) s
+        ensures begins { IfOk result (λ s. Begins (record { site = site.now; syn = packet_value syn.now }) (moment - 1) s
             (told (D.value desk.old)) (told (D.value desk.new))) }
         ensures limit { IfOk result (λ s. limit ≡ pos s.limit) }
         ensures client { IfOk result (λ s. s.source ≡ syn.now.source) }
-        ensures sound { IfOk result (λ s. IsSound asset.now s) }
+        ensures sound { IfOk result (λ s. IsSound site.now s) }
         ensures nothing { IsErrOf result BeginFault.NoMemory → desk.new ≡ desk.old }
         ensures broken { IsErrOf result BeginFault.Write
-            → BreaksBeginning (record { asset = asset.now; syn = packet_value syn.now }) (moment - 1) (D.value desk.old)
+            → BreaksBeginning (record { site = site.now; syn = packet_value syn.now }) (moment - 1) (D.value desk.old)
             (D.value desk.new) }
         ensures frame { EmitsAndLogs (D.value desk.old) (D.value desk.new) (has_failed result) }
     {
-        let Ok(mut session) = Session::made(alloc, asset, limit as u64, syn) else {
+        let Ok(mut session) = Session::made(alloc, site, limit as u64, syn) else {
             return Err(BeginFault::NoMemory);
         };
-        match session.greet_controller(asset, moment, syn.seq, desk) {
+        match session.greet_controller(site, moment, syn.seq, desk) {
             Ok(()) => Ok(session),
             Err(_) => Err(BeginFault::Write),
         }
     }
 
     /// A session to which nothing happened.
-    fn made(alloc: Global, asset: &Asset, limit: u64, syn: &Packet<'_>) -> Result<Session, NoMemory>
-        requires within { IsAssetWithin asset.now }
-        ensures made { IfOk result (λ s. IsMade (record { asset = asset.now; syn = packet_value syn.now }) s) }
+    fn made(
+        alloc: Global,
+        site: &Site<'_>,
+        limit: u64,
+        syn: &Packet<'_>,
+    ) -> Result<Session, NoMemory>
+        requires within { IsSiteWithin site.now }
+        ensures made { IfOk result (λ s. IsMade (record { site = site.now; syn = packet_value syn.now }) s) }
         ensures limit { IfOk result (λ s. s.limit ≡ limit) }
-        ensures serves { IfOk result (λ s. IsLaneOf asset.now s.lane) }
+        ensures serves { IfOk result (λ s. IsLaneOf site.now s.lane) }
     {
-        let client = Leg::passive(alloc, asset.endpoint, syn.source, syn.seq, syn.mss)?;
-        let controller = Leg::active(alloc, syn.source, asset.endpoint, syn.seq)?;
-        let lane = Lane::new(alloc, asset, syn.source, None)?;
+        let first = site.first();
+        let client = Leg::passive(alloc, first.endpoint, syn.source, syn.seq, syn.mss)?;
+        let controller = Leg::active(alloc, syn.source, first.endpoint, syn.seq)?;
+        let lane = Lane::new(alloc, site, syn.source, None)?;
         let to_client = Outq::new(alloc)?;
         let to_controller = Outq::new(alloc)?;
         Ok(Session {
@@ -139,20 +145,20 @@ impl Session {
     /// Sends the SYN to the controller, and writes the line of the beginning.
     fn greet_controller<D: Desk>(
         &mut self,
-        asset: &Asset,
+        site: &Site<'_>,
         moment: u64,
         number: u32,
         desk: &mut D,
     ) -> Result<(), WriteFault>
-        requires within { IsAssetWithin asset.now }
+        requires within { IsSiteWithin site.now }
         requires made { (self.old.controller).phase ≡ Phase.Made }
         requires role { (self.old.controller).ends.role ≡ Role.Active number }
         requires base { base_of (self.old.controller).window ≡ 0 }
         requires moment { (1 ≤ moment) × (moment < moment_limit) }
         requires whole { DeskValue.whole (D.value desk.old) ≡ true }
-        ensures begins { OnOk result ((flow : Flow) → flow.asset ≡ asset.now → flow.syn.seq ≡ number → IsMade flow self.old
+        ensures begins { OnOk result ((flow : Flow) → flow.site ≡ site.now → flow.syn.seq ≡ number → IsMade flow self.old
             → Begins flow (moment - 1) self.new (told (D.value desk.old)) (told (D.value desk.new))) }
-        ensures broken { OnErr result ((flow : Flow) → flow.asset ≡ asset.now → flow.syn.seq ≡ number → IsMade flow self.old
+        ensures broken { OnErr result ((flow : Flow) → flow.site ≡ site.now → flow.syn.seq ≡ number → IsMade flow self.old
             → BreaksBeginning flow (moment - 1) (D.value desk.old) (D.value desk.new)) }
         ensures window { OnOk result (Widens true (self.old.controller).window (self.new.controller).window) }
         ensures queue { OnOk result (self.new.to_controller ≡ record self.old.to_controller { sent = (self.new.to_controller).sent }) }
@@ -164,7 +170,7 @@ impl Session {
         self.controller.greet(moment, number, desk)?;
         self.controller
             .speak(moment, true, &mut self.to_controller, desk)?;
-        log_line(asset, self.source, moment, What::Begun, desk)?;
+        log_line(site, self.source, moment, What::Begun, desk)?;
         Ok(())
     }
 

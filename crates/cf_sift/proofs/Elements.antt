@@ -22,7 +22,7 @@ use Rattle.cf_outq.specs.SendQueue.{IsQueueOf, Queue, queue_length}
 use Rattle.cf_outside.specs.Files.{Content, with_appended}
 use Rattle.cf_outside.specs.Lines.{ends_with_line, file_lines, file_part}
 use Rattle.cf_outside.proofs.Content.{with_appended-twice}
-use Rattle.cf_policy.specs.declared.Asset.{Asset}
+use Rattle.cf_policy.specs.Site.{SiteValue}
 use Rattle.cf_stream.specs.Stream.{Stream, letter_count}
 use Rattle.cf_view.specs.declared.Endpoint.{Endpoint}
 use Rattle.cf_view.specs.declared.Side.TheVariants as side
@@ -88,29 +88,29 @@ fed_letters h piece going =
 pub end_letters : (h : List Element) → ended_of side.Client h ≡ false → letter_count (taken side.Client (h ++ end_at 0 side.Client ∷ [])) ≡ letter_count (taken side.Client h) + 1
 end_letters h going = letters_more side.Client h (end_at 0 side.Client ∷ []) going
 
-module _ (asset : Asset) (client : Endpoint) (names : SiftNamesValue) (first : List ℕ → Content) where
+module _ (site : SiteValue) (client : Endpoint) (names : SiftNamesValue) (first : List ℕ → Content) where
   -- a sifting knows why its history is cut
-  pub cut_known : (now : List ℕ → Content) (h : List Element) (cut : Option CutReason) (sifting : Sifting) (f : IsSiftingOf asset client names first now h cut sifting) →
-      cut_behind asset h f.follows.judged ≡ option_or cut (limit_by LETTER_LIMIT sifting.heard.letters 0 (queue_length sifting.to_client) (queue_length sifting.to_controller))
+  pub cut_known : (now : List ℕ → Content) (h : List Element) (cut : Option CutReason) (sifting : Sifting) (f : IsSiftingOf site client names first now h cut sifting) →
+      cut_behind site h f.follows.judged ≡ option_or cut (limit_by LETTER_LIMIT sifting.heard.letters 0 (queue_length sifting.to_client) (queue_length sifting.to_controller))
   cut_known now h cut sifting f =
       let js = f.follows.judged in
-      ap (λ c. option_or c (limit_cut LETTER_LIMIT h (stream_to asset side.Client js) (stream_to asset side.Controller js))) f.follows.is_cut
-      ∙ ap (option_or cut) (sym (limit_is LETTER_LIMIT asset h js sifting.heard.letters 0 sifting.to_client sifting.to_controller f.letters (sym f.quiet) f.follows.client_stream f.follows.controller_stream))
+      ap (λ c. option_or c (limit_cut LETTER_LIMIT h (stream_to site side.Client js) (stream_to site side.Controller js))) f.follows.is_cut
+      ∙ ap (option_or cut) (sym (limit_is LETTER_LIMIT site h js sifting.heard.letters 0 sifting.to_client sifting.to_controller f.letters (sym f.quiet) f.follows.client_stream f.follows.controller_stream))
 
   -- the judged items of one more element, of this client
-  module _ (go : StreamsGoOn) (old : List ℕ → Content) (h : List Element) (sifting : Sifting) (before : IsSiftingOf asset client names first old h None sifting) where
+  module _ (go : StreamsGoOn) (old : List ℕ → Content) (h : List Element) (sifting : Sifting) (before : IsSiftingOf site client names first old h None sifting) where
     abbrev were : List Judged
     were = before.follows.judged
 
-    were_judged : AreJudged asset (newcomer client.address) h were
-    were_judged = subst (λ (e : Endpoint). AreJudged asset (newcomer e.address) h were) before.of_client before.follows.are_judged
+    were_judged : AreJudged site (newcomer client.address) h were
+    were_judged = subst (λ (e : Endpoint). AreJudged site (newcomer e.address) h were) before.of_client before.follows.are_judged
 
     -- a line failed
     pub line_fails : (part element : Element) (rest : List ℕ) (now : List ℕ → Content) → element ≡ record { moment = part.moment; side = part.side; letters = record { bytes = part.letters.bytes ++ rest; ended = part.letters.ended } } →
-        Began asset none_before sifting.lane.client (h ++ part ∷ []) (file_lines (first names.log)) (file_lines (now names.log)) (file_part (now names.log)) →
-        now names.out ≡ old names.out → now names.replies ≡ old names.replies → LineFails asset client names first now h were element
+        Began site none_before sifting.lane.client (h ++ part ∷ []) (file_lines (first names.log)) (file_lines (now names.log)) (file_part (now names.log)) →
+        now names.out ≡ old names.out → now names.replies ≡ old names.replies → LineFails site client names first now h were element
     line_fails part element rest now is began out replies =
-        let b = subst (λ (e : Endpoint). Began asset none_before e (h ++ part ∷ []) (file_lines (first names.log)) (file_lines (now names.log)) (file_part (now names.log))) before.of_client began in
+        let b = subst (λ (e : Endpoint). Began site none_before e (h ++ part ∷ []) (file_lines (first names.log)) (file_lines (now names.log)) (file_part (now names.log))) before.of_client began in
         record {
           part = part;
           front = (rest, is);
@@ -118,54 +118,54 @@ module _ (asset : Asset) (client : Endpoint) (names : SiftNamesValue) (first : L
           are_judged = b.are_judged;
           of_out = out ∙ before.of_out;
           of_replies = replies ∙ before.of_replies;
-          of_log = lines_begun (first names.log) (now names.log) (lines asset client [] b.judged) b.count b.some before.log_first b.of_lines b.of_part;
+          of_log = lines_begun (first names.log) (now names.log) (lines site client [] b.judged) b.count b.some before.log_first b.of_lines b.of_part;
         }
 
     -- an element was fed
     module _ (e : Element) (cut : Option CutReason) (mid : Sifting) (now : List ℕ → Content)
-        (takes : Takes asset side.Client (e ∷ []) cut sifting.heard.rest.items mid.heard.rest.items (state_of sifting (old names.log)) (state_of mid (now names.log)))
+        (takes : Takes site side.Client (e ∷ []) cut sifting.heard.rest.items mid.heard.rest.items (state_of sifting (old names.log)) (state_of mid (now names.log)))
         (out : now names.out ≡ old names.out) (replies : now names.replies ≡ old names.replies) (whole : ends_with_line (now names.log) ≡ true) where
-      fed : Follows asset none_before (h ++ e ∷ []) (client_rests mid.heard.rest.items) cut (file_lines (first names.log)) (state_of mid (now names.log))
-      fed = adds_whole asset none_before (h ++ e ∷ []) (client_rests mid.heard.rest.items) cut (file_lines (first names.log)) (file_lines (old names.log)) (state_of mid (now names.log))
+      fed : Follows site none_before (h ++ e ∷ []) (client_rests mid.heard.rest.items) cut (file_lines (first names.log)) (state_of mid (now names.log))
+      fed = adds_whole site none_before (h ++ e ∷ []) (client_rests mid.heard.rest.items) cut (file_lines (first names.log)) (file_lines (old names.log)) (state_of mid (now names.log))
           (takes.follows none_before h (client_rests sifting.heard.rest.items) (file_lines (first names.log)) (file_lines (old names.log)) refl before.follows)
 
       abbrev are : List Judged
       are = fed.judged
 
-      are_judged : AreJudged asset (newcomer client.address) (h ++ e ∷ []) are
-      are_judged = subst (λ (p : Endpoint). AreJudged asset (newcomer p.address) (h ++ e ∷ []) are) (takes.client ∙ before.of_client) fed.are_judged
+      are_judged : AreJudged site (newcomer client.address) (h ++ e ∷ []) are
+      are_judged = subst (λ (p : Endpoint). AreJudged site (newcomer p.address) (h ++ e ∷ []) are) (takes.client ∙ before.of_client) fed.are_judged
 
-      goes : GoOn asset client were are
-      goes = go asset none_before client h (e ∷ []) were are were_judged are_judged
+      goes : GoOn site client were are
+      goes = go site none_before client h (e ∷ []) were are were_judged are_judged
 
       ends_after : mid.to_controller.ended ≡ ended_of side.Client (h ++ e ∷ [])
       ends_after = takes.client_ended ∙ ap (λ b. b || ended_of side.Client (e ∷ [])) before.ends ∙ sym (ended_of-append side.Client h (e ∷ []))
 
       -- the log has the lines
-      has_lines : (new : List ℕ → Content) → new names.log ≡ now names.log → HasLines (lines asset client [] are ++ []) (first names.log) (new names.log)
+      has_lines : (new : List ℕ → Content) → new names.log ≡ now names.log → HasLines (lines site client [] are ++ []) (first names.log) (new names.log)
       has_lines new same =
-          let of_lines : file_lines (now names.log) ≡ with_lines (file_lines (first names.log)) (lines asset client [] are) =
-          fed.of_lines ∙ ap (λ (p : Endpoint). with_lines (file_lines (first names.log)) (lines asset p [] are)) (takes.client ∙ before.of_client) in
-          subst (HasLines (lines asset client [] are ++ []) (first names.log)) (sym same)
-          (lines_now (first names.log) (now names.log) (lines asset client [] are) before.log_first whole of_lines)
+          let of_lines : file_lines (now names.log) ≡ with_lines (file_lines (first names.log)) (lines site client [] are) =
+          fed.of_lines ∙ ap (λ (p : Endpoint). with_lines (file_lines (first names.log)) (lines site p [] are)) (takes.client ∙ before.of_client) in
+          subst (HasLines (lines site client [] are ++ []) (first names.log)) (sym same)
+          (lines_now (first names.log) (now names.log) (lines site client [] are) before.log_first whole of_lines)
 
       -- the queues got what the element put out
       module _ (client_drained : IsDrained sifting.to_client) (controller_drained : IsDrained sifting.to_controller) where
-        client_kept : mid.to_client.kept ≡ outputs asset side.Client were goes.ms
-        client_kept = kept_more sifting.to_client mid.to_client (stream_to asset side.Client were) (stream_to asset side.Client are) (outputs asset side.Client were goes.ms)
+        client_kept : mid.to_client.kept ≡ outputs site side.Client were goes.ms
+        client_kept = kept_more sifting.to_client mid.to_client (stream_to site side.Client were) (stream_to site side.Client are) (outputs site side.Client were goes.ms)
             client_drained before.follows.client_stream takes.to_client.acked fed.client_stream goes.to_client
 
-        controller_kept : mid.to_controller.kept ≡ outputs asset side.Controller were goes.ms
-        controller_kept = kept_more sifting.to_controller mid.to_controller (stream_to asset side.Controller were) (stream_to asset side.Controller are)
-            (outputs asset side.Controller were goes.ms) controller_drained before.follows.controller_stream takes.to_controller.acked fed.controller_stream goes.to_controller
+        controller_kept : mid.to_controller.kept ≡ outputs site side.Controller were goes.ms
+        controller_kept = kept_more sifting.to_controller mid.to_controller (stream_to site side.Controller were) (stream_to site side.Controller are)
+            (outputs site side.Controller were goes.ms) controller_drained before.follows.controller_stream takes.to_controller.acked fed.controller_stream goes.to_controller
 
         -- an append failed
         pub moves_fail : (new : List ℕ → Content) (last : Sifting) → new names.log ≡ now names.log → MovesFail names mid last now new →
-            ElementFails asset client names first new h were e
+            ElementFails site client names first new h were e
         moves_fail new last log (inl (part, still, same)) = inr (inl (record {
           judged = are;
           are_judged = are_judged;
-          of_out = file_part_more (outputs asset side.Controller [] were) (outputs asset side.Controller [] are) (outputs asset side.Controller were goes.ms)
+          of_out = file_part_more (outputs site side.Controller [] were) (outputs site side.Controller [] are) (outputs site side.Controller were goes.ms)
               mid.to_controller.kept (first names.out) (now names.out) (new names.out) goes.to_controller controller_kept (out ∙ before.of_out) (part.gone + part.more, part.file);
           of_replies = same ∙ replies ∙ before.of_replies;
           of_log = has_lines new log;
@@ -173,9 +173,9 @@ module _ (asset : Asset) (client : Endpoint) (names : SiftNamesValue) (first : L
         moves_fail new last log (inr (all, part)) = inr (inr (inl (record {
           judged = are;
           are_judged = are_judged;
-          of_out = file_more (outputs asset side.Controller [] were) (outputs asset side.Controller [] are) (outputs asset side.Controller were goes.ms)
+          of_out = file_more (outputs site side.Controller [] were) (outputs site side.Controller [] are) (outputs site side.Controller were goes.ms)
               mid.to_controller.kept (first names.out) (now names.out) (new names.out) goes.to_controller controller_kept (out ∙ before.of_out) all.file;
-          of_replies = file_part_more (outputs asset side.Client [] were) (outputs asset side.Client [] are) (outputs asset side.Client were goes.ms)
+          of_replies = file_part_more (outputs site side.Client [] were) (outputs site side.Client [] are) (outputs site side.Client were goes.ms)
               mid.to_client.kept (first names.replies) (now names.replies) (new names.replies) goes.to_client client_kept (replies ∙ before.of_replies) (part.gone + part.more, part.file);
           of_log = has_lines new log;
         })))
@@ -190,7 +190,7 @@ module _ (asset : Asset) (client : Endpoint) (names : SiftNamesValue) (first : L
           abbrev moved : Sifting
           moved = record mid { to_client = to_client; to_controller = to_controller }
 
-          follows : Follows asset none_before (h ++ e ∷ []) (client_rests mid.heard.rest.items) cut (file_lines (first names.log)) (state_of moved (new names.log))
+          follows : Follows site none_before (h ++ e ∷ []) (client_rests mid.heard.rest.items) cut (file_lines (first names.log)) (state_of moved (new names.log))
           follows = record {
             judged = are;
             are_judged = fed.are_judged;
@@ -204,19 +204,19 @@ module _ (asset : Asset) (client : Endpoint) (names : SiftNamesValue) (first : L
               rules = fed.knows.rules;
               wire = fed.knows.wire;
             };
-            client_stream = client_stands (stream_to asset side.Client are) fed.client_stream;
-            controller_stream = controller_stands (stream_to asset side.Controller are) fed.controller_stream;
+            client_stream = client_stands (stream_to site side.Client are) fed.client_stream;
+            controller_stream = controller_stands (stream_to site side.Controller are) fed.controller_stream;
             of_lines = ap file_lines log ∙ fed.of_lines;
           }
 
-          pub sifting_of : (last : Sifting) → last ≡ moved → IsSiftingOf asset client names first new (h ++ e ∷ []) cut last
+          pub sifting_of : (last : Sifting) → last ≡ moved → IsSiftingOf site client names first new (h ++ e ∷ []) cut last
           unfolding follows
-          sifting_of last same = subst (IsSiftingOf asset client names first new (h ++ e ∷ []) cut) (sym same) (record {
+          sifting_of last same = subst (IsSiftingOf site client names first new (h ++ e ∷ []) cut) (sym same) (record {
             follows = follows;
             of_client = takes.client ∙ before.of_client;
-            of_out = file_more (outputs asset side.Controller [] were) (outputs asset side.Controller [] are) (outputs asset side.Controller were goes.ms)
+            of_out = file_more (outputs site side.Controller [] were) (outputs site side.Controller [] are) (outputs site side.Controller were goes.ms)
                 mid.to_controller.kept (first names.out) (now names.out) (new names.out) goes.to_controller controller_kept (out ∙ before.of_out) controller_drains.file;
-            of_replies = file_more (outputs asset side.Client [] were) (outputs asset side.Client [] are) (outputs asset side.Client were goes.ms)
+            of_replies = file_more (outputs site side.Client [] were) (outputs site side.Client [] are) (outputs site side.Client were goes.ms)
                 mid.to_client.kept (first names.replies) (now names.replies) (new names.replies) goes.to_client client_kept (replies ∙ before.of_replies) client_drains.file;
             log_first = before.log_first;
             log_now = ap ends_with_line log ∙ whole;
@@ -228,14 +228,14 @@ module _ (asset : Asset) (client : Endpoint) (names : SiftNamesValue) (first : L
       -- nothing came of it
       pub sifting_ended : mid.to_client.pushed ≡ sifting.to_client.pushed → mid.to_controller.pushed ≡ sifting.to_controller.pushed →
           mid.heard.letters ≡ letter_count (taken side.Client (h ++ e ∷ [])) → letter_count (taken side.Controller (h ++ e ∷ [])) ≡ 0 →
-          IsSiftingOf asset client names first now (h ++ e ∷ []) cut mid
+          IsSiftingOf site client names first now (h ++ e ∷ []) cut mid
       sifting_ended client_same controller_same letters quiet = record {
         follows = fed;
         of_client = takes.client ∙ before.of_client;
-        of_out = out ∙ before.of_out ∙ ap (with_appended (first names.out)) (sym (nothing_more (outputs asset side.Controller [] were) (outputs asset side.Controller [] are)
-            (outputs asset side.Controller were goes.ms) goes.to_controller (sym fed.controller_stream.pushed ∙ controller_same ∙ before.follows.controller_stream.pushed)));
-        of_replies = replies ∙ before.of_replies ∙ ap (with_appended (first names.replies)) (sym (nothing_more (outputs asset side.Client [] were) (outputs asset side.Client [] are)
-            (outputs asset side.Client were goes.ms) goes.to_client (sym fed.client_stream.pushed ∙ client_same ∙ before.follows.client_stream.pushed)));
+        of_out = out ∙ before.of_out ∙ ap (with_appended (first names.out)) (sym (nothing_more (outputs site side.Controller [] were) (outputs site side.Controller [] are)
+            (outputs site side.Controller were goes.ms) goes.to_controller (sym fed.controller_stream.pushed ∙ controller_same ∙ before.follows.controller_stream.pushed)));
+        of_replies = replies ∙ before.of_replies ∙ ap (with_appended (first names.replies)) (sym (nothing_more (outputs site side.Client [] were) (outputs site side.Client [] are)
+            (outputs site side.Client were goes.ms) goes.to_client (sym fed.client_stream.pushed ∙ client_same ∙ before.follows.client_stream.pushed)));
         log_first = before.log_first;
         log_now = whole;
         letters = letters;

@@ -1,6 +1,7 @@
 mod Draining
 mod Elements
 mod Logs
+mod Room
 mod Sifted
 mod Stored
 mod Streams

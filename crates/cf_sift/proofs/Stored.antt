@@ -7,7 +7,7 @@ use Rattle.cf_lane.specs.Follows.{AreJudged}
 use Rattle.cf_lane.specs.History.{Element, bytes_at, end_at}
 use Rattle.cf_lane.specs.Judged.{Judged}
 use Rattle.cf_lane.specs.Laws.{HasOneJudgement}
-use Rattle.cf_policy.specs.declared.Asset.{Asset}
+use Rattle.cf_policy.specs.Site.{SiteValue}
 use Rattle.cf_view.specs.declared.Side.TheVariants as side
 use Rattle.cf_sift.specs.Laws.{HasOneCut}
 use Rattle.cf_sift.specs.Stored.{GoesUpTo, IsUncut, cut_behind, pieces_within, stored_history}
@@ -47,35 +47,35 @@ module _ {X : Type 0} where
         | inr more ↦ inr (x ∷ more.0, more.1, ap (λ l. x ∷ l) more.2)
       ]
 
-module _ (one : HasOneJudgement) (asset : Asset) (client : ℕ) where
+module _ (one : HasOneJudgement) (site : SiteValue) (client : ℕ) where
   -- a history that is not cut, and no more after one more element
-  pub uncut_more : (h : List Element) (e : Element) (judged : List Judged) → IsUncut asset client h → AreJudged asset (newcomer client) (h ++ e ∷ []) judged →
-      cut_behind asset (h ++ e ∷ []) judged ≡ None → IsUncut asset client (h ++ e ∷ [])
+  pub uncut_more : (h : List Element) (e : Element) (judged : List Judged) → IsUncut site client h → AreJudged site (newcomer client) (h ++ e ∷ []) judged →
+      cut_behind site (h ++ e ∷ []) judged ≡ None → IsUncut site client (h ++ e ∷ [])
   uncut_more h e judged uncut are none front back ks is are_ks =
       elim (split_last front back h e is) [
         | inl nothing ↦
             let whole : front ≡ h ++ e ∷ [] = sym (append-nil front) ∙ ap (λ b. front ++ b) (sym nothing) ∙ sym is in
-            let same : ks ≡ judged = one asset (newcomer client) (h ++ e ∷ []) ks judged (subst (λ l. AreJudged asset (newcomer client) l ks) whole are_ks) are in
-            ap (λ l. cut_behind asset l ks) whole ∙ ap (cut_behind asset (h ++ e ∷ [])) same ∙ none
+            let same : ks ≡ judged = one site (newcomer client) (h ++ e ∷ []) ks judged (subst (λ l. AreJudged site (newcomer client) l ks) whole are_ks) are in
+            ap (λ l. cut_behind site l ks) whole ∙ ap (cut_behind site (h ++ e ∷ [])) same ∙ none
         | inr more ↦ uncut front more.0 ks more.1 are_ks
       ]
 
   -- the place of a cut, with one more element
-  pub goes_up : (whole h later : List Element) (e : Element) (cut : Option CutReason) (judged : List Judged) → IsUncut asset client h →
-      whole ≡ (h ++ e ∷ []) ++ later → AreJudged asset (newcomer client) (h ++ e ∷ []) judged → cut_behind asset (h ++ e ∷ []) judged ≡ cut →
-      (cut ≡ None → later ≡ []) → GoesUpTo asset client whole cut (h ++ e ∷ []) judged
+  pub goes_up : (whole h later : List Element) (e : Element) (cut : Option CutReason) (judged : List Judged) → IsUncut site client h →
+      whole ≡ (h ++ e ∷ []) ++ later → AreJudged site (newcomer client) (h ++ e ∷ []) judged → cut_behind site (h ++ e ∷ []) judged ≡ cut →
+      (cut ≡ None → later ≡ []) → GoesUpTo site client whole cut (h ++ e ∷ []) judged
   goes_up whole h later e cut judged uncut begins are is all = record {
     later = later;
     begins = begins;
     are_judged = are;
     is_cut = is;
-    first = λ front last same. subst (IsUncut asset client) (same_from_push h front e last same).0 uncut;
+    first = λ front last same. subst (IsUncut site client) (same_from_push h front e last same).0 uncut;
     all = all;
   }
 
   -- where two histories go up to their cuts, neither goes on after the other
-  no_more : (whole h k : List Element) (cut other : Option CutReason) (js ks : List Judged) (m d : List Element) → (x : GoesUpTo asset client whole cut h js) →
-      (y : GoesUpTo asset client whole other k ks) → k ≡ h ++ m → x.later ≡ m ++ d → m ≡ []
+  no_more : (whole h k : List Element) (cut other : Option CutReason) (js ks : List Judged) (m d : List Element) → (x : GoesUpTo site client whole cut h js) →
+      (y : GoesUpTo site client whole other k ks) → k ≡ h ++ m → x.later ≡ m ++ d → m ≡ []
   no_more whole h k cut other js ks m d x y goes later =
       elim (last_of m) [
         | inl none ↦ none
@@ -86,8 +86,8 @@ module _ (one : HasOneJudgement) (asset : Asset) (client : ℕ) where
             (no_parts m d (sym later ∙ x.all none)).0
       ]
 
-  one_place : (whole h k : List Element) (cut other : Option CutReason) (js ks : List Judged) → GoesUpTo asset client whole cut h js →
-      GoesUpTo asset client whole other k ks → h ≡ k
+  one_place : (whole h k : List Element) (cut other : Option CutReason) (js ks : List Judged) → GoesUpTo site client whole cut h js →
+      GoesUpTo site client whole other k ks → h ≡ k
   one_place whole h k cut other js ks x y =
       elim (two_fronts h x.later k y.later (sym x.begins ∙ y.begins)) [
         | inl m ↦ sym (append-nil h) ∙ ap (λ l. h ++ l) (sym (no_more whole h k cut other js ks m.0 y.later x y m.1 m.2)) ∙ sym m.1
@@ -95,10 +95,10 @@ module _ (one : HasOneJudgement) (asset : Asset) (client : ℕ) where
       ]
 
 pub has_one_cut : HasOneJudgement → HasOneCut
-has_one_cut one asset client whole h k cut other js ks x y =
-    let place = one_place one asset client whole h k cut other js ks x y in
-    let same = one asset (newcomer client) k js ks (subst (λ l. AreJudged asset (newcomer client) l js) place x.are_judged) y.are_judged in
-    (place, same, sym x.is_cut ∙ ap (λ l. cut_behind asset l js) place ∙ ap (cut_behind asset k) same ∙ y.is_cut)
+has_one_cut one site client whole h k cut other js ks x y =
+    let place = one_place one site client whole h k cut other js ks x y in
+    let same = one site (newcomer client) k js ks (subst (λ l. AreJudged site (newcomer client) l js) place x.are_judged) y.are_judged in
+    (place, same, sym x.is_cut ∙ ap (λ l. cut_behind site l js) place ∙ ap (cut_behind site k) same ∙ y.is_cut)
 
 no_pieces : (n : ℕ) → pieces_within n [] ≡ []
 no_pieces zero = refl

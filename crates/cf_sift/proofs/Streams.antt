@@ -15,7 +15,7 @@ use Rattle.cf_outside.specs.Files.{BeginsWith, Content, HasAt, IsWhole, absent, 
 use Rattle.cf_outside.specs.Part.{IsFilled}
 use Rattle.cf_outside.specs.Lines.{file_lines}
 use Rattle.cf_outside.proofs.Content.{begins_more}
-use Rattle.cf_policy.specs.declared.Asset.{Asset}
+use Rattle.cf_policy.specs.Site.{SiteValue}
 use Rattle.cf_view.specs.declared.Endpoint.{Endpoint}
 use Rattle.cf_view.specs.declared.Side.TheVariants as side
 use Rattle.cf_sift.specs.Sifting.{FailsElement, IsReady, IsSiftingAfter, IsSiftingOf, TakesElement}
@@ -87,45 +87,45 @@ piece_at file bytes p begins filled some short =
           (more.0, subst (IsWhole file) (append_assoc bytes p more.0) more.1, (stored_history more.0, full_piece p more.0 (omega (arith, full, short))))
     ]
 
-module _ (asset : Asset) (client : Endpoint) (names : SiftNamesValue) (first : List ℕ → Content) where
-  pub of_client : (now : List ℕ → Content) (h : List Element) (cut : Option CutReason) (sifting : Sifting) (f : IsSiftingOf asset client names first now h cut sifting) →
-      AreJudged asset (newcomer client.address) h f.follows.judged
-  of_client now h cut sifting f = subst (λ (e : Endpoint). AreJudged asset (newcomer e.address) h f.follows.judged) f.of_client f.follows.are_judged
+module _ (site : SiteValue) (client : Endpoint) (names : SiftNamesValue) (first : List ℕ → Content) where
+  pub of_client : (now : List ℕ → Content) (h : List Element) (cut : Option CutReason) (sifting : Sifting) (f : IsSiftingOf site client names first now h cut sifting) →
+      AreJudged site (newcomer client.address) h f.follows.judged
+  of_client now h cut sifting f = subst (λ (e : Endpoint). AreJudged site (newcomer e.address) h f.follows.judged) f.of_client f.follows.are_judged
 
   -- the outputs have what was taken
-  pub have_output : (now : List ℕ → Content) (h : List Element) (cut : Option CutReason) (sifting : Sifting) (f : IsSiftingOf asset client names first now h cut sifting) →
-      HaveOutput asset client names first now f.follows.judged []
+  pub have_output : (now : List ℕ → Content) (h : List Element) (cut : Option CutReason) (sifting : Sifting) (f : IsSiftingOf site client names first now h cut sifting) →
+      HaveOutput site client names first now f.follows.judged []
   have_output now h cut sifting f =
       let js = f.follows.judged in
-      let of_lines : file_lines (now names.log) ≡ with_lines (file_lines (first names.log)) (lines asset client [] js) =
-      f.follows.of_lines ∙ ap (λ (e : Endpoint). with_lines (file_lines (first names.log)) (lines asset e [] js)) f.of_client in
+      let of_lines : file_lines (now names.log) ≡ with_lines (file_lines (first names.log)) (lines site client [] js) =
+      f.follows.of_lines ∙ ap (λ (e : Endpoint). with_lines (file_lines (first names.log)) (lines site e [] js)) f.of_client in
       record {
         of_out = f.of_out;
         of_replies = f.of_replies;
-        of_log = lines_now (first names.log) (now names.log) (lines asset client [] js) f.log_first f.log_now of_lines;
+        of_log = lines_now (first names.log) (now names.log) (lines site client [] js) f.log_first f.log_now of_lines;
       }
 
   -- a sifting that nothing cuts
-  pub uncut_sifting : (now : List ℕ → Content) (h : List Element) (sifting : Sifting) → IsSiftingAfter asset client names first now h None sifting →
-      IsSiftingOf asset client names first now h None sifting
+  pub uncut_sifting : (now : List ℕ → Content) (h : List Element) (sifting : Sifting) → IsSiftingAfter site client names first now h None sifting →
+      IsSiftingOf site client names first now h None sifting
   uncut_sifting now h sifting after =
-      let none = (neither after.by_item _ (sym (cut_known asset client names first now h after.by_item sifting after.sifting_of) ∙ after.is_cut)).0 in
-      subst (λ c. IsSiftingOf asset client names first now h c sifting) none after.sifting_of
+      let none = (neither after.by_item _ (sym (cut_known site client names first now h after.by_item sifting after.sifting_of) ∙ after.is_cut)).0 in
+      subst (λ c. IsSiftingOf site client names first now h c sifting) none after.sifting_of
 
 -- the file was read whole, up to the element that is next, after which these come
-pub record ComesNext (asset : Asset) (client : Endpoint) (names : SiftNamesValue) (first old now : List ℕ → Content) (sifting : Sifting) (element : Element)
+pub record ComesNext (site : SiteValue) (client : Endpoint) (names : SiftNamesValue) (first old now : List ℕ → Content) (sifting : Sifting) (element : Element)
     (later : List Element) : Type 0 where
   pub bytes : List ℕ
   pub whole : IsWhole (old names.stream) bytes
   pub history : List Element
   pub begins : stored_history bytes ≡ history ++ element ∷ later
-  pub sifting_of : IsSiftingOf asset client names first now history None sifting
-  pub uncut : IsUncut asset client.address history
+  pub sifting_of : IsSiftingOf site client names first now history None sifting
+  pub uncut : IsUncut site client.address history
 
-module _ {asset : Asset} {client : Endpoint} {names : SiftNamesValue} {first old now : List ℕ → Content} {sifting : Sifting} {element : Element} {later : List Element}
-    (x : ComesNext asset client names first old now sifting element later) where
+module _ {site : SiteValue} {client : Endpoint} {names : SiftNamesValue} {first old now : List ℕ → Content} {sifting : Sifting} {element : Element} {later : List Element}
+    (x : ComesNext site client names first old now sifting element later) where
   -- a write failed at it
-  pub stops : (new : List ℕ → Content) → FailsElement asset names element sifting now new → WriteStops asset client names first old new
+  pub stops : (new : List ℕ → Content) → FailsElement site names element sifting now new → WriteStops site client names first old new
   stops new fails = record {
     bytes = x.bytes;
     stream = whole_stream (old names.stream) x.bytes x.whole;
@@ -135,13 +135,13 @@ module _ {asset : Asset} {client : Endpoint} {names : SiftNamesValue} {first old
     begins = x.begins;
     uncut = x.uncut;
     judged = x.sifting_of.follows.judged;
-    are_judged = of_client asset client names first now x.history None sifting x.sifting_of;
+    are_judged = of_client site client names first now x.history None sifting x.sifting_of;
     fails = fails client first x.history x.sifting_of;
   }
 
   -- it was taken: the stream is cut after it, or ends with it
   pub ends : HasOneJudgement → (new : List ℕ → Content) (last : Sifting) (cut : Option CutReason) → (cut ≡ None → later ≡ []) →
-      TakesElement asset names element sifting last now new cut → IsTakenWhole asset client names first old new cut last
+      TakesElement site names element sifting last now new cut → IsTakenWhole site client names first old new cut last
   ends one new last cut all takes =
       let after = takes client first x.history x.sifting_of in
       record {
@@ -151,18 +151,18 @@ module _ {asset : Asset} {client : Endpoint} {names : SiftNamesValue} {first old
         element = element;
         uncut = x.uncut;
         judged = x.sifting_of.follows.judged;
-        are_judged = of_client asset client names first now x.history None sifting x.sifting_of;
+        are_judged = of_client site client names first now x.history None sifting x.sifting_of;
         after = after;
-        goes = goes_up one asset client.address (stored_history x.bytes) x.history later element cut after.sifting_of.follows.judged x.uncut
+        goes = goes_up one site client.address (stored_history x.bytes) x.history later element cut after.sifting_of.follows.judged x.uncut
             (x.begins ∙ sym (append_assoc x.history (element ∷ []) later))
-            (of_client asset client names first new (x.history ++ element ∷ []) after.by_item last after.sifting_of) after.is_cut all;
+            (of_client site client names first new (x.history ++ element ∷ []) after.by_item last after.sifting_of) after.is_cut all;
       }
 
-module _ (asset : Asset) (client : Endpoint) (names : SiftNamesValue) (first : List ℕ → Content) where
+module _ (site : SiteValue) (client : Endpoint) (names : SiftNamesValue) (first : List ℕ → Content) where
   module _ (one : HasOneJudgement) where
     -- before the first piece
-    pub starts : (old : List ℕ → Content) (sifting : Sifting) → IsReady asset sifting → IsSiftingOf asset client names first old [] None sifting →
-        IsTakenTo asset client names first old old 0 sifting
+    pub starts : (old : List ℕ → Content) (sifting : Sifting) → IsReady site sifting → IsSiftingOf site client names first old [] None sifting →
+        IsTakenTo site client names first old old 0 sifting
     starts old sifting ready f = record {
       bytes = [];
       size = refl;
@@ -172,8 +172,8 @@ module _ (asset : Asset) (client : Endpoint) (names : SiftNamesValue) (first : L
       sifting_of = f;
       uncut = λ front back ks is are.
           let none = (no_parts front back (sym is)).0 in
-          let same : ks ≡ f.follows.judged = one asset (newcomer client.address) [] ks f.follows.judged (subst (λ l. AreJudged asset (newcomer client.address) l ks) none are) (of_client asset client names first old [] None sifting f) in
-          ap (λ l. cut_behind asset l ks) none ∙ ap (cut_behind asset []) same ∙ cut_known asset client names first old [] None sifting f
+          let same : ks ≡ f.follows.judged = one site (newcomer client.address) [] ks f.follows.judged (subst (λ l. AreJudged site (newcomer client.address) l ks) none are) (of_client site client names first old [] None sifting f) in
+          ap (λ l. cut_behind site l ks) none ∙ ap (cut_behind site []) same ∙ cut_known site client names first old [] None sifting f
           ∙ limit_none LETTER_LIMIT sifting.heard.letters 0 (queue_length sifting.to_client) (queue_length sifting.to_controller) ready.few (omega arith) ready.client.few ready.controller.few;
     }
       where
@@ -182,9 +182,9 @@ module _ (asset : Asset) (client : Endpoint) (names : SiftNamesValue) (first : L
         nothing_read absent = refl
         nothing_read (holds all) = refl
 
-    module _ (old now : List ℕ → Content) (at : ℕ) (sifting : Sifting) (t : IsTakenTo asset client names first old now at sifting) where
+    module _ (old now : List ℕ → Content) (at : ℕ) (sifting : Sifting) (t : IsTakenTo site client names first old now at sifting) where
       -- a read failed
-      pub read_stops : ReadStops asset client names first old now
+      pub read_stops : ReadStops site client names first old now
       read_stops =
           let more = stream_of (old names.stream) t.bytes t.begins in
           record {
@@ -195,13 +195,13 @@ module _ (asset : Asset) (client : Endpoint) (names : SiftNamesValue) (first : L
             begins = t.goes_on more.0;
             uncut = t.uncut;
             judged = t.sifting_of.follows.judged;
-            are_judged = of_client asset client names first now t.history None sifting t.sifting_of;
-            have = have_output asset client names first now t.history None sifting t.sifting_of;
+            are_judged = of_client site client names first now t.history None sifting t.sifting_of;
+            have = have_output site client names first now t.history None sifting t.sifting_of;
           }
 
       module _ (p : List ℕ) (filled : IsFilled (old names.stream) (length t.bytes) 4096 p) where
         -- it is not empty: it is next
-        pub piece_next : 0 < length p → length p ≤ 4096 → (later : List Element) × ComesNext asset client names first old now sifting (bytes_at 0 side.Client p) later
+        pub piece_next : 0 < length p → length p ≤ 4096 → (later : List Element) × ComesNext site client names first old now sifting (bytes_at 0 side.Client p) later
         piece_next some short =
             let (rest, whole, (later, splits)) = piece_at (old names.stream) t.bytes p t.begins filled some short in (
               later,
@@ -216,7 +216,7 @@ module _ (asset : Asset) (client : Endpoint) (names : SiftNamesValue) (first : L
             )
 
         -- it is empty: End is next
-        pub none_next : length p ≡ 0 → ComesNext asset client names first old now sifting (end_at 0 side.Client) []
+        pub none_next : length p ≡ 0 → ComesNext site client names first old now sifting (end_at 0 side.Client) []
         none_next none = record {
           bytes = t.bytes ++ p;
           whole = read_last (old names.stream) t.bytes p t.begins filled (omega (arith, none));
@@ -227,13 +227,13 @@ module _ (asset : Asset) (client : Endpoint) (names : SiftNamesValue) (first : L
         }
 
         -- it was taken, and nothing cuts after it
-        module _ (new : List ℕ → Content) (last : Sifting) (after : IsSiftingAfter asset client names first new (t.history ++ bytes_at 0 side.Client p ∷ []) None last) where
-          stays_uncut : IsUncut asset client.address (t.history ++ bytes_at 0 side.Client p ∷ [])
+        module _ (new : List ℕ → Content) (last : Sifting) (after : IsSiftingAfter site client names first new (t.history ++ bytes_at 0 side.Client p ∷ []) None last) where
+          stays_uncut : IsUncut site client.address (t.history ++ bytes_at 0 side.Client p ∷ [])
           stays_uncut =
-              uncut_more one asset client.address t.history (bytes_at 0 side.Client p) after.sifting_of.follows.judged t.uncut
-              (of_client asset client names first new (t.history ++ bytes_at 0 side.Client p ∷ []) after.by_item last after.sifting_of) after.is_cut
+              uncut_more one site client.address t.history (bytes_at 0 side.Client p) after.sifting_of.follows.judged t.uncut
+              (of_client site client names first new (t.history ++ bytes_at 0 side.Client p ∷ []) after.by_item last after.sifting_of) after.is_cut
 
-          pub goes_on : length p ≡ 4096 → IsTakenTo asset client names first old new (at + length p) last
+          pub goes_on : length p ≡ 4096 → IsTakenTo site client names first old new (at + length p) last
           goes_on full = record {
             bytes = t.bytes ++ p;
             size = length-append t.bytes p ∙ ap (λ n. n + length p) t.size;
@@ -241,18 +241,18 @@ module _ (asset : Asset) (client : Endpoint) (names : SiftNamesValue) (first : L
             history = t.history ++ bytes_at 0 side.Client p ∷ [];
             goes_on = λ rest. ap stored_history (append_assoc t.bytes p rest) ∙ t.goes_on (p ++ rest) ∙ ap (λ l. t.history ++ l) (full_piece p rest full)
                 ∙ sym (append_assoc t.history (bytes_at 0 side.Client p ∷ []) (stored_history rest));
-            sifting_of = uncut_sifting asset client names first new (t.history ++ bytes_at 0 side.Client p ∷ []) last after;
+            sifting_of = uncut_sifting site client names first new (t.history ++ bytes_at 0 side.Client p ∷ []) last after;
             uncut = stays_uncut;
           }
 
           -- it is not full: End is next
-          pub last_next : 0 < length p → length p < 4096 → ComesNext asset client names first old new last (end_at 0 side.Client) []
+          pub last_next : 0 < length p → length p < 4096 → ComesNext site client names first old new last (end_at 0 side.Client) []
           last_next some short = record {
             bytes = t.bytes ++ p;
             whole = read_last (old names.stream) t.bytes p t.begins filled short;
             history = t.history ++ bytes_at 0 side.Client p ∷ [];
             begins = t.goes_on p ∙ ap (λ l. t.history ++ l) (last_piece p some (omega (arith, short)))
                 ∙ sym (append_assoc t.history (bytes_at 0 side.Client p ∷ []) (end_at 0 side.Client ∷ []));
-            sifting_of = uncut_sifting asset client names first new (t.history ++ bytes_at 0 side.Client p ∷ []) last after;
+            sifting_of = uncut_sifting site client names first new (t.history ++ bytes_at 0 side.Client p ∷ []) last after;
             uncut = stays_uncut;
           }

@@ -11,7 +11,7 @@ use Rattle.cf_lane.specs.Log.{line_about, lines}
 use Rattle.cf_lane.specs.Output.{outputs}
 use Rattle.cf_outside.specs.Files.{Content, untold, absent, holds, IsWhole, content_after_create, with_appended}
 use Rattle.cf_outside.specs.Frames.{KeepsOtherFiles}
-use Rattle.cf_policy.specs.declared.Asset.{Asset}
+use Rattle.cf_policy.specs.Site.{SiteValue}
 use Rattle.cf_view.specs.declared.Endpoint.{Endpoint}
 use Rattle.cf_view.specs.declared.Side.TheVariants as side
 use Rattle.cf_sift.specs.Names.{SiftNamesValue, sift_output_names}
@@ -49,42 +49,42 @@ abbrev pub IsFrontOf : (part whole : Element) → Type 0
 IsFrontOf part whole = (rest : List ℕ) × (whole ≡ letters_at part.moment part.side (part.letters.bytes ++ rest) part.letters.ended)
 
 -- the line of a cut, at moment 0
-abbrev pub cut_lines : Asset → Endpoint → Option CutReason → List (List ℕ)
-cut_lines asset client None = []
-cut_lines asset client (Some reason) = line_about asset client 0 (Cut reason) ∷ []
+abbrev pub cut_lines : SiteValue → Endpoint → Option CutReason → List (List ℕ)
+cut_lines site client None = []
+cut_lines site client (Some reason) = line_about site.first client 0 (Cut reason) ∷ []
 
-module _ (asset : Asset) (client : Endpoint) (names : SiftNamesValue) (first now : List ℕ → Content) where
+module _ (site : SiteValue) (client : Endpoint) (names : SiftNamesValue) (first now : List ℕ → Content) where
   -- after what it had first, OUT has what these items put into the stream to the controller
   abbrev pub HasOut : List Judged → Type 0
-  HasOut judged = now names.out ≡ with_appended (first names.out) (outputs asset side.Controller [] judged)
+  HasOut judged = now names.out ≡ with_appended (first names.out) (outputs site side.Controller [] judged)
 
   -- or all of the earlier ones, and a beginning of what follows
   abbrev pub GoesOnOut : (before judged : List Judged) → Type 0
   GoesOnOut before judged =
-      (k : ℕ) × (length (outputs asset side.Controller [] before) ≤ k)
-      × (now names.out ≡ with_appended (first names.out) (take k (outputs asset side.Controller [] judged)))
+      (k : ℕ) × (length (outputs site side.Controller [] before) ≤ k)
+      × (now names.out ≡ with_appended (first names.out) (take k (outputs site side.Controller [] judged)))
 
   -- REPLIES has what they put into the stream to the client
   abbrev pub HasReplies : List Judged → Type 0
-  HasReplies judged = now names.replies ≡ with_appended (first names.replies) (outputs asset side.Client [] judged)
+  HasReplies judged = now names.replies ≡ with_appended (first names.replies) (outputs site side.Client [] judged)
 
   -- or all of the earlier replies, and a beginning of what follows
   abbrev pub GoesOnReplies : (before judged : List Judged) → Type 0
   GoesOnReplies before judged =
-      (k : ℕ) × (length (outputs asset side.Client [] before) ≤ k)
-      × (now names.replies ≡ with_appended (first names.replies) (take k (outputs asset side.Client [] judged)))
+      (k : ℕ) × (length (outputs site side.Client [] before) ≤ k)
+      × (now names.replies ≡ with_appended (first names.replies) (take k (outputs site side.Client [] judged)))
 
   -- LOG has their lines, and these after them
   abbrev pub HasLog : List Judged → (more : List (List ℕ)) → Type 0
-  HasLog judged more = HasLines (lines asset client [] judged ++ more) (first names.log) (now names.log)
+  HasLog judged more = HasLines (lines site client [] judged ++ more) (first names.log) (now names.log)
 
   -- a beginning of their lines
   abbrev pub BeginsLog : List Judged → Type 0
-  BeginsLog judged = BeginsLines (lines asset client [] judged) (first names.log) (now names.log)
+  BeginsLog judged = BeginsLines (lines site client [] judged) (first names.log) (now names.log)
 
   -- their lines, and a beginning of these
   abbrev pub HasLogThen : List Judged → (more : List (List ℕ)) → Type 0
-  HasLogThen judged more = HasLinesThen (lines asset client [] judged) more (first names.log) (now names.log)
+  HasLogThen judged more = HasLinesThen (lines site client [] judged) more (first names.log) (now names.log)
 
   -- the outputs have what these items put out
   pub record HaveOutput (judged : List Judged) (more : List (List ℕ)) : Type 0 where
@@ -97,7 +97,7 @@ module _ (asset : Asset) (client : Endpoint) (names : SiftNamesValue) (first now
     pub part : Element
     pub front : IsFrontOf part element
     pub judged : List Judged
-    pub are_judged : AreJudged asset (newcomer client.address) (earlier ++ part ∷ []) judged
+    pub are_judged : AreJudged site (newcomer client.address) (earlier ++ part ∷ []) judged
     pub of_out : HasOut before
     pub of_replies : HasReplies before
     pub of_log : BeginsLog judged
@@ -105,7 +105,7 @@ module _ (asset : Asset) (client : Endpoint) (names : SiftNamesValue) (first now
   -- an append to OUT failed: the lines of the element are written, and nothing of it is in REPLIES
   pub record OutFails (earlier : List Element) (before : List Judged) (element : Element) : Type 0 where
     pub judged : List Judged
-    pub are_judged : AreJudged asset (newcomer client.address) (earlier ++ element ∷ []) judged
+    pub are_judged : AreJudged site (newcomer client.address) (earlier ++ element ∷ []) judged
     pub of_out : GoesOnOut before judged
     pub of_replies : HasReplies before
     pub of_log : HasLog judged []
@@ -113,7 +113,7 @@ module _ (asset : Asset) (client : Endpoint) (names : SiftNamesValue) (first now
   -- an append to REPLIES failed: what the element puts into OUT is written
   pub record RepliesFail (earlier : List Element) (before : List Judged) (element : Element) : Type 0 where
     pub judged : List Judged
-    pub are_judged : AreJudged asset (newcomer client.address) (earlier ++ element ∷ []) judged
+    pub are_judged : AreJudged site (newcomer client.address) (earlier ++ element ∷ []) judged
     pub of_out : HasOut judged
     pub of_replies : GoesOnReplies before judged
     pub of_log : HasLog judged []
@@ -121,12 +121,12 @@ module _ (asset : Asset) (client : Endpoint) (names : SiftNamesValue) (first now
   -- the line of the cut failed: all else is written
   pub record CutLineFails (earlier : List Element) (element : Element) : Type 0 where
     pub judged : List Judged
-    pub are_judged : AreJudged asset (newcomer client.address) (earlier ++ element ∷ []) judged
+    pub are_judged : AreJudged site (newcomer client.address) (earlier ++ element ∷ []) judged
     pub reason : CutReason
-    pub is_cut : cut_behind asset (earlier ++ element ∷ []) judged ≡ Some reason
+    pub is_cut : cut_behind site (earlier ++ element ∷ []) judged ≡ Some reason
     pub of_out : HasOut judged
     pub of_replies : HasReplies judged
-    pub of_log : HasLogThen judged (cut_lines asset client (Some reason))
+    pub of_log : HasLogThen judged (cut_lines site client (Some reason))
 
   -- a write failed at an element, and nothing was written after it
   abbrev pub ElementFails : (earlier : List Element) (before : List Judged) (element : Element) → Type 0
@@ -137,15 +137,15 @@ module _ (asset : Asset) (client : Endpoint) (names : SiftNamesValue) (first now
 abbrev pub created : (List ℕ → Content) → List ℕ → Content
 created before name = content_after_create (before name)
 
-module _ (asset : Asset) (client : ℕ) (names : SiftNamesValue) (before after : List ℕ → Content) where
+module _ (site : SiteValue) (client : ℕ) (names : SiftNamesValue) (before after : List ℕ → Content) where
   -- the stream was taken up to its first cut, or to its end, and the outputs have what its items put out, and the line of the cut
   pub record IsSifted (done : SiftDone) : Type 0 where
     pub bytes : List ℕ
     pub whole : IsWhole (before names.stream) bytes
     pub history : List Element
     pub judged : List Judged
-    pub goes : GoesUpTo asset client (stored_history bytes) done.cut history judged
-    pub have : HaveOutput asset (stored_client client) names (created before) after judged (cut_lines asset (stored_client client) done.cut)
+    pub goes : GoesUpTo site client (stored_history bytes) done.cut history judged
+    pub have : HaveOutput site (stored_client client) names (created before) after judged (cut_lines site (stored_client client) done.cut)
     pub admitted : done.admitted ≡ count_by (λ j. is_admitted j.fate) judged
     pub refused : done.refused ≡ count_by (λ j. is_refused j.fate) judged
     pub others : KeepsOtherFiles (sift_output_names names) before after
@@ -157,10 +157,10 @@ module _ (asset : Asset) (client : ℕ) (names : SiftNamesValue) (before after :
     pub history : List Element
     pub later : List Element
     pub begins : stored_history bytes ≡ history ++ later
-    pub uncut : IsUncut asset client history
+    pub uncut : IsUncut site client history
     pub judged : List Judged
-    pub are_judged : AreJudged asset (newcomer client) history judged
-    pub have : HaveOutput asset (stored_client client) names (created before) after judged []
+    pub are_judged : AreJudged site (newcomer client) history judged
+    pub have : HaveOutput site (stored_client client) names (created before) after judged []
     pub others : KeepsOtherFiles (sift_output_names names) before after
 
   -- a write failed at an element, before which nothing cuts
@@ -171,10 +171,10 @@ module _ (asset : Asset) (client : ℕ) (names : SiftNamesValue) (before after :
     pub element : Element
     pub later : List Element
     pub begins : stored_history bytes ≡ earlier ++ element ∷ later
-    pub uncut : IsUncut asset client earlier
+    pub uncut : IsUncut site client earlier
     pub judged : List Judged
-    pub are_judged : AreJudged asset (newcomer client) earlier judged
-    pub fails : ElementFails asset (stored_client client) names (created before) after earlier judged element
+    pub are_judged : AreJudged site (newcomer client) earlier judged
+    pub fails : ElementFails site (stored_client client) names (created before) after earlier judged element
     pub others : KeepsOtherFiles (sift_output_names names) before after
 
   -- a creation failed, and nothing was written

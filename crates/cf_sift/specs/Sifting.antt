@@ -8,7 +8,7 @@ use Rattle.cf_lane.specs.History.{Element, ended_of, taken}
 use Rattle.cf_outq.specs.SendQueue.{Queue, queue_length}
 use Rattle.cf_outside.specs.Files.{Content}
 use Rattle.cf_outside.specs.Lines.{ends_with_line, file_lines}
-use Rattle.cf_policy.specs.declared.Asset.{Asset}
+use Rattle.cf_policy.specs.Site.{SiteValue}
 use Rattle.cf_stream.specs.Stream.{letter_count}
 use Rattle.cf_view.specs.declared.Endpoint.{Endpoint}
 use Rattle.cf_view.specs.declared.Side.TheVariants as side
@@ -33,23 +33,23 @@ pub record IsDrained (q : Queue) : Type 0 where
   pub few : queue_length q < 2 ^ 30
 
 -- a sifting can take an element, whatever came before
-pub record IsReady (asset : Asset) (sifting : Sifting) : Type 0 where
-  pub of_asset : IsLaneOf asset sifting.lane
-  pub debt : debt sifting.lane ≤ debt_limit
+pub record IsReady (site : SiteValue) (sifting : Sifting) : Type 0 where
+  pub of_site : IsLaneOf site sifting.lane
+  pub debt : debt sifting.lane ≤ debt_limit site
   pub client : IsDrained sifting.to_client
   pub controller : IsDrained sifting.to_controller
   pub rest : length sifting.heard.rest.items < rest_limit
   pub counts : sifting.lane.admitted + sifting.lane.refused + length sifting.heard.rest.items ≤ sifting.heard.letters
   pub few : sifting.heard.letters < 2 ^ 30
 
-module _ (asset : Asset) (client : Endpoint) (names : SiftNamesValue) (first now : List ℕ → Content) where
+module _ (site : SiteValue) (client : Endpoint) (names : SiftNamesValue) (first now : List ℕ → Content) where
   -- a sifting and the outputs stand for a history, of which nothing is left in the queues; an item cuts it so
   pub record IsSiftingOf (history : List Element) (cut : Option CutReason) (sifting : Sifting) : Type 0 where
-    pub follows : Follows asset none_before history (client_rests sifting.heard.rest.items) cut (file_lines (first names.log))
+    pub follows : Follows site none_before history (client_rests sifting.heard.rest.items) cut (file_lines (first names.log))
         (state_of sifting (now names.log))
     pub of_client : sifting.lane.client ≡ client
-    pub of_out : HasOut asset client names first now follows.judged
-    pub of_replies : HasReplies asset client names first now follows.judged
+    pub of_out : HasOut site client names first now follows.judged
+    pub of_replies : HasReplies site client names first now follows.judged
     pub log_first : ends_with_line (first names.log) ≡ true
     pub log_now : ends_with_line (now names.log) ≡ true
     pub letters : sifting.heard.letters ≡ letter_count (taken side.Client history)
@@ -60,20 +60,20 @@ module _ (asset : Asset) (client : Endpoint) (names : SiftNamesValue) (first now
   pub record IsSiftingAfter (history : List Element) (cut : Option CutReason) (sifting : Sifting) : Type 0 where
     pub by_item : Option CutReason
     pub sifting_of : IsSiftingOf history by_item sifting
-    pub is_cut : cut_behind asset history sifting_of.follows.judged ≡ cut
+    pub is_cut : cut_behind site history sifting_of.follows.judged ≡ cut
 
 -- an element was taken: so it is of each history that the sifting stood for
-abbrev pub TakesElement : Asset → SiftNamesValue → Element → (old new : Sifting) → (before after : List ℕ → Content) → Option CutReason
+abbrev pub TakesElement : SiteValue → SiftNamesValue → Element → (old new : Sifting) → (before after : List ℕ → Content) → Option CutReason
     → Type 0
-TakesElement asset names element old new before after cut =
-    (client : Endpoint) (first : List ℕ → Content) (h : List Element) → IsSiftingOf asset client names first before h None old →
-    IsSiftingAfter asset client names first after (h ++ element ∷ []) cut new
+TakesElement site names element old new before after cut =
+    (client : Endpoint) (first : List ℕ → Content) (h : List Element) → IsSiftingOf site client names first before h None old →
+    IsSiftingAfter site client names first after (h ++ element ∷ []) cut new
 
 -- a write failed at it
-abbrev pub FailsElement : Asset → SiftNamesValue → Element → (old : Sifting) → (before after : List ℕ → Content) → Type 0
-FailsElement asset names element old before after =
-    (client : Endpoint) (first : List ℕ → Content) (h : List Element) → (was : IsSiftingOf asset client names first before h None old) →
-    ElementFails asset client names first after h was.follows.judged element
+abbrev pub FailsElement : SiteValue → SiftNamesValue → Element → (old : Sifting) → (before after : List ℕ → Content) → Type 0
+FailsElement site names element old before after =
+    (client : Endpoint) (first : List ℕ → Content) (h : List Element) → (was : IsSiftingOf site client names first before h None old) →
+    ElementFails site client names first after h was.follows.judged element
 
 -- an append to OUT failed, and nothing was done for REPLIES; or one to REPLIES did, and OUT has all
 abbrev pub MovesFail : SiftNamesValue → (old new : Sifting) → (before after : List ℕ → Content) → Type 0

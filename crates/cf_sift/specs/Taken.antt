@@ -7,7 +7,7 @@ use Rattle.cf_lane.specs.Follows.{AreJudged}
 use Rattle.cf_lane.specs.History.{Element}
 use Rattle.cf_lane.specs.Judged.{Judged}
 use Rattle.cf_outside.specs.Files.{BeginsWith, Content, IsWhole}
-use Rattle.cf_policy.specs.declared.Asset.{Asset}
+use Rattle.cf_policy.specs.Site.{SiteValue}
 use Rattle.cf_view.specs.declared.Endpoint.{Endpoint}
 use Rattle.cf_sift.specs.Sifting.{IsSiftingAfter, IsSiftingOf}
 use Rattle.cf_sift.specs.Names.{SiftNamesValue}
@@ -16,18 +16,18 @@ use Rattle.cf_sift.specs.Stored.{GoesUpTo, IsUncut, stored_history}
 use Rattle.cf_sift.specs.Stream.{HasStream}
 use Rattle.cf_sift.specs.declared.sifting.Sifting.{Sifting}
 
-module _ (asset : Asset) (client : Endpoint) (names : SiftNamesValue) (first old now : List ℕ → Content) where
+module _ (site : SiteValue) (client : Endpoint) (names : SiftNamesValue) (first old now : List ℕ → Content) where
   -- up to its first cut, or to its end
   pub record IsTakenWhole (cut : Option CutReason) (sifting : Sifting) : Type 0 where
     pub bytes : List ℕ
     pub whole : IsWhole (old names.stream) bytes
     pub earlier : List Element
     pub element : Element
-    pub uncut : IsUncut asset client.address earlier
+    pub uncut : IsUncut site client.address earlier
     pub judged : List Judged
-    pub are_judged : AreJudged asset (newcomer client.address) earlier judged
-    pub after : IsSiftingAfter asset client names first now (earlier ++ element ∷ []) cut sifting
-    pub goes : GoesUpTo asset client.address (stored_history bytes) cut (earlier ++ element ∷ []) after.sifting_of.follows.judged
+    pub are_judged : AreJudged site (newcomer client.address) earlier judged
+    pub after : IsSiftingAfter site client names first now (earlier ++ element ∷ []) cut sifting
+    pub goes : GoesUpTo site client.address (stored_history bytes) cut (earlier ++ element ∷ []) after.sifting_of.follows.judged
 
   -- up to a read that failed
   pub record ReadStops : Type 0 where
@@ -36,10 +36,10 @@ module _ (asset : Asset) (client : Endpoint) (names : SiftNamesValue) (first old
     pub history : List Element
     pub later : List Element
     pub begins : stored_history bytes ≡ history ++ later
-    pub uncut : IsUncut asset client.address history
+    pub uncut : IsUncut site client.address history
     pub judged : List Judged
-    pub are_judged : AreJudged asset (newcomer client.address) history judged
-    pub have : HaveOutput asset client names first now judged []
+    pub are_judged : AreJudged site (newcomer client.address) history judged
+    pub have : HaveOutput site client names first now judged []
 
   -- up to a write that failed
   pub record WriteStops : Type 0 where
@@ -49,12 +49,12 @@ module _ (asset : Asset) (client : Endpoint) (names : SiftNamesValue) (first old
     pub element : Element
     pub later : List Element
     pub begins : stored_history bytes ≡ earlier ++ element ∷ later
-    pub uncut : IsUncut asset client.address earlier
+    pub uncut : IsUncut site client.address earlier
     pub judged : List Judged
-    pub are_judged : AreJudged asset (newcomer client.address) earlier judged
-    pub fails : ElementFails asset client names first now earlier judged element
+    pub are_judged : AreJudged site (newcomer client.address) earlier judged
+    pub fails : ElementFails site client names first now earlier judged element
 
-module _ (asset : Asset) (client : Endpoint) (names : SiftNamesValue) (first old now : List ℕ → Content) where
+module _ (site : SiteValue) (client : Endpoint) (names : SiftNamesValue) (first old now : List ℕ → Content) where
   -- before a piece: so many bytes were taken, and nothing cuts
   pub record IsTakenTo (at : ℕ) (sifting : Sifting) : Type 0 where
     pub bytes : List ℕ
@@ -62,11 +62,11 @@ module _ (asset : Asset) (client : Endpoint) (names : SiftNamesValue) (first old
     pub begins : BeginsWith (old names.stream) bytes
     pub history : List Element
     pub goes_on : (rest : List ℕ) → stored_history (bytes ++ rest) ≡ history ++ stored_history rest
-    pub sifting_of : IsSiftingOf asset client names first now history None sifting
-    pub uncut : IsUncut asset client.address history
+    pub sifting_of : IsSiftingOf site client names first now history None sifting
+    pub uncut : IsUncut site client.address history
 
 -- what a call that takes a stream says holds of each client and of whatever the outputs had first
-abbrev pub OfEachSifting : Asset → SiftNamesValue → Sifting → (before : List ℕ → Content) → (Endpoint → (List ℕ → Content) → Type 0)
+abbrev pub OfEachSifting : SiteValue → SiftNamesValue → Sifting → (before : List ℕ → Content) → (Endpoint → (List ℕ → Content) → Type 0)
     → Type 0
-OfEachSifting asset names sifting before Holds =
-    (client : Endpoint) (first : List ℕ → Content) → IsSiftingOf asset client names first before [] None sifting → Holds client first
+OfEachSifting site names sifting before Holds =
+    (client : Endpoint) (first : List ℕ → Content) → IsSiftingOf site client names first before [] None sifting → Holds client first

@@ -5,7 +5,7 @@ ghost use Rattle.cf_outside.specs.Faults.{HasCause, HasCauseIn};
 ghost use Rattle.cf_outside.specs.Frames.{OnlyWrites};
 ghost use Rattle.cf_outside.specs.Lines.{ends_with_line, file_lines, file_part};
 ghost use Rattle.cf_lane.specs.Log.{with_lines};
-ghost use Rattle.cf_policy.specs.Within.{IsAssetWithin};
+ghost use Rattle.cf_policy.specs.Site.{IsSiteWithin};
 ghost use Rattle.cf_sift.specs.Names.{AreApart, sift_names_value};
 ghost use Rattle.cf_sift.specs.Sifted.{SiftEnds, cut_lines};
 
@@ -17,7 +17,7 @@ use crate::stream::{PIECE, take_stream};
 use cf_audit::{CutReason, What};
 use cf_driver::log_line;
 use cf_outside::Files;
-use cf_policy::Asset;
+use cf_policy::Site;
 use cf_view::{Endpoint, NoMemory, WriteFault};
 use std::alloc::Global;
 use thiserror::Error;
@@ -78,14 +78,14 @@ impl From<NoMemory> for SiftFault {
 /// `NoMemory`: every file is as it was. `Read`, `Write`: nothing is written after the fault.
 pub fn sift_stream<F: Files>(
     alloc: Global,
-    asset: &Asset,
+    site: &Site<'_>,
     client: u32,
     names: &SiftNames<'_>,
     files: &mut F,
 ) -> Result<SiftDone, SiftFault>
-    requires within { IsAssetWithin asset.now }
+    requires within { IsSiteWithin site.now }
     requires apart { AreApart (sift_names_value names.now) }
-    ensures ends { SiftEnds asset.now client (sift_names_value names.now) (F.content files.old) (F.content files.new) result }
+    ensures ends { SiftEnds site.now client (sift_names_value names.now) (F.content files.old) (F.content files.new) result }
     ensures read { HasCauseIn names.now.stream.now (F.read_faults files.old) (F.read_faults files.new)
         (IsErrOf result SiftFault.Read) }
     ensures write { HasCause (F.write_faults files.old) (F.write_faults files.new) (IsErrOf result SiftFault.Write) }
@@ -94,12 +94,12 @@ pub fn sift_stream<F: Files>(
         address: client,
         port: 0,
     };
-    let mut sifting = Sifting::new(alloc, asset, client)?;
+    let mut sifting = Sifting::new(alloc, site, client)?;
     let mut piece = zeros(alloc)?;
     let mut buffer = zeros(alloc)?;
     create_outputs(names, files)?;
-    let cut = take_stream(&mut sifting, asset, names, &mut piece, &mut buffer, files)?;
-    log_cut(asset, client, &cut, names.log, files)?;
+    let cut = take_stream(&mut sifting, site, names, &mut piece, &mut buffer, files)?;
+    log_cut(site, client, &cut, names.log, files)?;
     Ok(SiftDone {
         cut,
         admitted: sifting.lane.admitted(),
@@ -109,17 +109,17 @@ pub fn sift_stream<F: Files>(
 
 /// Writes the line of a cut, where there is one.
 fn log_cut<F: Files>(
-    asset: &Asset,
+    site: &Site<'_>,
     client: Endpoint,
     cut: &Option<CutReason>,
     log: &str,
     files: &mut F,
 ) -> Result<(), WriteFault>
-    requires within { IsAssetWithin asset.now }
+    requires within { IsSiteWithin site.now }
     requires whole { ends_with_line (F.content files.old log.now) ≡ true }
     ensures lines { OnOk result (file_lines (F.content files.new log.now)
-        ≡ with_lines (file_lines (F.content files.old log.now)) (cut_lines asset.now client cut.now)) }
-    ensures fails { OnErr result (MayHaveMore (cut_lines asset.now client cut.now) (file_lines (F.content files.old log.now))
+        ≡ with_lines (file_lines (F.content files.old log.now)) (cut_lines site.now client cut.now)) }
+    ensures fails { OnErr result (MayHaveMore (cut_lines site.now client cut.now) (file_lines (F.content files.old log.now))
         (file_lines (F.content files.new log.now)) (file_part (F.content files.new log.now))) }
     ensures some { OnErr result (IsSome cut.now) }
     ensures whole { OnOk result (ends_with_line (F.content files.new log.now) ≡ true) }
@@ -127,29 +127,29 @@ fn log_cut<F: Files>(
 {
     match cut {
         None => Ok(()),
-        Some(reason) => log_reason(asset, client, *reason, log, files),
+        Some(reason) => log_reason(site, client, *reason, log, files),
     }
 }
 
 /// Writes the line of a cut.
 fn log_reason<F: Files>(
-    asset: &Asset,
+    site: &Site<'_>,
     client: Endpoint,
     reason: CutReason,
     log: &str,
     files: &mut F,
 ) -> Result<(), WriteFault>
-    requires within { IsAssetWithin asset.now }
+    requires within { IsSiteWithin site.now }
     requires whole { ends_with_line (F.content files.old log.now) ≡ true }
     ensures lines { OnOk result (file_lines (F.content files.new log.now)
-        ≡ with_lines (file_lines (F.content files.old log.now)) (cut_lines asset.now client (Some reason))) }
-    ensures fails { OnErr result (MayHaveMore (cut_lines asset.now client (Some reason)) (file_lines (F.content files.old log.now))
+        ≡ with_lines (file_lines (F.content files.old log.now)) (cut_lines site.now client (Some reason))) }
+    ensures fails { OnErr result (MayHaveMore (cut_lines site.now client (Some reason)) (file_lines (F.content files.old log.now))
         (file_lines (F.content files.new log.now)) (file_part (F.content files.new log.now))) }
     ensures whole { OnOk result (ends_with_line (F.content files.new log.now) ≡ true) }
     ensures writes { OnlyWrites (log.now ∷ []) F.content F.read_faults F.write_faults files.old files.new (IsErr result) }
 {
     let mut desk = log_desk(log, files);
-    log_line(asset, client, 0, What::Cut(reason), &mut desk)
+    log_line(site, client, 0, What::Cut(reason), &mut desk)
 }
 
 /// A buffer of 4,096 bytes.

@@ -9,7 +9,7 @@ ghost use Rattle.cf_lane.specs.Limit.{limit_by};
 ghost use Rattle.cf_outq.specs.SendQueue.{IsQueueOf, after_end, queue_length};
 ghost use Rattle.cf_outside.specs.Frames.{OnlyWrites};
 ghost use Rattle.cf_outside.specs.Lines.{ends_with_line, file_lines, file_part};
-ghost use Rattle.cf_policy.specs.Within.{IsAssetWithin};
+ghost use Rattle.cf_policy.specs.Site.{IsSiteWithin};
 ghost use Rattle.cf_stream.specs.Stream.{Stream};
 ghost use Rattle.cf_sift.specs.Sifting.{IsReady, MovesFail, client_rests, state_of};
 ghost use Rattle.cf_sift.specs.Drained.{Drains};
@@ -23,7 +23,7 @@ use cf_driver::{Heard, length_cut};
 use cf_lane::{LETTER_LIMIT, Lane};
 use cf_outq::Outq;
 use cf_outside::Files;
-use cf_policy::Asset;
+use cf_policy::Site;
 use cf_view::{Endpoint, NoMemory, Side, WriteFault};
 use std::alloc::Global;
 
@@ -38,17 +38,17 @@ pub(crate) struct Sifting {
 }
 
 impl Sifting {
-    /// The sifting of a client of the asset, before its first element. All its memory is taken here.
-    pub(crate) fn new(alloc: Global, asset: &Asset, client: Endpoint) -> Result<Sifting, NoMemory>
-        requires within { IsAssetWithin asset.now }
-        ensures ready { IfOk result (λ sifting. IsReady asset.now sifting) }
+    /// The sifting of a client of the site, before its first element. All its memory is taken here.
+    pub(crate) fn new(alloc: Global, site: &Site<'_>, client: Endpoint) -> Result<Sifting, NoMemory>
+        requires within { IsSiteWithin site.now }
+        ensures ready { IfOk result (λ sifting. IsReady site.now sifting) }
         ensures client { IfOk result (λ sifting. sifting.lane.client ≡ client) }
         ensures letters { IfOk result (λ sifting. sifting.heard.letters ≡ 0) }
         ensures follows { IfOk result (λ sifting. (first : Option (List (List ℕ)))
-            → Follows asset.now none_before [] (client_rests sifting.heard.rest.items) None first
+            → Follows site.now none_before [] (client_rests sifting.heard.rest.items) None first
             (state sifting.lane sifting.to_client sifting.to_controller first)) }
     {
-        let lane = Lane::new(alloc, asset, client, None)?;
+        let lane = Lane::new(alloc, site, client, None)?;
         let to_client = Outq::new(alloc)?;
         let to_controller = Outq::new(alloc)?;
         Ok(Sifting {
@@ -76,19 +76,19 @@ impl Sifting {
     /// Hands a piece of the client's bytes to the lane, at moment 0, after those that it left.
     pub(crate) fn feed<F: Files>(
         &mut self,
-        asset: &Asset,
+        site: &Site<'_>,
         piece: &[u8],
         log: &str,
         files: &mut F,
     ) -> Result<Option<CutReason>, WriteFault>
-        requires ready { IsReady asset.now self.old }
-        requires within { IsAssetWithin asset.now }
+        requires ready { IsReady site.now self.old }
+        requires within { IsSiteWithin site.now }
         requires whole { ends_with_line (F.content files.old log.now) ≡ true }
         requires piece { length piece.now ≤ 4096 }
-        ensures takes { IfOk result (λ cut. Takes asset.now Side.Client (bytes_at 0 Side.Client piece.now ∷ []) cut
+        ensures takes { IfOk result (λ cut. Takes site.now Side.Client (bytes_at 0 Side.Client piece.now ∷ []) cut
             self.old.heard.rest.items self.new.heard.rest.items
             (state_of self.old (F.content files.old log.now)) (state_of self.new (F.content files.new log.now))) }
-        ensures misses { OnErr result (MissesPiece asset.now 0 Side.Client piece.now self.old.heard.rest.items
+        ensures misses { OnErr result (MissesPiece site.now 0 Side.Client piece.now self.old.heard.rest.items
             (state_of self.old (F.content files.old log.now)) (file_lines (F.content files.new log.now))
             (file_part (F.content files.new log.now))) }
         ensures stays { OnErr result (self.new.heard.rest ≡ self.old.heard.rest) }
@@ -98,7 +98,7 @@ impl Sifting {
     {
         let mut desk = log_desk(log, files);
         self.heard.feed(
-            asset,
+            site,
             0,
             Side::Client,
             piece,
@@ -112,17 +112,17 @@ impl Sifting {
     /// Ends the client's side, at moment 0.
     pub(crate) fn end<F: Files>(
         &mut self,
-        asset: &Asset,
+        site: &Site<'_>,
         log: &str,
         files: &mut F,
     ) -> Result<(), WriteFault>
-        requires ready { IsReady asset.now self.old }
-        requires within { IsAssetWithin asset.now }
+        requires ready { IsReady site.now self.old }
+        requires within { IsSiteWithin site.now }
         requires whole { ends_with_line (F.content files.old log.now) ≡ true }
-        ensures takes { OnOk result (Takes asset.now Side.Client (end_at 0 Side.Client ∷ []) None
+        ensures takes { OnOk result (Takes site.now Side.Client (end_at 0 Side.Client ∷ []) None
             self.old.heard.rest.items self.new.heard.rest.items
             (state_of self.old (F.content files.old log.now)) (state_of self.new (F.content files.new log.now))) }
-        ensures misses { OnErr result (MissesEnd asset.now 0 Side.Client self.old.heard.rest.items
+        ensures misses { OnErr result (MissesEnd site.now 0 Side.Client self.old.heard.rest.items
             (state_of self.old (F.content files.old log.now)) (file_lines (F.content files.new log.now))
             (file_part (F.content files.new log.now))) }
         ensures new { OnOk result (self.new ≡ record self.old {
@@ -139,7 +139,7 @@ impl Sifting {
     {
         let mut desk = log_desk(log, files);
         self.heard.end(
-            asset,
+            site,
             0,
             Side::Client,
             &mut self.lane,

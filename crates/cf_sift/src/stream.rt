@@ -4,7 +4,7 @@ ghost use Rattle.cf_lane.specs.History.{bytes_at, end_at};
 ghost use Rattle.cf_outside.specs.Faults.{HasCause, HasCauseIn};
 ghost use Rattle.cf_outside.specs.Frames.{KeepsOtherFiles, OnlyWrites};
 ghost use Rattle.cf_outside.specs.Lines.{ends_with_line};
-ghost use Rattle.cf_policy.specs.Within.{IsAssetWithin};
+ghost use Rattle.cf_policy.specs.Site.{IsSiteWithin};
 ghost use Rattle.cf_sift.specs.Sifting.{FailsElement, IsReady, TakesElement};
 ghost use Rattle.cf_sift.specs.Names.{AreApart, sift_names_value, sift_output_names};
 ghost use Rattle.cf_sift.specs.Taken.{IsTakenWhole, OfEachSifting, ReadStops, WriteStops};
@@ -15,7 +15,7 @@ use crate::sifting::Sifting;
 use cf_audit::CutReason;
 use cf_lane::{has_one_judgement, streams_go_on};
 use cf_outside::{Files, fill};
-use cf_policy::Asset;
+use cf_policy::Site;
 use cf_view::{Side, WriteFault};
 
 /// How many bytes a piece of a stream has, but the last, and an append at most. This project's own.
@@ -24,26 +24,26 @@ pub(crate) const PIECE: usize = 4_096;
 /// Takes a stream from its beginning: piece by piece, and then its End, up to a cut, and says why it is cut.
 pub(crate) fn take_stream<F: Files>(
     sifting: &mut Sifting,
-    asset: &Asset,
+    site: &Site<'_>,
     names: &SiftNames<'_>,
     piece: &mut [u8],
     buffer: &mut [u8],
     files: &mut F,
 ) -> Result<Option<CutReason>, SiftFault>
-    requires ready { IsReady asset.now sifting.old }
+    requires ready { IsReady site.now sifting.old }
     requires fresh { sifting.old.heard.letters ≡ 0 }
-    requires within { IsAssetWithin asset.now }
+    requires within { IsSiteWithin site.now }
     requires apart { AreApart (sift_names_value names.now) }
     requires whole { ends_with_line (F.content files.old names.now.log.now) ≡ true }
     requires piece { length piece.old ≡ 4096 }
     requires buffer { length buffer.old ≡ 4096 }
-    ensures taken { IfOk result (λ cut. OfEachSifting asset.now (sift_names_value names.now) sifting.old (F.content files.old)
-        (λ client first. IsTakenWhole asset.now client (sift_names_value names.now) first (F.content files.old) (F.content files.new)
+    ensures taken { IfOk result (λ cut. OfEachSifting site.now (sift_names_value names.now) sifting.old (F.content files.old)
+        (λ client first. IsTakenWhole site.now client (sift_names_value names.now) first (F.content files.old) (F.content files.new)
         cut sifting.new)) }
-    ensures read { IsErrOf result SiftFault.Read → OfEachSifting asset.now (sift_names_value names.now) sifting.old (F.content files.old)
-        (λ client first. ReadStops asset.now client (sift_names_value names.now) first (F.content files.old) (F.content files.new)) }
-    ensures write { IsErrOf result SiftFault.Write → OfEachSifting asset.now (sift_names_value names.now) sifting.old (F.content files.old)
-        (λ client first. WriteStops asset.now client (sift_names_value names.now) first (F.content files.old) (F.content files.new)) }
+    ensures read { IsErrOf result SiftFault.Read → OfEachSifting site.now (sift_names_value names.now) sifting.old (F.content files.old)
+        (λ client first. ReadStops site.now client (sift_names_value names.now) first (F.content files.old) (F.content files.new)) }
+    ensures write { IsErrOf result SiftFault.Write → OfEachSifting site.now (sift_names_value names.now) sifting.old (F.content files.old)
+        (λ client first. WriteStops site.now client (sift_names_value names.now) first (F.content files.old) (F.content files.new)) }
     ensures memory { IsErrOf result SiftFault.NoMemory → ⊥ }
     ensures log { OnOk result (ends_with_line (F.content files.new names.now.log.now) ≡ true) }
     ensures others { KeepsOtherFiles (sift_output_names (sift_names_value names.now)) (F.content files.old) (F.content files.new) }
@@ -58,13 +58,13 @@ pub(crate) fn take_stream<F: Files>(
             return Err(SiftFault::Read);
         };
         if count == 0 {
-            return Ok(take_end(sifting, asset, names, files)?);
+            return Ok(take_end(sifting, site, names, files)?);
         }
-        if let Some(reason) = take_piece(sifting, asset, names, &piece[..count], buffer, files)? {
+        if let Some(reason) = take_piece(sifting, site, names, &piece[..count], buffer, files)? {
             return Ok(Some(reason));
         }
         if count < PIECE {
-            return Ok(take_end(sifting, asset, names, files)?);
+            return Ok(take_end(sifting, site, names, files)?);
         }
         at += count as u64;
     }
@@ -73,23 +73,23 @@ pub(crate) fn take_stream<F: Files>(
 /// Takes a piece, and moves what it puts into the two streams to their files. Says why the stream is cut after it.
 fn take_piece<F: Files>(
     sifting: &mut Sifting,
-    asset: &Asset,
+    site: &Site<'_>,
     names: &SiftNames<'_>,
     piece: &[u8],
     buffer: &mut [u8],
     files: &mut F,
 ) -> Result<Option<CutReason>, WriteFault>
-    requires ready { IsReady asset.now sifting.old }
-    requires within { IsAssetWithin asset.now }
+    requires ready { IsReady site.now sifting.old }
+    requires within { IsSiteWithin site.now }
     requires apart { AreApart (sift_names_value names.now) }
     requires whole { ends_with_line (F.content files.old names.now.log.now) ≡ true }
     requires piece { length piece.now ≤ 4096 }
     requires buffer { length buffer.old ≡ 4096 }
-    ensures taken { IfOk result (TakesElement asset.now (sift_names_value names.now) (bytes_at 0 Side.Client piece.now)
+    ensures taken { IfOk result (TakesElement site.now (sift_names_value names.now) (bytes_at 0 Side.Client piece.now)
         sifting.old sifting.new (F.content files.old) (F.content files.new)) }
-    ensures fails { OnErr result (FailsElement asset.now (sift_names_value names.now) (bytes_at 0 Side.Client piece.now)
+    ensures fails { OnErr result (FailsElement site.now (sift_names_value names.now) (bytes_at 0 Side.Client piece.now)
         sifting.old (F.content files.old) (F.content files.new)) }
-    ensures ready { IfOk result (λ cut. cut ≡ None → IsReady asset.now sifting.new) }
+    ensures ready { IfOk result (λ cut. cut ≡ None → IsReady site.now sifting.new) }
     ensures letters { sifting.new.heard.letters ≡ sifting.old.heard.letters + length piece.now }
     ensures whole { OnOk result (ends_with_line (F.content files.new names.now.log.now) ≡ true) }
     ensures writes { OnlyWrites (sift_output_names (sift_names_value names.now)) F.content F.read_faults F.write_faults
@@ -97,7 +97,7 @@ fn take_piece<F: Files>(
     ensures buffer { length buffer.new ≡ 4096 }
 {
     streams_go_on();
-    let cut = sifting.feed(asset, piece, names.log, files)?;
+    let cut = sifting.feed(site, piece, names.log, files)?;
     sifting.drain(names, buffer, files)?;
     Ok(cut.or(sifting.length_cut()))
 }
@@ -105,23 +105,23 @@ fn take_piece<F: Files>(
 /// Takes the End of a stream. Says why the stream is cut after it.
 fn take_end<F: Files>(
     sifting: &mut Sifting,
-    asset: &Asset,
+    site: &Site<'_>,
     names: &SiftNames<'_>,
     files: &mut F,
 ) -> Result<Option<CutReason>, WriteFault>
-    requires ready { IsReady asset.now sifting.old }
-    requires within { IsAssetWithin asset.now }
+    requires ready { IsReady site.now sifting.old }
+    requires within { IsSiteWithin site.now }
     requires apart { AreApart (sift_names_value names.now) }
     requires whole { ends_with_line (F.content files.old names.now.log.now) ≡ true }
-    ensures taken { IfOk result (TakesElement asset.now (sift_names_value names.now) (end_at 0 Side.Client)
+    ensures taken { IfOk result (TakesElement site.now (sift_names_value names.now) (end_at 0 Side.Client)
         sifting.old sifting.new (F.content files.old) (F.content files.new)) }
-    ensures fails { OnErr result (FailsElement asset.now (sift_names_value names.now) (end_at 0 Side.Client)
+    ensures fails { OnErr result (FailsElement site.now (sift_names_value names.now) (end_at 0 Side.Client)
         sifting.old (F.content files.old) (F.content files.new)) }
     ensures whole { OnOk result (ends_with_line (F.content files.new names.now.log.now) ≡ true) }
     ensures writes { OnlyWrites (sift_output_names (sift_names_value names.now)) F.content F.read_faults F.write_faults
         files.old files.new (IsErr result) }
 {
     streams_go_on();
-    sifting.end(asset, names.log, files)?;
+    sifting.end(site, names.log, files)?;
     Ok(sifting.length_cut())
 }

@@ -1,6 +1,6 @@
 -- A capture to which a judge objects nowhere has flows of one stream each, which decodes to what is let through.
 use Rattle.std.proofs.Common.{◌≡◌, ◌∙◌, length, ℕ, zero, suc, List, [], ◌∷◌, ◌++◌, map, slice_get, Option, None, Some, refl, sym, ap, subst}
-use Rattle.cf_unobjected.proofs.Common.{AllByRecursion, AreFlowsOf, AreRead, AreReadBy, Asset, Endpoint, FlowValue, HasConflict, HasLetter, IsFlowOf, IsReadBy, Letter, Reading, Stream, Watched, letter_at, letter_count, map-append, none-some, objection_of, part_of, same_Some, watched}
+use Rattle.cf_unobjected.proofs.Common.{AllByRecursion, AreFlowsOf, AreRead, AreReadBy, Asset, Endpoint, FlowValue, HasConflict, HasLetter, IsFlowOf, IsReadBy, Letter, Reading, SiteValue, Stream, Watched, letter_at, letter_count, map-append, none-some, objection_in, part_of, same_Some, site_from, watched}
 use Rattle.cf_session.specs.Laws.{Part}
 use Rattle.cf_stream.specs.FirstCopy.{IsTaken}
 use Rattle.cf_stream.specs.Stream.{letters}
@@ -33,30 +33,30 @@ record IsFine (assets : List Asset) (w : Watched) : Type 0 where
   flow : FlowValue
   of : IsFlowOf w flow
   none : HasConflict w.carried None
-  asset : Asset
-  here : slice_get assets w.asset ≡ Some asset
-  decodes : DecodesToAllowed asset w.client.address flow.bytes
+  site : SiteValue
+  here : site_from assets w.asset ≡ Some site
+  decodes : DecodesToAllowed site w.client.address flow.bytes
 
 module _ (assets : List Asset) where
-  fine : (w : Watched) (r : Reading) → IsFlowOf w r.flow → IsReadBy (slice_get assets r.flow.asset) r → objection_of r.flow r.judged r.ending ≡ None → IsFine assets w
-  fine w r of read e = by (slice_get assets r.flow.asset) refl read where
-    by : (o : Option Asset) → slice_get assets r.flow.asset ≡ o → IsReadBy o r → IsFine assets w
-    by None is are = absurd are
-    by (Some asset) is are =
-        let nothing = no_conflict r.flow r.judged r.ending e in
-        let c = clean r.judged r.ending nothing.1 in
-        let whole = subst (AreRead asset r.flow.client.address [] r.flow.bytes r.flow.born r.judged) c.whole are in
+  fine : (w : Watched) (r : Reading) → IsFlowOf w r.flow → IsReadBy (site_from assets r.flow.asset) r → objection_in (site_from assets r.flow.asset) r ≡ None → IsFine assets w
+  fine w r of read none = by (site_from assets r.flow.asset) refl read none where
+    by : (o : Option SiteValue) → site_from assets r.flow.asset ≡ o → IsReadBy o r → objection_in o r ≡ None → IsFine assets w
+    by None is are e = absurd are
+    by (Some site) is are e =
+        let nothing = no_conflict site r.flow r.judged r.ending e in
+        let c = clean site r.judged r.ending nothing.1 in
+        let whole = subst (AreRead site r.flow.client.address [] r.flow.bytes r.flow.born r.judged) c.whole are in
         record {
           flow = r.flow;
           of = of;
           none = subst (HasConflict w.carried) nothing.0 of.conflict;
-          asset = asset;
-          here = ap (slice_get assets) (sym of.asset) ∙ is;
-          decodes = subst (λ (e : Endpoint). DecodesToAllowed asset e.address r.flow.bytes) of.client
-              (decodes_to_allowed asset r.flow.client.address r.flow.bytes r.flow.born r.judged whole c.fine);
+          site = site;
+          here = ap (site_from assets) (sym of.asset) ∙ is;
+          decodes = subst (λ (e : Endpoint). DecodesToAllowed site e.address r.flow.bytes) of.client
+              (decodes_to_allowed site r.flow.client.address r.flow.bytes r.flow.born r.judged whole c.fine);
         }
 
-  all_fine : (ws : List Watched) (rs : List Reading) → AreFlowsOf ws (map (λ r. r.flow) rs) → AreReadBy assets rs → AllByRecursion (λ r. objection_of r.flow r.judged r.ending ≡ None) rs →
+  all_fine : (ws : List Watched) (rs : List Reading) → AreFlowsOf ws (map (λ r. r.flow) rs) → AreReadBy assets rs → AllByRecursion (λ r. objection_in (site_from assets r.flow.asset) r ≡ None) rs →
       (place : ℕ) (w : Watched) → slice_get ws place ≡ Some w → IsFine assets w
   all_fine [] rs of read none place w e = absurd (none-some w e)
   all_fine (v ∷ ws) [] of read none place w e = absurd of
@@ -68,7 +68,7 @@ pub allowed :
     ((copy : ℕ → Option Letter) (s : Stream) (p : ℕ) (l : Letter) → IsTaken copy s → letter_at s p ≡ Some l → copy p ≡ Some l) → UnobjectedAreAllowed
 allowed in_order size copies assets newest j is none place w e =
     let of = subst (AreFlowsOf (watched assets newest)) (sym is.judges.of_flows) is.are_flows in
-    let nothing = nothing_to None is.judges.readings (sym is.judges.objection ∙ none) in
+    let nothing = nothing_to assets None is.judges.readings (sym is.judges.objection ∙ none) in
     let f = all_fine assets (watched assets newest) is.judges.readings of is.judges.are_read nothing.1 place w e in
     let whole : Stream = record { bytes = f.flow.bytes; ended = f.of.bytes.0 } in
     record {
@@ -80,7 +80,7 @@ allowed in_order size copies assets newest j is none place w e =
             let same : after.0 ≡ w = same_Some after.0 w (sym after.1 ∙ ap (λ rs. slice_get (watched assets rs) place) (sym split) ∙ e) in
             is_front in_order w.carried f.none whole f.of.bytes.1 taken (subst (λ v. IsPutTogether v taken) same (put_together_on before after.0 taken after.2 put));
       };
-      asset = f.asset;
+      site = f.site;
       here = f.here;
       decodes = f.decodes;
     }

@@ -1,25 +1,24 @@
--- The packets that were heard from a client to an asset, session by session.
-use Rattle.std.proofs.Common.{◌≡◌, ℕ, Bool, true, false, List, [], ◌∷◌, ◌++◌, cond, map, slice_get, Option, Some, None, refl, sym, ap, ◌∙◌, subst}
-use Rattle.cf_unobjected.proofs.Common.{AllByRecursion, AreRunEvents, Asset, Endpoint, Flow, IsRightSession, IsSpoken, Numbered, PacketValue, RunEvent, Session, SessionEvent, Watched, and_parts, asset_place, client_of, controllers, false≢true, is_to_place, packets_of, pairs_on, same_endpoint, same_is, sessions_of, sessions_on}
+-- The packets that were heard from a client to a site, session by session.
+use Rattle.std.proofs.Common.{◌≡◌, ℕ, Bool, true, false, List, [], ◌∷◌, ◌++◌, cond, map, option_and_then, Option, Some, None, refl, sym, ap, ◌∙◌, subst}
+use Rattle.cf_unobjected.proofs.Common.{AllByRecursion, AreRunEvents, Asset, Endpoint, Flow, IsRightSession, IsSpoken, Numbered, PacketValue, RunEvent, Session, SessionEvent, Watched, and_parts, asset_place, client_of, controllers, false≢true, is_to_place, packets_of, pairs_on, same_endpoint, same_is, sessions_of, sessions_on, site_from}
 use Rattle.cf_isolation.proofs.Tables.{BegunHave, Has, begun_in, sessions_have}
-use Rattle.cf_policy.specs.AtEndpoint.{asset_at}
+use Rattle.cf_policy.specs.Site.{site_at}
 use Rattle.cf_run.specs.Sessions.{HasEvents}
 use Rattle.cf_session.specs.Event.{AreEvents as AreSessionEvents}
 use Rattle.cf_session.specs.Laws.{AreUncutBefore}
 use Rattle.cf_unobjected.specs.PairFlows.{SpeaksAs, Spoken}
 use Rattle.cf_unobjected.proofs.Halves.{is_theirs, told}
 use Rattle.cf_unobjected.proofs.Others.{number_is}
-use Rattle.cf_unobjected.proofs.Places.{place_has}
 use Rattle.cf_unobjected.proofs.Speaks.{speaks}
 
--- ---- every session is to the asset that is found at its endpoint
+-- ---- every session is to the site that is found at its endpoint
 
 abbrev pub IsFound : List Asset → Flow → Type 0
-IsFound assets f = asset_at assets f.asset.endpoint ≡ Some f.asset
+IsFound assets f = site_at assets f.site.first.endpoint ≡ Some f.site
 
 all_found : (assets : List Asset) (limit : ℕ) (es : List RunEvent) → AreRunEvents assets limit es → BegunHave (IsFound assets) es
 all_found assets limit [] h = tt
-all_found assets limit (e ∷ es) h = ((λ f b is. (begun_in assets limit e es h f b is).2.found), all_found assets limit es h.1)
+all_found assets limit (e ∷ es) h = ((λ f b is. (begun_in assets limit e es h f b is).2.among), all_found assets limit es h.1)
 
 pub sessions_found : (assets : List Asset) (limit : ℕ) (es : List RunEvent) → AreRunEvents assets limit es → AllByRecursion (Has (IsFound assets)) (sessions_of es)
 sessions_found assets limit es h = sessions_have (IsFound assets) es (all_found assets limit es h)
@@ -67,7 +66,7 @@ module _ (assets : List Asset) (limit : ℕ) (client : Endpoint) (asset : ℕ) w
     pub uncut : AreUncutBefore events
     pub packets : heard_as (s.first ∷ s.rest) ≡ packets_of (controllers events)
     pub client_is : client_of s.flow ≡ client
-    pub asset_is : slice_get assets asset ≡ Some s.flow.asset
+    pub site_is : site_from assets asset ≡ Some s.flow.site
 
   pub record Built (heard : List Numbered) : Type 0 where
     pub sessions : List Spoken
@@ -75,23 +74,23 @@ module _ (assets : List Asset) (limit : ℕ) (client : Endpoint) (asset : ℕ) w
     pub theirs : AllByRecursion IsTheirs sessions
     pub is : (fs : List Watched) → pairs_on asset heard fs ≡ sessions_on asset sessions fs
 
-  asset_by : (f : Flow) (o : Option ℕ) → asset_place assets f.asset.endpoint ≡ o → is_to_place client asset (client_of f) o ≡ true → IsFound assets f → (client_of f ≡ client) × (slice_get assets asset ≡ Some f.asset)
-  asset_by f None at h found = absurd (false≢true h)
-  asset_by f (Some k) at h found =
+  site_by : (f : Flow) (o : Option ℕ) → asset_place assets f.site.first.endpoint ≡ o → is_to_place client asset (client_of f) o ≡ true → IsFound assets f → (client_of f ≡ client) × (site_from assets asset ≡ Some f.site)
+  site_by f None at h found = absurd (false≢true h)
+  site_by f (Some k) at h found =
       let here : k ≡ asset = number_is k asset ((and_parts (same_endpoint (client_of f) client) _ h).1) in
-      (same_is (client_of f) client ((and_parts _ _ h).0), place_has assets f.asset.endpoint asset (at ∙ ap Some here) ∙ found)
+      (same_is (client_of f) client ((and_parts _ _ h).0), ap (option_and_then (site_from assets)) (sym (at ∙ ap Some here)) ∙ found)
 
   theirs_by : (f : Flow) (e : SessionEvent) (es : List SessionEvent) (first : List Numbered) (are : HasEvents limit f (e ∷ es)) → is_theirs assets client asset f ≡ true → IsFound assets f →
       heard_as first ≡ packets_of (controllers (e ∷ es)) → (s : SpeaksAs f first) → IsTheirs s.session
   theirs_by f e es first are ours found is s =
-      let parts = asset_by f (asset_place assets f.asset.endpoint) refl ours found in
+      let parts = site_by f (asset_place assets f.site.first.endpoint) refl ours found in
       record {
         events = e ∷ es;
         are = subst (λ (g : Flow). AreSessionEvents g limit (e ∷ es)) (sym s.is_of) are.0;
         uncut = are.1;
         packets = ap heard_as (sym s.is_heard) ∙ is;
         client_is = ap client_of s.is_of ∙ parts.0;
-        asset_is = parts.1 ∙ ap (λ (g : Flow). Some g.asset) (sym s.is_of);
+        site_is = parts.1 ∙ ap (λ (g : Flow). Some g.site) (sym s.is_of);
       }
 
   one_more : (heard : List Numbered) (f : Flow) (es : List SessionEvent) (ps : List PacketValue) → HasEvents limit f es → IsFound assets f → is_theirs assets client asset f ≡ true →

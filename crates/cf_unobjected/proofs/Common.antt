@@ -4,13 +4,15 @@ pub use Rattle.cf_dnplink.specs.LinkFrame.{FrameValue}
 pub use Rattle.cf_dnplink.specs.UserOctets.{user_of}
 pub use Rattle.cf_isolation.proofs.Legs.{legs_right}
 pub use Rattle.cf_isolation.proofs.Lists.{all_both, all_front, all_map}
-pub use Rattle.cf_judge.specs.Objections.{AreReadBy, IsReadBy, Reading, commands_in, first_wrong, objected, objection_of, objection_to, sooner, wrong, wrong_by}
-pub use Rattle.cf_judge.specs.Plain.{AreRead, Breaks, Ending, HasPlainFate, Whole, completed_in, fate_by_asdu}
+pub use Rattle.cf_judge.specs.Objections.{AreReadBy, IsReadBy, Reading, commands_in, first_wrong, objected, objection_in, objection_of, objection_to, sooner, wrong, wrong_by}
+pub use Rattle.cf_judge.specs.Plain.{AreRead, Breaks, Ending, HasSiteFate, Whole, completed_in, fate_by_asdu}
 pub use Rattle.cf_judge.specs.Ruling.{complaint_of}
 pub use Rattle.cf_judge.specs.declared.Objection.{Objection}
 pub use Rattle.cf_lane.specs.Dnp3.{fate_of_fragment, fate_of_frame, fate_of_segment, fate_of_whole, is_data, stray_of}
 pub use Rattle.cf_lane.specs.Judged.{Judged, goes_on}
 pub use Rattle.cf_lane.specs.Modbus.{HasCommandFate, of_its_acts, of_no_form, of_other_station}
+pub use Rattle.cf_lane.specs.Parts.{part}
+pub use Rattle.cf_lane.specs.Site.{asset_for, item_place, place_for}
 pub use Rattle.cf_lane.specs.Unit.{Adu, Apdu, Frame, SpellsUnit, UnitValue}
 pub use Rattle.cf_lane.specs.declared.fate.Fate.{Fate}
 pub use Rattle.cf_leg.specs.Emits.{syn}
@@ -19,6 +21,7 @@ pub use Rattle.cf_leg.specs.Segment.{has_syn, is_opening}
 pub use Rattle.cf_modbus.specs.Adu.{AduValue}
 pub use Rattle.cf_packet.specs.Packet.{PacketValue}
 pub use Rattle.cf_policy.specs.AtEndpoint.{asset_place}
+pub use Rattle.cf_policy.specs.Site.{SiteValue, asset_of, site_from}
 pub use Rattle.cf_policy.specs.Verdict.{verdict_of}
 pub use Rattle.cf_policy.specs.declared.Asset.{Asset}
 pub use Rattle.cf_policy.specs.declared.Protocol.{Protocol}

@@ -1,6 +1,6 @@
 -- The front of the bytes of a flow, up to a record, as it is read: what is wrong in it is what is wrong in all, where that came up to there.
 use Rattle.std.proofs.Common.{◌≡◌, ◌<◌, ◌≤◌, ◌+◌, ◌-◌, ◌∙◌, ℕ, List, [], ◌∷◌, ◌++◌, length, take, drop, get_or, Option, None, Some, option_map, refl, sym, ap, subst, inl, inr, arith, append_assoc, length-append, length-drop, take-append-drop}
-use Rattle.cf_unobjected.proofs.Common.{AreRead, Asset, Begins, Breaks, Ending, FlowValue, IsPartial, Judged, Objection, SpellsUnit, UnitValue, Whole, cases_lt, complaint_of, completed_in, first_wrong, length-take-le, objected, option_or, wrong}
+use Rattle.cf_unobjected.proofs.Common.{AreRead, SiteValue, item_place, Begins, Breaks, Ending, FlowValue, IsPartial, Judged, Objection, SpellsUnit, UnitValue, Whole, cases_lt, complaint_of, completed_in, first_wrong, length-take-le, objected, option_or, wrong}
 use Rattle.std.proofs.lemmas.List.{drop-take, get_or-drop, get_or-take, take-take}
 use Rattle.cf_judge.specs.Objections.{wrong_at}
 use Rattle.cf_judge.specs.Plain.{HasEnding}
@@ -19,15 +19,15 @@ module _ (f : FlowValue) (n : ℕ) where
   abbrev keep : Option Objection → Option Objection
   keep o = kept at_of n o
 
-  late_or : (m : ℕ) (o : Option Complaint) (rest : _) → n < m → keep (option_map (objected f) rest) ≡ None → keep (option_map (objected f) (option_or (option_map (wrong m) o) rest)) ≡ None
-  late_or m None rest high h = h
-  late_or m (Some c) rest high h = kept_high at_of n (objected f (wrong m c)) high
+  late_or : (m place : ℕ) (o : Option Complaint) (rest : _) → n < m → keep (option_map (objected f) rest) ≡ None → keep (option_map (objected f) (option_or (option_map (wrong m place) o) rest)) ≡ None
+  late_or m place None rest high h = h
+  late_or m place (Some c) rest high h = kept_high at_of n (objected f (wrong m place c)) high
 
   -- one that came up to the record is the first of what is kept
-  low_or : (m : ℕ) (o : Option Complaint) (all rest : _) → m ≤ n → option_map (objected f) rest ≡ keep (option_map (objected f) all) →
-      option_map (objected f) (option_or (option_map (wrong m) o) rest) ≡ keep (option_map (objected f) (option_or (option_map (wrong m) o) all))
-  low_or m None all rest low h = h
-  low_or m (Some c) all rest low h = sym (kept_low at_of n (objected f (wrong m c)) low)
+  low_or : (m place : ℕ) (o : Option Complaint) (all rest : _) → m ≤ n → option_map (objected f) rest ≡ keep (option_map (objected f) all) →
+      option_map (objected f) (option_or (option_map (wrong m place) o) rest) ≡ keep (option_map (objected f) (option_or (option_map (wrong m place) o) all))
+  low_or m place None all rest low h = h
+  low_or m place (Some c) all rest low h = sym (kept_low at_of n (objected f (wrong m place c)) low)
 
 -- ---- octets
 
@@ -37,9 +37,9 @@ front_of_take xs i k h = take-take i k xs h
 drop_of_take : (xs : List ℕ) (m k : ℕ) → m ≤ k → drop m (take k xs) ≡ take (k - m) (drop m xs)
 drop_of_take xs m k h = ap (λ j. drop m (take j xs)) (omega (arith, h)) ∙ drop-take m (k - m) xs
 
-module _ (asset : Asset) (client : ℕ) (f : FlowValue) (n : ℕ) where
+module _ (site : SiteValue) (client : ℕ) (f : FlowValue) (n : ℕ) where
   abbrev Spells : UnitValue → List ℕ → Type 0
-  Spells = SpellsUnit asset.protocol
+  Spells = SpellsUnit site.first.protocol
 
   shorter : (bytes : List ℕ) (k : ℕ) → IsPartial Spells bytes → IsPartial Spells (take k bytes)
   shorter bytes k p =
@@ -73,15 +73,15 @@ module _ (asset : Asset) (client : ℕ) (f : FlowValue) (n : ℕ) where
 
   -- ---- where all comes later
 
-  late_ending : (bytes born : List ℕ) (x : Ending) → length born ≡ length bytes → ((i : ℕ) → i < length born → n < get_or born i 0) → HasEnding asset bytes born x → keep f n (option_map (objected f) (wrong_at x)) ≡ None
+  late_ending : (bytes born : List ℕ) (x : Ending) → length born ≡ length bytes → ((i : ℕ) → i < length born → n < get_or born i 0) → HasEnding site bytes born x → keep f n (option_map (objected f) (wrong_at x)) ≡ None
   late_ending bytes born Whole size high h = refl
   late_ending bytes born (Breaks number reason) size high (place, breaks, is, number_is) =
       let within = breaks.inside in
       let after = high place (omega (arith, within, size)) in
-      kept_high at_of n (objected f (wrong number (complaint.Broken reason))) (omega (arith, after, number_is))
+      kept_high at_of n (objected f (wrong number 0 (complaint.Broken reason))) (omega (arith, after, number_is))
 
   pub late : (earlier : List Judged) (bytes born : List ℕ) (js : List Judged) (x : Ending) → length born ≡ length bytes → ((i : ℕ) → i < length born → n < get_or born i 0) →
-      AreRead asset client earlier bytes born js x → keep f n (option_map (objected f) (first_wrong js x)) ≡ None
+      AreRead site client earlier bytes born js x → keep f n (option_map (objected f) (first_wrong site js x)) ≡ None
   late earlier bytes born [] x size high are = late_ending bytes born x size high are
   late earlier bytes born (j ∷ js) x size high (unit, m, begins, some, is, has, rest) =
       let within = begins.inside in
@@ -89,7 +89,7 @@ module _ (asset : Asset) (client : ℕ) (f : FlowValue) (n : ℕ) where
       let born_left = length-drop m born in
       let after = high (m - 1) (omega (arith, within, size, some)) in
       let moment : j.moment ≡ get_or born (m - 1) 0 = ap (λ (y : Judged). y.moment) is in
-      late_or f n j.moment (complaint_of j.fate) (first_wrong js x) (omega (arith, after, moment))
+      late_or f n j.moment (item_place site j.item) (complaint_of j.fate) (first_wrong site js x) (omega (arith, after, moment))
       (late (earlier ++ j ∷ []) (drop m bytes) (drop m born) js x (omega (arith, bytes_left, born_left, size))
       (λ i below. subst (λ y. n < y) (sym (get_or-drop m born i 0)) (high (m + i) (omega (arith, below, born_left)))) rest)
 
@@ -105,10 +105,10 @@ module _ (asset : Asset) (client : ℕ) (f : FlowValue) (n : ℕ) where
   pub record ReadsFront (earlier : List Judged) (bytes born : List ℕ) (all : Option Objection) : Type 0 where
     pub judged : List Judged
     pub ending : Ending
-    pub are_read : AreRead asset client earlier bytes born judged ending
-    pub first : option_map (objected f) (first_wrong judged ending) ≡ keep f n all
+    pub are_read : AreRead site client earlier bytes born judged ending
+    pub first : option_map (objected f) (first_wrong site judged ending) ≡ keep f n all
 
-  ending_front : (earlier : List Judged) (bytes born : List ℕ) (x : Ending) (k : ℕ) → IsSplit bytes born k → HasEnding asset bytes born x → ReadsFront earlier (take k bytes) (take k born) (option_map (objected f) (wrong_at x))
+  ending_front : (earlier : List Judged) (bytes born : List ℕ) (x : Ending) (k : ℕ) → IsSplit bytes born k → HasEnding site bytes born x → ReadsFront earlier (take k bytes) (take k born) (option_map (objected f) (wrong_at x))
   ending_front earlier bytes born Whole k s h = record { judged = []; ending = Whole; are_read = shorter bytes k h; first = refl }
   ending_front earlier bytes born (Breaks number reason) k s (place, breaks, is, number_is) =
       elim (cases_lt place k) [
@@ -118,7 +118,7 @@ module _ (asset : Asset) (client : ℕ) (f : FlowValue) (n : ℕ) where
               judged = [];
               ending = Breaks number reason;
               are_read = (place, broken_front bytes place k below s.inside breaks, is, number_is ∙ sym (get_or-take k born place 0 below));
-              first = sym (kept_low at_of n (objected f (wrong number (complaint.Broken reason))) (omega (arith, before, number_is)));
+              first = sym (kept_low at_of n (objected f (wrong number 0 (complaint.Broken reason))) (omega (arith, before, number_is)));
             })
         | inr above ↦
             (let within = breaks.inside in
@@ -128,7 +128,7 @@ module _ (asset : Asset) (client : ℕ) (f : FlowValue) (n : ℕ) where
               judged = [];
               ending = Whole;
               are_read = subst (IsPartial Spells) (front_of_take bytes k place above) (shorter (take place bytes) k breaks.before);
-              first = sym (kept_high at_of n (objected f (wrong number (complaint.Broken reason))) (omega (arith, after, number_is)));
+              first = sym (kept_high at_of n (objected f (wrong number 0 (complaint.Broken reason))) (omega (arith, after, number_is)));
             })
       ]
 
@@ -145,8 +145,8 @@ module _ (asset : Asset) (client : ℕ) (f : FlowValue) (n : ℕ) where
         high = λ i above inside. subst (λ y. n < y) (sym (get_or-drop m born i 0)) (s.high (m + i) (omega (arith, above, h)) (omega (arith, inside, born_left)));
       }
 
-  pub front_read : (earlier : List Judged) (bytes born : List ℕ) (js : List Judged) (x : Ending) (k : ℕ) → IsSplit bytes born k → AreRead asset client earlier bytes born js x →
-      ReadsFront earlier (take k bytes) (take k born) (option_map (objected f) (first_wrong js x))
+  pub front_read : (earlier : List Judged) (bytes born : List ℕ) (js : List Judged) (x : Ending) (k : ℕ) → IsSplit bytes born k → AreRead site client earlier bytes born js x →
+      ReadsFront earlier (take k bytes) (take k born) (option_map (objected f) (first_wrong site js x))
   front_read earlier bytes born [] x k s are = ending_front earlier bytes born x k s are
   front_read earlier bytes born (j ∷ js) x k s (unit, m, begins, some, is, has, rest) =
       elim (cases_lt k m) [
@@ -163,7 +163,7 @@ module _ (asset : Asset) (client : ℕ) (f : FlowValue) (n : ℕ) where
               judged = [];
               ending = Whole;
               are_read = part_of_unit bytes unit m k begins short;
-              first = sym (late_or f n j.moment (complaint_of j.fate) (first_wrong js x) (omega (arith, after, moment)) behind);
+              first = sym (late_or f n j.moment (item_place site j.item) (complaint_of j.fate) (first_wrong site js x) (omega (arith, after, moment)) behind);
             })
         | inr long ↦
             (let before = s.low (m - 1) (omega (arith, long, some)) in
@@ -172,8 +172,8 @@ module _ (asset : Asset) (client : ℕ) (f : FlowValue) (n : ℕ) where
             let size = length-take-le k bytes within in
             let later = front_read (earlier ++ j ∷ []) (drop m bytes) (drop m born) js x (k - m) (split_behind bytes born m k long s) rest in
             let at : get_or (take k born) (m - 1) 0 ≡ get_or born (m - 1) 0 = get_or-take k born (m - 1) 0 (omega (arith, long, some)) in
-            let read = subst (λ xs. AreRead asset client (earlier ++ j ∷ []) xs (drop m (take k born)) later.judged later.ending) (sym (drop_of_take bytes m k long))
-            (subst (λ ys. AreRead asset client (earlier ++ j ∷ []) (take (k - m) (drop m bytes)) ys later.judged later.ending) (sym (drop_of_take born m k long)) later.are_read) in
+            let read = subst (λ xs. AreRead site client (earlier ++ j ∷ []) xs (drop m (take k born)) later.judged later.ending) (sym (drop_of_take bytes m k long))
+            (subst (λ ys. AreRead site client (earlier ++ j ∷ []) (take (k - m) (drop m bytes)) ys later.judged later.ending) (sym (drop_of_take born m k long)) later.are_read) in
             record {
               judged = j ∷ later.judged;
               ending = later.ending;
@@ -186,6 +186,6 @@ module _ (asset : Asset) (client : ℕ) (f : FlowValue) (n : ℕ) where
                 has,
                 read,
               );
-              first = low_or f n j.moment (complaint_of j.fate) (first_wrong js x) (first_wrong later.judged later.ending) (omega (arith, before, moment)) later.first;
+              first = low_or f n j.moment (item_place site j.item) (complaint_of j.fate) (first_wrong site js x) (first_wrong site later.judged later.ending) (omega (arith, before, moment)) later.first;
             })
       ]

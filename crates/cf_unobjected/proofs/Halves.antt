@@ -1,4 +1,4 @@
--- What a session sends towards an asset: its own segments to its controller.
+-- What a session sends towards a site: its own segments to its controller.
 use Rattle.std.proofs.Common.{Bool, List, [], ap, cond, false, filter, map, refl, sym, true, ℕ, ◌++◌, ◌∙◌, ◌∷◌, ◌≡◌}
 use Rattle.cf_unobjected.proofs.Common.{AllByRecursion, AreEvents, Asset, Endpoint, Flow, IsRightSession, LegEvent, PacketValue, Sent, Session, SessionEvent, all_map, and_parts, append-nil, asset_place, client_of, controller_ends, controllers, false≢true, flat_map, goes_to_place, greeted_by, is_to_place, legs_right, map-append, packets_of, said_by, sent_in}
 use Rattle.cf_isolation.specs.Lives.{own_sent}
@@ -23,13 +23,13 @@ packets_at now [] = refl
 packets_at now (p ∷ ps) = ap (λ qs. p ∷ qs) (packets_at now ps)
 
 module _ (assets : List Asset) (client : Endpoint) (place : ℕ) where
-  -- those that go from the client to the asset of a place
+  -- those that go from the client to the site of a place
   abbrev pub picked : List Sent → List PacketValue
   picked all = filter (goes_to_place assets client place) (packets all)
 
   -- a flow is theirs
   abbrev pub is_theirs : Flow → Bool
-  is_theirs f = is_to_place client place (client_of f) (asset_place assets f.asset.endpoint)
+  is_theirs f = is_to_place client place (client_of f) (asset_place assets f.site.first.endpoint)
 
   pub picked_append : (xs ys : List Sent) → picked (xs ++ ys) ≡ picked xs ++ picked ys
   picked_append xs ys = ap (filter (goes_to_place assets client place)) (map-append (λ (s : Sent). s.packet) xs ys) ∙ filter-append (goes_to_place assets client place) (packets xs) (packets ys)
@@ -38,13 +38,13 @@ module _ (assets : List Asset) (client : Endpoint) (place : ℕ) where
     abbrev Told : Bool → PacketValue → Type 0
     Told b p = goes_to_place assets client place p ≡ b
 
-    to_controller : (p : PacketValue) → GoesFrom (client_of f) f.asset.endpoint p → Told (is_theirs f) p
-    to_controller p g = ap (λ d. is_to_place client place p.source (asset_place assets d)) g.1 ∙ ap (λ e. is_to_place client place e (asset_place assets f.asset.endpoint)) g.0
+    to_controller : (p : PacketValue) → GoesFrom (client_of f) f.site.first.endpoint p → Told (is_theirs f) p
+    to_controller p g = ap (λ d. is_to_place client place p.source (asset_place assets d)) g.1 ∙ ap (λ e. is_to_place client place e (asset_place assets f.site.first.endpoint)) g.0
 
-    pub to_client : (p : PacketValue) → GoesFrom f.asset.endpoint (client_of f) p → Told false p
+    pub to_client : (p : PacketValue) → GoesFrom f.site.first.endpoint (client_of f) p → Told false p
     to_client p g = ap (λ d. is_to_place client place p.source (asset_place assets d)) g.1 ∙ ap (is_to_place client place p.source) (no_place assets (client_of f) own.0)
 
-    picked_of : (now : ℕ) (xs ys : List PacketValue) → AllByRecursion (GoesFrom (client_of f) f.asset.endpoint) xs → AllByRecursion (GoesFrom f.asset.endpoint (client_of f)) ys →
+    picked_of : (now : ℕ) (xs ys : List PacketValue) → AllByRecursion (GoesFrom (client_of f) f.site.first.endpoint) xs → AllByRecursion (GoesFrom f.site.first.endpoint (client_of f)) ys →
         picked (at now (xs ++ ys)) ≡ cond (is_theirs f) xs []
     picked_of now xs ys h g =
         let q = goes_to_place assets client place in

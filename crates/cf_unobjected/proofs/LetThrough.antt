@@ -1,6 +1,6 @@
 -- Units without a complaint are let through.
 use Rattle.std.proofs.Common.{◌≡◌, ◌-◌, ℕ, List, [], ◌∷◌, ◌++◌, Bool, true, false, Option, None, Some, Result, Ok, Err, if◌then◌else◌, length, drop, nat_eq, nat_lt, slice_index, refl, sym, subst}
-use Rattle.cf_unobjected.proofs.Common.{Adu, AduValue, AllByRecursion, Apdu, AreRead, Asset, Frame, FrameValue, HasCommandFate, HasPlainFate, IsPartial, Judged, Protocol, SpellsUnit, UnitValue, Whole, complaint_of, fate_by_asdu, fate_of_fragment, fate_of_frame, fate_of_segment, fate_of_whole, is_data, none-some, of_its_acts, of_no_form, of_other_station, stray_of, verdict_of}
+use Rattle.cf_unobjected.proofs.Common.{Adu, AduValue, AllByRecursion, Apdu, AreRead, Asset, Frame, FrameValue, HasCommandFate, HasSiteFate, IsPartial, Judged, Protocol, SiteValue, SpellsUnit, UnitValue, Whole, asset_for, complaint_of, fate_by_asdu, fate_of_fragment, fate_of_frame, fate_of_segment, fate_of_whole, is_data, none-some, of_its_acts, of_no_form, of_other_station, part, place_for, stray_of, verdict_of}
 use Rattle.cf_apci.specs.Apdu.{Ack, ApduValue, Control, Info}
 use Rattle.cf_asdu.specs.Asdu.{station_of}
 use Rattle.cf_asdu.specs.declared.AsduRefusal.{AsduRefusal}
@@ -123,23 +123,24 @@ of_dnp3 protocol.Iec104 x octets s = absurd s
 
 -- ---- a unit, and those of a flow
 
-module _ (asset : Asset) (client : ℕ) where
-  through : (earlier : List Judged) (u : UnitValue) (f : Fate) (octets : List ℕ) → SpellsUnit asset.protocol u octets → HasPlainFate asset client earlier u f → complaint_of f ≡ None →
-      IsLetThrough asset.protocol f
-  through earlier (Adu a) f octets s h e = ruled_through asset.protocol f (ruled_adu asset (verdict_of asset client) a f h) e
-  through earlier (Apdu a) f octets s h e = ruled_through asset.protocol f (subst IsRuled (sym h) (ruled_apdu asset client a)) e
+module _ (site : SiteValue) (client : ℕ) where
+  through : (earlier : List Judged) (u : UnitValue) (f : Fate) (octets : List ℕ) → SpellsUnit site.first.protocol u octets → HasSiteFate site client earlier u f → complaint_of f ≡ None →
+      IsLetThrough site.first.protocol f
+  through earlier (Adu a) f octets s h e = ruled_through site.first.protocol f (ruled_adu (asset_for site side.Client (Adu a)) (verdict_of (asset_for site side.Client (Adu a)) client) a f h) e
+  through earlier (Apdu a) f octets s h e = ruled_through site.first.protocol f (subst IsRuled (sym h) (ruled_apdu (asset_for site side.Client (Apdu a)) client a)) e
   through earlier (Frame x) f octets s h e =
-      let fits : IsUncut f = subst IsUncut (sym h) (uncut_frame asset (verdict_of asset client) earlier x (stray_of asset side.Client x)) in
-      subst (λ p. IsLetThrough p f) (sym (of_dnp3 asset.protocol x octets s)) (uncut_through f fits e)
+      let own = asset_for site side.Client (Frame x) in
+      let fits : IsUncut f = subst IsUncut (sym h) (uncut_frame own (verdict_of own client) (part site (place_for site side.Client (Frame x)) earlier) x (stray_of own side.Client x)) in
+      subst (λ p. IsLetThrough p f) (sym (of_dnp3 site.first.protocol x octets s)) (uncut_through f fits e)
 
   record Decodes (earlier : List Judged) (bytes : List ℕ) : Type 0 where
     units : List UnitValue
     rest : List ℕ
-    starts : BeginsWithUnits (SpellsUnit asset.protocol) units bytes rest
-    partial : IsPartial (SpellsUnit asset.protocol) rest
-    let_through : AreLetThrough asset client earlier units
+    starts : BeginsWithUnits (SpellsUnit site.first.protocol) units bytes rest
+    partial : IsPartial (SpellsUnit site.first.protocol) rest
+    let_through : AreLetThrough site client earlier units
 
-  decodes : (earlier : List Judged) (bytes born : List ℕ) (js : List Judged) → AreRead asset client earlier bytes born js Whole → AllByRecursion (λ j. complaint_of j.fate ≡ None) js →
+  decodes : (earlier : List Judged) (bytes born : List ℕ) (js : List Judged) → AreRead site client earlier bytes born js Whole → AllByRecursion (λ j. complaint_of j.fate ≡ None) js →
       Decodes earlier bytes
   decodes earlier bytes born [] are fine = record { units = []; rest = bytes; starts = refl; partial = are; let_through = tt }
   decodes earlier bytes born (j ∷ js) (unit, n, begins, some, is, has, behind) fine =
@@ -154,11 +155,11 @@ module _ (asset : Asset) (client : ℕ) where
           j.fate,
           has,
           through earlier unit j.fate _ begins.spells has fine.0,
-          subst (λ i. AreLetThrough asset client (earlier ++ i ∷ []) later.units) is later.let_through,
+          subst (λ i. AreLetThrough site client (earlier ++ i ∷ []) later.units) is later.let_through,
         );
       }
 
-  pub decodes_to_allowed : (bytes born : List ℕ) (js : List Judged) → AreRead asset client [] bytes born js Whole → AllByRecursion (λ j. complaint_of j.fate ≡ None) js → DecodesToAllowed asset client bytes
+  pub decodes_to_allowed : (bytes born : List ℕ) (js : List Judged) → AreRead site client [] bytes born js Whole → AllByRecursion (λ j. complaint_of j.fate ≡ None) js → DecodesToAllowed site client bytes
   decodes_to_allowed bytes born js are fine =
       let d = decodes [] bytes born js are fine in
       record { units = d.units; rest = d.rest; are_units = record { starts = d.starts; partial = d.partial }; let_through = d.let_through }

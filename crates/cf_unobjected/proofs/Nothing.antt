@@ -1,6 +1,6 @@
 -- A judgement without an objection has none to any flow: no conflict, and nothing wrong with a unit or behind them.
 use Rattle.std.proofs.Common.{◌≡◌, List, [], ◌∷◌, Bool, true, false, if◌then◌else◌, Option, None, Some, option_map, refl, sym, nat_lt}
-use Rattle.cf_unobjected.proofs.Common.{AllByRecursion, Breaks, Ending, FlowValue, Judged, Objection, Reading, Whole, complaint_of, first_wrong, none-some, objected, objection_of, objection_to, option_or, sooner, wrong, wrong_by}
+use Rattle.cf_unobjected.proofs.Common.{AllByRecursion, Asset, Breaks, Ending, FlowValue, Judged, Objection, Reading, SiteValue, Whole, complaint_of, first_wrong, item_place, none-some, objected, objection_in, objection_of, objection_to, option_or, site_from, sooner, wrong, wrong_by}
 use Rattle.cf_judge.specs.Objections.{earlier, wrong_at, wrong_in}
 
 -- ---- options
@@ -33,15 +33,15 @@ whole_by : (ending : Ending) → wrong_at ending ≡ None → ending ≡ Whole
 whole_by Whole e = refl
 whole_by (Breaks number reason) e = absurd (none-some _ (sym e))
 
-pub clean : (js : List Judged) (ending : Ending) → first_wrong js ending ≡ None → IsClean js ending
-clean [] ending e = record { whole = whole_by ending e; fine = tt }
-clean (j ∷ js) ending e =
-    let both = none_or (wrong_in j) (first_wrong js ending) e in
-    let later = clean js ending both.1 in
-    record { whole = later.whole; fine = (none_mapped (wrong j.moment) (complaint_of j.fate) both.0, later.fine) }
+pub clean : (site : SiteValue) (js : List Judged) (ending : Ending) → first_wrong site js ending ≡ None → IsClean js ending
+clean site [] ending e = record { whole = whole_by ending e; fine = tt }
+clean site (j ∷ js) ending e =
+    let both = none_or (wrong_in site j) (first_wrong site js ending) e in
+    let later = clean site js ending both.1 in
+    record { whole = later.whole; fine = (none_mapped (wrong j.moment (item_place site j.item)) (complaint_of j.fate) both.0, later.fine) }
 
-pub no_conflict : (f : FlowValue) (js : List Judged) (ending : Ending) → objection_of f js ending ≡ None → (f.conflict ≡ None) × (first_wrong js ending ≡ None)
-no_conflict f js ending e = by f.conflict (first_wrong js ending) (none_mapped (objected f) (sooner (option_map wrong_by f.conflict) (first_wrong js ending)) e) where
+pub no_conflict : (site : SiteValue) (f : FlowValue) (js : List Judged) (ending : Ending) → objection_of site f js ending ≡ None → (f.conflict ≡ None) × (first_wrong site js ending ≡ None)
+no_conflict site f js ending e = by f.conflict (first_wrong site js ending) (none_mapped (objected f) (sooner (option_map wrong_by f.conflict) (first_wrong site js ending)) e) where
   by : (c : _) (first : _) → sooner (option_map wrong_by c) first ≡ None → (c ≡ None) × (first ≡ None)
   by None first e = (refl, e)
   by (Some c) None e = absurd (none-some _ (sym e))
@@ -49,9 +49,10 @@ no_conflict f js ending e = by f.conflict (first_wrong js ending) (none_mapped (
 
 -- ---- all of them
 
-pub nothing_to : (first : Option Objection) (rs : List Reading) → objection_to first rs ≡ None → (first ≡ None) × AllByRecursion (λ r. objection_of r.flow r.judged r.ending ≡ None) rs
-nothing_to first [] e = (e, tt)
-nothing_to first (r ∷ rs) e =
-    let later = nothing_to (earlier first (objection_of r.flow r.judged r.ending)) rs e in
-    let both = none_earlier first (objection_of r.flow r.judged r.ending) later.0 in
+pub nothing_to : (assets : List Asset) (first : Option Objection) (rs : List Reading) → objection_to assets first rs ≡ None →
+    (first ≡ None) × AllByRecursion (λ r. objection_in (site_from assets r.flow.asset) r ≡ None) rs
+nothing_to assets first [] e = (e, tt)
+nothing_to assets first (r ∷ rs) e =
+    let later = nothing_to assets (earlier first (objection_in (site_from assets r.flow.asset) r)) rs e in
+    let both = none_earlier first (objection_in (site_from assets r.flow.asset) r) later.0 in
     (both.0, (both.1, later.1))

@@ -61,14 +61,14 @@ module _ (carry : SegmentsCarryOneStream) (works : WorkIsOfTheTaken) (sees : Car
 
   no_objection : HasNoObjection f carried
   no_objection =
-      let w : Works f.asset (client_of f) (history es) (work_of es) = works f limit es are in
+      let w : Works f.site (client_of f) (history es) (work_of es) = works f limit es are in
       record {
         no_conflict = λ conflict g. only_none carried conflict seen.no_conflict g;
         unobjected = λ bytes born has.
             (let front = seen.bytes bytes has in
-            let all : outputs f.asset side.Controller [] w.judged ≡ bytes ++ (front.0 ++ said.goes_on.more) =
+            let all : outputs f.site side.Controller [] w.judged ≡ bytes ++ (front.0 ++ said.goes_on.more) =
             sym (ap (λ (x : Work). x.to_controller.bytes) w.is_work) ∙ said.goes_on.bytes ∙ ap (λ (xs : List ℕ). xs ++ said.goes_on.more) front.1 ∙ append_assoc bytes front.0 said.goes_on.more in
-            judges f.asset (newcomer (client_of f).address) (history es) w.judged bytes (front.0 ++ said.goes_on.more) born w.are_judged all);
+            judges f.site (newcomer (client_of f).address) (history es) w.judged bytes (front.0 ++ said.goes_on.more) born w.are_judged all);
       }
 
 pub one_flow : SegmentsCarryOneStream → WorkIsOfTheTaken → CarryOneStream → BeginningsAreUnobjected → OneFlowIsUnobjected

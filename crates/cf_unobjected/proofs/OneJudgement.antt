@@ -1,6 +1,6 @@
 -- Flows have one judgement.
-use Rattle.std.proofs.Common.{◌≡◌, ◌∙◌, List, [], ◌∷◌, map, slice_get, Option, None, Some, refl, sym, ap, subst}
-use Rattle.cf_unobjected.proofs.Common.{AreRead, AreReadBy, Asset, FlowValue, IsReadBy, Reading, commands_in, objection_to, watched}
+use Rattle.std.proofs.Common.{◌≡◌, ◌∙◌, List, [], ◌∷◌, map, Option, None, Some, refl, sym, ap, subst}
+use Rattle.cf_unobjected.proofs.Common.{AreRead, AreReadBy, Asset, SiteValue, site_from, FlowValue, IsReadBy, Reading, commands_in, objection_to, watched}
 use Rattle.cf_judge.specs.Objections.{IsJudgementOf}
 use Rattle.cf_judge.specs.declared.Judged.{Judged as Judgement}
 use Rattle.cf_unobjected.specs.OneJudgement.{JudgementsAreOne, RecordsHaveOneJudgement}
@@ -15,11 +15,11 @@ same_reading r s a b c =
     ∙ ap (λ x. let t : Reading = record { flow = s.flow; judged = x; ending = r.ending } in t) b
     ∙ ap (λ x. let t : Reading = record s { ending = x } in t) c
 
-one_read : (o : Option Asset) (r s : Reading) → r.flow ≡ s.flow → IsReadBy o r → IsReadBy o s → r ≡ s
+one_read : (o : Option SiteValue) (r s : Reading) → r.flow ≡ s.flow → IsReadBy o r → IsReadBy o s → r ≡ s
 one_read None r s e h g = absurd h
-one_read (Some asset) r s e h g =
-    let moved = subst (λ (f : FlowValue). AreRead asset f.client.address [] f.bytes f.born s.judged s.ending) (sym e) g in
-    let same = one_reading asset r.flow.client.address [] r.flow.bytes r.flow.born r.judged s.judged r.ending s.ending h moved in
+one_read (Some site) r s e h g =
+    let moved = subst (λ (f : FlowValue). AreRead site f.client.address [] f.bytes f.born s.judged s.ending) (sym e) g in
+    let same = one_reading site r.flow.client.address [] r.flow.bytes r.flow.born r.judged s.judged r.ending s.ending h moved in
     same_reading r s e same.0 same.1
 
 one_readings : (assets : List Asset) (rs ss : List Reading) → map (λ r. r.flow) rs ≡ map (λ r. r.flow) ss → AreReadBy assets rs → AreReadBy assets ss → rs ≡ ss
@@ -29,7 +29,7 @@ one_readings assets (r ∷ rs) [] e h g = cc
 one_readings assets (r ∷ rs) (s ∷ ss) e h g =
     let first : r.flow ≡ s.flow = cc in
     let later : map (λ r. r.flow) rs ≡ map (λ r. r.flow) ss = cc in
-    let here = one_read (slice_get assets s.flow.asset) r s first (subst (λ (f : FlowValue). IsReadBy (slice_get assets f.asset) r) first h.0) g.0 in
+    let here = one_read (site_from assets s.flow.asset) r s first (subst (λ (f : FlowValue). IsReadBy (site_from assets f.asset) r) first h.0) g.0 in
     ap (λ x. x ∷ rs) here ∙ ap (λ xs. s ∷ xs) (one_readings assets rs ss later h.1 g.1)
 
 -- ---- judgements
@@ -43,7 +43,7 @@ same_judgement j k a b c =
 pub one_judgement : JudgementsAreOne
 one_judgement assets flows j k h g =
     let same = one_readings assets h.readings g.readings (h.of_flows ∙ sym g.of_flows) h.are_read g.are_read in
-    same_judgement j k (h.counts ∙ sym g.counts) (h.commands ∙ ap (commands_in 0) same ∙ sym g.commands) (h.objection ∙ ap (objection_to None) same ∙ sym g.objection)
+    same_judgement j k (h.counts ∙ sym g.counts) (h.commands ∙ ap (commands_in 0) same ∙ sym g.commands) (h.objection ∙ ap (objection_to assets None) same ∙ sym g.objection)
 
 pub records_one : RecordsHaveOneJudgement
 records_one assets newest j k h g =

@@ -1,4 +1,4 @@
--- What a run sends from a client to an asset is what its sessions of theirs sent, one after the other.
+-- What a run sends from a client to a site is what its sessions of theirs sent, one after the other.
 use Rattle.std.proofs.Common.{◌≡◌, ℕ, ◌&&◌, ◌||◌, ◌==◌, Bool, true, false, List, [], ◌∷◌, ◌++◌, cond, Option, Some, None, refl, sym, ap, ◌∙◌, subst, arith, filter}
 use Rattle.cf_unobjected.proofs.Common.{AllByRecursion, AreRunEvents, Asset, Endpoint, Flow, IsRightSession, LegEvent, PacketValue, RunEvent, Sent, Session, SessionEvent, all_map, and_parts, asset_place, client_of, controller_ends, controllers, false≢true, goes_to_place, is_to_place, nat_tests, packets_of, same_endpoint, same_is, sessions_of, true≢false}
 use Rattle.std.proofs.lemmas.Bool.{and_right, false_from_ne_true}
@@ -11,6 +11,7 @@ use Rattle.cf_isolation.proofs.Tables.{HasOwn, IsOwn, all_own, found_has, same_s
 use Rattle.cf_isolation.proofs.Writing.{Sends}
 use Rattle.cf_isolation.specs.Records.{goes_between, goes_from}
 use Rattle.cf_policy.proofs.FirstPlace.{IsFirstAt, first_at}
+use Rattle.cf_policy.specs.Site.{alone}
 use Rattle.cf_policy.specs.AtEndpoint.{has_asset_at}
 use Rattle.cf_run.specs.Selected.{Rises}
 use Rattle.cf_run.specs.Sessions.{SessionsAreRight}
@@ -57,11 +58,11 @@ module _ (assets : List Asset) (client : Endpoint) (place : ℕ) where
     module _ (es : List SessionEvent) (e : SessionEvent) (legs : LegsRight f es) (right : AreRight f es e) where
       controller_outside : Sends IsOutside e.controller
       controller_outside =
-          outside (client_of f) f.asset.endpoint (λ p g goes. ap (has_asset_at assets) g.0 ∙ own.0) e.controller (leg_goes (controller_ends f) _ e.controller legs.controller right.controller)
+          outside (client_of f) f.site.first.endpoint (λ p g goes. ap (has_asset_at assets) g.0 ∙ own.0) e.controller (leg_goes (controller_ends f) _ e.controller legs.controller right.controller)
 
       client_outside : Sends IsOutside e.client
       client_outside =
-          outside f.asset.endpoint (client_of f) (λ p g goes. absurd (false≢true (sym (to_client assets client place f own p g) ∙ goes))) e.client
+          outside f.site.first.endpoint (client_of f) (λ p g goes. absurd (false≢true (sym (to_client assets client place f own p g) ∙ goes))) e.client
           (leg_goes (client_ends f) _ e.client legs.client right.client)
 
   all_outside : SessionsAreRight → (limit : ℕ) (es : List RunEvent) → AreRunEvents assets limit es → AllByRecursion IsOutside (packets (sent es))
@@ -100,7 +101,7 @@ module _ (assets : List Asset) (client : Endpoint) (place : ℕ) where
     there = first_at (λ (a : Asset). same_endpoint a.endpoint p.dest) assets place ends.1
 
     abbrev flow : Flow
-    flow = record { asset = there.0; syn = p }
+    flow = record { site = alone there.0; syn = p }
 
     dest_is : there.0.endpoint ≡ p.dest
     dest_is = same_is there.0.endpoint p.dest there.1.passes
@@ -130,7 +131,7 @@ module _ (assets : List Asset) (client : Endpoint) (place : ℕ) where
     told_same : (ss : List Session) → told assets client place (filter (is_between p.source there.0.endpoint) ss) ≡ told assets client place ss
     told_same [] = refl
     told_same (s ∷ ss) =
-        by (is_between p.source there.0.endpoint s) (to_place (client_of s.flow) s.flow.asset.endpoint (same_endpoint s.flow.asset.endpoint there.0.endpoint) (asset_place assets s.flow.asset.endpoint) refl refl) (told_same ss)
+        by (is_between p.source there.0.endpoint s) (to_place (client_of s.flow) s.flow.site.first.endpoint (same_endpoint s.flow.site.first.endpoint there.0.endpoint) (asset_place assets s.flow.site.first.endpoint) refl refl) (told_same ss)
       where
         by : (b : Bool) → is_theirs assets client place s.flow ≡ b → told assets client place (filter (is_between p.source there.0.endpoint) ss) ≡ told assets client place ss →
             told assets client place (cond b (s ∷ filter (is_between p.source there.0.endpoint) ss) (filter (is_between p.source there.0.endpoint) ss)) ≡ told assets client place (s ∷ ss)

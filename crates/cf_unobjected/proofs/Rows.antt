@@ -1,6 +1,6 @@
 -- The flows that are worked by hand.
-use Rattle.std.proofs.Common.{◌≡◌, ◌∙◌, ◌+◌, ◌<◌, ℕ, zero, suc, pos, Bool, true, false, [], ◌∷◌, map, replicate, slice_get, None, Some, Ok, refl, sym, ap, arith}
-use Rattle.cf_unobjected.proofs.Common.{Adu, AreRead, Begins, Carried, FlowValue, HasCommandFate, HasConflict, HasLetter, IsPartial, Letter, Protocol, Reading, SpellsUnit, Stream, Whole, completed_in, copy_of, false≢true, nat_tests, none-some, of_its_acts, part_of, same_Some, verdict_of}
+use Rattle.std.proofs.Common.{◌≡◌, ◌∙◌, ◌+◌, ◌<◌, ◌++◌, ℕ, zero, suc, pos, Bool, true, false, [], ◌∷◌, map, replicate, slice_get, None, Some, Ok, refl, sym, ap, arith}
+use Rattle.cf_unobjected.proofs.Common.{Adu, AreRead, Begins, Carried, FlowValue, HasCommandFate, HasConflict, HasLetter, IsPartial, Letter, Protocol, Reading, SiteValue, SpellsUnit, Stream, Whole, completed_in, copy_of, false≢true, nat_tests, none-some, of_its_acts, of_other_station, part_of, same_Some, verdict_of}
 use Rattle.cf_session.specs.Laws.{IsFront, IsReassembly}
 use Rattle.cf_stream.specs.Stream.{Byte, End}
 use Rattle.cf_watch.specs.Carried.{Differs, letter_of}
@@ -9,10 +9,12 @@ use Rattle.cf_lane.specs.declared.Fate.{Fate}
 use Rattle.cf_modbus.specs.Acts.{acts}
 use Rattle.cf_modbus.specs.Adu.{SpellsAdu}
 use Rattle.cf_modbus.specs.Request.{Reads, RequestValue}
+use Rattle.cf_lane.specs.Modbus.{station_refusal}
+use Rattle.cf_policy.specs.Site.{alone}
 use Rattle.cf_policy.specs.Within.{most_rated}
 use Rattle.cf_view.specs.Octets.{IsOctets}
 use Rattle.cf_unobjected.specs.OneJudgement.{JudgementsAreOne}
-use Rattle.cf_unobjected.specs.Rows.{RowsHold, clear, objected, one_client, one_flow, one_octet, other_client, other_flow, out_of_order, pumps, read_octets, read_of, reads, with_conflict}
+use Rattle.cf_unobjected.specs.Rows.{RowsHold, clear, objected, one_client, one_flow, one_octet, other_client, other_flow, out_of_order, flow_to, gateway, octets_to, pumps, read_octets, read_of, read_to, reads, refused_under, second, with_conflict}
 use Rattle.cf_unobjected.proofs.Copies.{byte_of, is_end}
 use Rattle.cf_lane.specs.declared.Fate.TheVariants as fate
 use Rattle.cf_policy.specs.declared.Decider.TheVariants as decider
@@ -148,14 +150,81 @@ is_dnp3 _ = false
 abbrev reading : FlowValue → (number point : ℕ) → Fate → Reading
 reading flow number point f = record { flow = flow; judged = completed_in number (Adu (read_of point)) f ∷ []; ending = Whole }
 
-one_read : AreRead reads one_client.address [] one_flow.bytes one_flow.born (completed_in 5 (Adu (read_of 0)) allowed ∷ []) Whole
+one_read : AreRead (alone reads) one_client.address [] one_flow.bytes one_flow.born (completed_in 5 (Adu (read_of 0)) allowed ∷ []) Whole
 one_read = (Adu (read_of 0), 12, begins 0 (omega arith), omega arith, refl, is_allowed one_client.address, nothing_left)
 
-other_read : AreRead reads other_client.address [] (other_flow 0).bytes (other_flow 0).born (completed_in 7 (Adu (read_of 0)) allowed ∷ []) Whole
+other_read : AreRead (alone reads) other_client.address [] (other_flow 0).bytes (other_flow 0).born (completed_in 7 (Adu (read_of 0)) allowed ∷ []) Whole
 other_read = (Adu (read_of 0), 12, begins 0 (omega arith), omega arith, refl, is_allowed other_client.address, nothing_left)
 
-wrong_read : AreRead reads other_client.address [] (other_flow 1).bytes (other_flow 1).born (completed_in 7 (Adu (read_of 1)) denied ∷ []) Whole
+wrong_read : AreRead (alone reads) other_client.address [] (other_flow 1).bytes (other_flow 1).born (completed_in 7 (Adu (read_of 1)) denied ∷ []) Whole
 wrong_read = (Adu (read_of 1), 12, begins 1 (omega arith), omega arith, refl, is_denied other_client.address, nothing_left)
+
+-- ---- reads of two stations
+
+spells_to : (station : ℕ) → station < 256 → SpellsAdu (read_to station) (octets_to station)
+spells_to station h = record {
+  transaction = omega arith;
+  unit = h;
+  at_least = omega arith;
+  at_most = omega arith;
+  pdu = pdu_octets 0 (omega arith);
+  spelled = refl;
+}
+
+begins_first : (station : ℕ) → Begins (SpellsUnit reads.protocol) (read_octets 0 ++ octets_to station) (Adu (read_of 0)) 12
+begins_first station = record { inside = omega arith; spells = spells 0 (omega arith) }
+
+begins_to : (station : ℕ) → station < 256 → Begins (SpellsUnit reads.protocol) (octets_to station) (Adu (read_to station)) 12
+begins_to station h = record { inside = omega arith; spells = spells_to station h }
+
+-- what becomes of the second read: no rule of the second pump has its code, and no pump has station 3
+abbrev unruled : Fate
+unruled = fate.Refused (record { decider = decider.Default; reason = reason.Function; act = record { code = 3; group = 0; point = 0; value = None } })
+
+abbrev nobodys : Fate
+nobodys = fate.Refused (station_refusal (read_to 3))
+
+is_unruled : (client : ℕ) → HasCommandFate second (verdict_of second client) (read_to 2) unruled
+unfolding acts
+is_unruled client = of_its_acts refl (asked 0) read_0 refl
+
+is_nobodys : (client : ℕ) → HasCommandFate reads (verdict_of reads client) (read_to 3) nobodys
+is_nobodys client = of_other_station (λ (e : 3 ≡ 1). omega (arith, e)) refl
+
+-- both pumps, as the policy has them behind their address and port
+abbrev both_pumps : SiteValue
+both_pumps = record { first = reads; others = second ∷ [] }
+
+abbrev two_reads : (station : ℕ) → Fate → Reading
+two_reads station f = record { flow = flow_to station; judged = completed_in 5 (Adu (read_of 0)) allowed ∷ completed_in 7 (Adu (read_to station)) f ∷ []; ending = Whole }
+
+read_second : AreRead both_pumps one_client.address [] (flow_to 2).bytes (flow_to 2).born (two_reads 2 unruled).judged Whole
+read_second = (
+  Adu (read_of 0),
+  12,
+  begins_first 2,
+  omega arith,
+  refl,
+  is_allowed one_client.address,
+  (Adu (read_to 2), 12, begins_to 2 (omega arith), omega arith, refl, is_unruled one_client.address, nothing_left),
+)
+
+read_nobody : AreRead both_pumps one_client.address [] (flow_to 3).bytes (flow_to 3).born (two_reads 3 nobodys).judged Whole
+read_nobody = (
+  Adu (read_of 0),
+  12,
+  begins_first 3,
+  omega arith,
+  refl,
+  is_allowed one_client.address,
+  (Adu (read_to 3), 12, begins_to 3 (omega arith), omega arith, refl, is_nobodys one_client.address, nothing_left),
+)
+
+of_second : IsJudgementOf gateway (flow_to 2 ∷ []) (refused_under 1 decider.Default reason.Function)
+of_second = record { readings = two_reads 2 unruled ∷ []; of_flows = refl; are_read = (read_second, tt); counts = refl; commands = refl; objection = refl }
+
+of_nobody : IsJudgementOf gateway (flow_to 3 ∷ []) (refused_under 0 decider.Station reason.Station)
+of_nobody = record { readings = two_reads 3 nobodys ∷ []; of_flows = refl; are_read = (read_nobody, tt); counts = refl; commands = refl; objection = refl }
 
 are_clear : IsJudgementOf pumps (one_flow ∷ other_flow 0 ∷ []) clear
 are_clear = record {
@@ -190,6 +259,8 @@ module _ (judgements : JudgementsAreOne) where
     are_objected = are_objected;
     not_objected = λ j. (let e = ap (λ k. k.commands) (judgements pumps _ _ _ are_clear j) in omega (arith, e));
     not_clear = λ j. (let e = ap (λ k. k.commands) (judgements pumps _ _ _ are_objected j) in omega (arith, e));
+    of_second = of_second;
+    of_nobody = of_nobody;
     spelled = refl;
     in_seven = refl;
     not_in_six = refl;

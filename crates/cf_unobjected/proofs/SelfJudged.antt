@@ -1,6 +1,6 @@
 -- The flows of a run's output capture have no objection.
-use Rattle.std.proofs.Common.{◌≡◌, ℕ, ◌+◌, ◌≤◌, ◌^◌, Bool, true, false, List, [], ◌∷◌, ◌++◌, cond, if◌then◌else◌, map, slice_get, Some, None, option_map, refl, sym, ap, ◌∙◌, subst, arith, drop, filter, length, reverse}
-use Rattle.cf_unobjected.proofs.Common.{AllByRecursion, AreFlowsOf, AreRead, AreReadBy, AreRunEvents, Asset, Endpoint, Flow, IsFlowOf, IsReadBy, Numbered, PacketValue, Reading, RunEvent, Sent, Watched, Whole, all_front, all_map, client_of, first_wrong, goes_to_place, heard_on, is_between, objected, objection_of, objection_to, pair_of, sessions_of, sessions_on, sooner, wrong_by}
+use Rattle.std.proofs.Common.{◌≡◌, ℕ, ◌+◌, ◌≤◌, ◌^◌, Bool, true, false, List, [], ◌∷◌, ◌++◌, cond, if◌then◌else◌, map, Some, None, option_map, refl, sym, ap, ◌∙◌, subst, arith, drop, filter, length, reverse}
+use Rattle.cf_unobjected.proofs.Common.{AllByRecursion, AreFlowsOf, AreRead, AreReadBy, AreRunEvents, Asset, Endpoint, Flow, IsFlowOf, IsReadBy, Numbered, PacketValue, Reading, RunEvent, Sent, SiteValue, Watched, Whole, all_front, all_map, client_of, first_wrong, goes_to_place, heard_on, is_between, objected, objection_in, objection_to, pair_of, sessions_of, sessions_on, site_from, sooner, wrong_by}
 use Rattle.cf_run.specs.Selected.{Rises}
 use Rattle.cf_isolation.specs.ReadBack.{ReadsAs, RunsAreReadBack, output_form, record_by}
 use Rattle.cf_records.specs.Capture.{AreRecords, FileEnd, LastPlace}
@@ -55,11 +55,11 @@ picked_heard q (n ∷ ns) = picked_by (q n.packet) n (filter (λ m. q m.packet) 
 
 -- ---- a flow has nothing wrong
 
--- it is of a session of its client and asset, and has no objection
+-- it is of a session of its client and site, and has no objection
 record IsFine (assets : List Asset) (client : Endpoint) (asset : ℕ) (w : Watched) : Type 0 where
   flow : Flow
   client_is : client_of flow ≡ client
-  asset_is : slice_get assets asset ≡ Some flow.asset
+  site_is : site_from assets asset ≡ Some flow.site
   fine : HasNoObjection flow w.carried
 
 module _ (one : OneFlowIsUnobjected) (law : SessionsAreRight) (assets : List Asset) (limit : ℕ) (small : limit ≤ 2 ^ 30) where
@@ -67,7 +67,7 @@ module _ (one : OneFlowIsUnobjected) (law : SessionsAreRight) (assets : List Ass
   of_session client asset w h = record {
     flow = h.session.flow;
     client_is = h.holds.client_is;
-    asset_is = h.holds.asset_is;
+    site_is = h.holds.site_is;
     fine = one h.session.flow limit h.holds.events w.carried small h.holds.are h.holds.uncut
         (record { silent = h.silent; are_silent = h.are_silent; heard = h.session.first ∷ h.session.rest; packets = h.holds.packets; is = h.is });
   }
@@ -76,7 +76,7 @@ module _ (one : OneFlowIsUnobjected) (law : SessionsAreRight) (assets : List Ass
     abbrev heard : List Numbered
     heard = numbered_from 1 (sent events)
 
-    -- what is heard of a client and an asset is nothing, or what its sessions of theirs sent
+    -- what is heard of a client and a site is nothing, or what its sessions of theirs sent
     built_of : (client : Endpoint) (asset : ℕ) (ns : List Numbered) → filter (is_to assets client asset) heard ≡ ns → Built assets limit client asset ns
     built_of client asset [] e = record { sessions = []; spoken = tt; theirs = tt; is = λ fs. refl }
     built_of client asset (n ∷ ns) e =
@@ -97,24 +97,27 @@ module _ (one : OneFlowIsUnobjected) (law : SessionsAreRight) (assets : List Ass
 -- ---- the judgement
 
 module _ (assets : List Asset) where
-  nothing_wrong : (asset : Asset) (client : ℕ) (r : Reading) → IsUnobjected asset client r.flow.bytes r.flow.born → AreRead asset client [] r.flow.bytes r.flow.born r.judged r.ending → first_wrong r.judged r.ending ≡ None
-  nothing_wrong asset client r u read =
-      let same = one_reading asset client [] r.flow.bytes r.flow.born r.judged u.judged r.ending Whole read u.are_read in
-      ap (λ js. first_wrong js r.ending) same.0 ∙ ap (first_wrong u.judged) same.1 ∙ u.nothing_wrong
+  nothing_wrong : (site : SiteValue) (client : ℕ) (r : Reading) → IsUnobjected site client r.flow.bytes r.flow.born → AreRead site client [] r.flow.bytes r.flow.born r.judged r.ending →
+      first_wrong site r.judged r.ending ≡ None
+  nothing_wrong site client r u read =
+      let same = one_reading site client [] r.flow.bytes r.flow.born r.judged u.judged r.ending Whole read u.are_read in
+      ap (λ js. first_wrong site js r.ending) same.0 ∙ ap (first_wrong site u.judged) same.1 ∙ u.nothing_wrong
 
-  none_to : (w : Watched) (r : Reading) → IsFine assets w.client w.asset w → IsFlowOf w r.flow → IsReadBy (slice_get assets r.flow.asset) r → objection_of r.flow r.judged r.ending ≡ None
+  none_to : (w : Watched) (r : Reading) → IsFine assets w.client w.asset w → IsFlowOf w r.flow → IsReadBy (site_from assets r.flow.asset) r → objection_in (site_from assets r.flow.asset) r ≡ None
   none_to w r fine of read =
-      let read_by : IsReadBy (Some fine.flow.asset) r = subst (λ o. IsReadBy o r) (ap (slice_get assets) of.asset ∙ fine.asset_is) read in
+      let there : site_from assets r.flow.asset ≡ Some fine.flow.site = ap (site_from assets) of.asset ∙ fine.site_is in
+      let read_by : IsReadBy (Some fine.flow.site) r = subst (λ o. IsReadBy o r) there read in
       let client : r.flow.client.address ≡ (client_of fine.flow).address = ap (λ (e : Endpoint). e.address) (of.client ∙ sym fine.client_is) in
-      let by_client = subst (λ a. AreRead fine.flow.asset a [] r.flow.bytes r.flow.born r.judged r.ending) client read_by in
-      ap (λ c. option_map (objected r.flow) (sooner (option_map wrong_by c) (first_wrong r.judged r.ending))) (fine.fine.no_conflict r.flow.conflict of.conflict)
-      ∙ ap (λ o. option_map (objected r.flow) (sooner None o)) (nothing_wrong fine.flow.asset (client_of fine.flow).address r (fine.fine.unobjected r.flow.bytes r.flow.born of.bytes) by_client)
+      let by_client = subst (λ a. AreRead fine.flow.site a [] r.flow.bytes r.flow.born r.judged r.ending) client read_by in
+      ap (λ o. objection_in o r) there
+      ∙ ap (λ c. option_map (objected r.flow) (sooner (option_map wrong_by c) (first_wrong fine.flow.site r.judged r.ending))) (fine.fine.no_conflict r.flow.conflict of.conflict)
+      ∙ ap (λ o. option_map (objected r.flow) (sooner None o)) (nothing_wrong fine.flow.site (client_of fine.flow).address r (fine.fine.unobjected r.flow.bytes r.flow.born of.bytes) by_client)
 
-  none_of : (ws : List Watched) (rs : List Reading) → AllByRecursion (λ w. IsFine assets w.client w.asset w) ws → AreFlowsOf ws (map (λ r. r.flow) rs) → AreReadBy assets rs → objection_to None rs ≡ None
+  none_of : (ws : List Watched) (rs : List Reading) → AllByRecursion (λ w. IsFine assets w.client w.asset w) ws → AreFlowsOf ws (map (λ r. r.flow) rs) → AreReadBy assets rs → objection_to assets None rs ≡ None
   none_of [] [] fine of read = refl
   none_of [] (r ∷ rs) fine of read = cc
   none_of (w ∷ ws) [] fine of read = absurd of
-  none_of (w ∷ ws) (r ∷ rs) fine of read = ap (λ o. objection_to o rs) (none_to w r fine.0 of.0 read.0) ∙ none_of ws rs fine.1 of.1 read.1
+  none_of (w ∷ ws) (r ∷ rs) fine of read = ap (λ o. objection_to assets o rs) (none_to w r fine.0 of.0 read.0) ∙ none_of ws rs fine.1 of.1 read.1
 
 -- ---- the file
 

@@ -5,12 +5,13 @@
 -- be put together so. The octets of that stream are units, in its order, that the policy lets through, and then a proper prefix of
 -- another unit, which may be empty.
 use Rattle.std.specs.Prelude.{◌≡◌, ◌++◌, ℕ, List, [], ◌∷◌, map, slice_get, Some, None}
-use Rattle.cf_judge.specs.Plain.{HasPlainFate, completed_in}
+use Rattle.cf_judge.specs.Plain.{HasSiteFate, completed_in}
 use Rattle.cf_judge.specs.declared.Judged.{Judged as Judgement}
 use Rattle.cf_lane.specs.Judged.{Judged}
 use Rattle.cf_lane.specs.Unit.{AreUnits, Left, UnitValue}
 use Rattle.cf_lane.specs.declared.Fate.{Fate}
 use Rattle.cf_lane.specs.declared.Fate.TheVariants as fate
+use Rattle.cf_policy.specs.Site.{SiteValue, site_from}
 use Rattle.cf_policy.specs.declared.Asset.{Asset}
 use Rattle.cf_policy.specs.declared.Protocol.{Protocol}
 use Rattle.cf_policy.specs.declared.Protocol.TheVariants as protocol
@@ -33,20 +34,20 @@ IsLetThrough of (fate.Refused refusal) = ⊥
 IsLetThrough of (fate.Stray because) = ⊥
 IsLetThrough of (fate.Cuts because) = ⊥
 
--- units of a client in the order of its stream, after earlier ones: each, completed by some record, has its fate by the verdict on each
--- act and after those before it, and is let through
-abbrev pub AreLetThrough : Asset → (client : ℕ) → (earlier : List Judged) → List UnitValue → Type 0
-AreLetThrough asset client earlier [] = Unit {0}
-AreLetThrough asset client earlier (u ∷ us) =
-    (number : ℕ) × (f : Fate) × HasPlainFate asset client earlier u f × IsLetThrough asset.protocol f
-    × AreLetThrough asset client (earlier ++ completed_in number u f ∷ []) us
+-- units of a client to a site in the order of its stream, after earlier ones: each, completed by some record, has its fate by the asset
+-- that it is for, by that asset's verdict on each act and after those before it that are for the asset, and is let through
+abbrev pub AreLetThrough : SiteValue → (client : ℕ) → (earlier : List Judged) → List UnitValue → Type 0
+AreLetThrough site client earlier [] = Unit {0}
+AreLetThrough site client earlier (u ∷ us) =
+    (number : ℕ) × (f : Fate) × HasSiteFate site client earlier u f × IsLetThrough site.first.protocol f
+    × AreLetThrough site client (earlier ++ completed_in number u f ∷ []) us
 
 -- octets of a client are units that are let through, and then a proper prefix of another unit, which may be empty
-pub record DecodesToAllowed (asset : Asset) (client : ℕ) (bytes : List ℕ) : Type 0 where
+pub record DecodesToAllowed (site : SiteValue) (client : ℕ) (bytes : List ℕ) : Type 0 where
   pub units : List UnitValue
   pub rest : List ℕ
-  pub are_units : AreUnits asset.protocol bytes units (Left rest)
-  pub let_through : AreLetThrough asset client [] units
+  pub are_units : AreUnits site.first.protocol bytes units (Left rest)
+  pub let_through : AreLetThrough site client [] units
 
 -- ---- what the packets of a flow make
 
@@ -78,15 +79,15 @@ pub record MakesOneStream (assets : List Asset) (newest : List Record) (place : 
       (newer older : List Record) (w : Watched) (taken : List Letter) → newest ≡ newer ++ older
       → slice_get (watched assets older) place ≡ Some w → IsPutTogether w taken → IsFront whole taken
 
--- the flow at a place makes one stream, which is itself put together of its packets, and that one decodes to what the policy of its asset
--- lets through
+-- the flow at a place makes one stream, which is itself put together of its packets, and that one decodes to what the policy of the assets
+-- of its site lets through
 pub record IsAllowedFlow (assets : List Asset) (newest : List Record) (place : ℕ) (w : Watched) : Type 0 where
   pub whole : Stream
   pub is_put : IsPutTogether w (letters whole)
   pub makes : MakesOneStream assets newest place whole
-  pub asset : Asset
-  pub here : slice_get assets w.asset ≡ Some asset
-  pub decodes : DecodesToAllowed asset w.client.address whole.bytes
+  pub site : SiteValue
+  pub here : site_from assets w.asset ≡ Some site
+  pub decodes : DecodesToAllowed site w.client.address whole.bytes
 
 -- each flow that is watched in the records of a capture is allowed so
 abbrev pub AreAllowedFlows : List Asset → (newest : List Record) → Type 0

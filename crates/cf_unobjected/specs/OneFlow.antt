@@ -45,7 +45,7 @@ pub record CarriedSession (flow : Flow) (events : List SessionEvent) (carried : 
 -- no conflict, and no objection to its bytes, whatever records they came with
 pub record HasNoObjection (flow : Flow) (carried : List Carried) : Type 0 where
   pub no_conflict : (conflict : Option Conflict) → HasConflict carried conflict → conflict ≡ None
-  pub unobjected : (bytes born : List ℕ) → HasBytes carried bytes → IsUnobjected flow.asset (client_of flow).address bytes born
+  pub unobjected : (bytes born : List ℕ) → HasBytes carried bytes → IsUnobjected flow.site (client_of flow).address bytes born
 
 abbrev pub OneFlowIsUnobjected : Type 0
 OneFlowIsUnobjected =

@@ -20,7 +20,7 @@ pub record IsJudgementOfRecords (assets : List Asset) (newest : List Record) (j 
 abbrev pub FlowsAreOne : Type 0
 FlowsAreOne = (ws : List Watched) (flows others : List FlowValue) → AreFlowsOf ws flows → AreFlowsOf ws others → flows ≡ others
 
--- flows to assets of a policy, whose bytes are octets, have a judgement
+-- flows to sites of a policy, whose bytes are octets, have a judgement
 abbrev pub FlowsAreJudged : Type 0
 FlowsAreJudged =
     (assets : List Asset) (flows : List FlowValue) → AllByRecursion (λ f. IsForAsset assets f × IsOctets f.bytes) flows →

@@ -1,4 +1,4 @@
--- Steps of the proof: the watched flows of one client and one asset, by the packets that go from the one to the other, `pairs_on`; and
+-- Steps of the proof: the watched flows of one client and one site, by the packets that go from the one to the other, `pairs_on`; and
 -- by the sessions whose packets these are, `sessions_on`.
 use Rattle.std.specs.Prelude.{◌≡◌, ◌||◌, ℕ, Bool, false, true, List, [], ◌∷◌, map, if◌then◌else◌}
 use Rattle.std.specs.List.{AllByRecursion}
@@ -14,11 +14,11 @@ use Rattle.cf_unobjected.specs.OneFlow.{Numbered, carried_on}
 -- a packet from the one end for the other; where it has SYN, it is the session's SYN, and without ACK it has no letters
 pub record GoesTo (flow : Flow) (p : PacketValue) : Type 0 where
   pub source : p.source ≡ flow.syn.source
-  pub dest : p.dest ≡ flow.asset.endpoint
+  pub dest : p.dest ≡ flow.site.first.endpoint
   pub greets : has_syn p ≡ true → p ≡ syn (controller_ends flow) flow.syn.seq
   pub answers : has_ack p ≡ false → letters_of p ≡ 0
 
--- the flows of a client and an asset, the newest first, after one more packet of theirs
+-- the flows of a client and a site, the newest first, after one more packet of theirs
 abbrev pub pair_on : (number asset : ℕ) → PacketValue → List Watched → List Watched
 pair_on number asset p [] = if is_opening p then begun_by number asset p ∷ [] else []
 pair_on number asset p (f ∷ fs) = if begins_anew p f then begun_by number asset p ∷ f ∷ fs else with_packet number p f ∷ fs

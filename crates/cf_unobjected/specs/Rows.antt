@@ -1,5 +1,6 @@
 -- Two flows worked by hand, which hold the definitions of what a receiver may put together, and two more, of a read each, which hold
--- those of a judgement: RowsHold. The reads are those of Modbus Application Protocol V1.1b3, section 6.3.
+-- those of a judgement, and flows to two pumps behind one address and port: RowsHold. The reads are those of Modbus Application
+-- Protocol V1.1b3, section 6.3.
 use Rattle.std.specs.Prelude.{ℕ, pos, false, List, [], ◌++◌, ◌∷◌, ◌≡◌, codes, map, replicate, None, Some}
 use Rattle.cf_decode.specs.Units.{Whole as WholeUnit}
 use Rattle.cf_judge.specs.Objections.{IsJudgementOf}
@@ -11,12 +12,15 @@ use Rattle.cf_lane.specs.Unit.{Adu}
 use Rattle.cf_lane.specs.declared.Fate.TheVariants as fate
 use Rattle.cf_modbus.specs.Adu.{AduValue, spelling}
 use Rattle.cf_policy.specs.declared.Action.TheVariants as action
+use Rattle.cf_policy.specs.Site.{alone}
 use Rattle.cf_policy.specs.declared.Asset.{Asset}
+use Rattle.cf_policy.specs.declared.Decider.{Decider}
 use Rattle.cf_policy.specs.declared.Decider.TheVariants as decider
 use Rattle.cf_policy.specs.declared.Protocol.TheVariants as protocol
 use Rattle.cf_session.specs.Laws.{IsFront, IsReassembly}
 use Rattle.cf_stream.specs.Stream.{Byte, Stream}
 use Rattle.cf_view.specs.declared.Endpoint.{Endpoint}
+use Rattle.cf_view.specs.declared.Reason.{Reason}
 use Rattle.cf_view.specs.declared.Reason.TheVariants as reason
 use Rattle.cf_watch.specs.Carried.{Carried, HasConflict}
 use Rattle.cf_watch.specs.FlowValue.{FlowValue}
@@ -107,6 +111,43 @@ clear = record { flows = 2; commands = 2; objection = None }
 abbrev pub objected : Judgement
 objected = record { flows = 2; commands = 1; objection = Some objection }
 
+-- ---- two pumps behind one address and port
+
+-- the second has station 2 and no rule
+abbrev pub second : Asset
+second = record reads { station = 2; rules = [] }
+
+-- a policy of both
+abbrev pub gateway : List Asset
+gateway = reads ∷ second ∷ []
+
+-- a read of register 0 of a station, and its octets
+abbrev pub read_to : (station : ℕ) → AduValue
+read_to station = record { transaction = 1; unit = station; pdu = 3 ∷ 0 ∷ 0 ∷ 0 ∷ 1 ∷ [] }
+
+-- the octets of the read
+abbrev pub octets_to : (station : ℕ) → List ℕ
+octets_to station = 0 ∷ 1 ∷ 0 ∷ 0 ∷ 0 ∷ 6 ∷ station ∷ 3 ∷ 0 ∷ 0 ∷ 0 ∷ 1 ∷ []
+
+-- a flow with a read of station 1, which came with record 5, and then one of this station, with record 7
+abbrev pub flow_to : (station : ℕ) → FlowValue
+flow_to station = record {
+  client = one_client;
+  asset = 0;
+  midstream = None;
+  bytes = read_octets 0 ++ octets_to station;
+  born = replicate 12 5 ++ replicate 12 7;
+  conflict = None;
+}
+
+-- its judgement where the second read is refused: under the asset of this place, by what decided, for this reason
+abbrev pub refused_under : (place : ℕ) → Decider → Reason → Judgement
+refused_under place by because = record {
+  flows = 1;
+  commands = 1;
+  objection = Some (record { at_record = 7; client = one_client; asset = place; what = complaint.Refused by because });
+}
+
 pub record RowsHold : Type 0 where
   -- of the first flow a receiver may have taken either octet; no stream begins with both; the conflict is that of record 2 at position 0
   pub first_copy : IsReassembly (map part_of with_conflict) (Byte 7 ∷ [])
@@ -122,13 +163,17 @@ pub record RowsHold : Type 0 where
   pub are_objected : IsJudgementOf pumps (one_flow ∷ other_flow 1 ∷ []) objected
   pub not_objected : IsJudgementOf pumps (one_flow ∷ other_flow 0 ∷ []) objected → ⊥
   pub not_clear : IsJudgementOf pumps (one_flow ∷ other_flow 1 ∷ []) clear → ⊥
+  -- a read that the first pump's rule allows is refused of the second pump, which has no rule, under the second one's name; and of a
+  -- station that no pump has, under the first one's
+  pub of_second : IsJudgementOf gateway (flow_to 2 ∷ []) (refused_under 1 decider.Default reason.Function)
+  pub of_nobody : IsJudgementOf gateway (flow_to 3 ∷ []) (refused_under 0 decider.Station reason.Station)
   pub spelled : spelling (read_of 1) ≡ read_octets 1
   -- the objection is of the first seven records, and of no fewer
   pub in_seven : within 7 (Some objection) ≡ Some objection
   pub not_in_six : within 6 (Some objection) ≡ None
   -- what the one flow has is let through, and is rightly passed; what is refused, or lengthens a fragment of Modbus, is not let through
-  pub decodes : DecodesToAllowed reads one_client.address (read_octets 0)
-  pub rightly_passed : IsRightlyPassed reads one_client.address (WholeUnit (Adu (read_of 0)))
+  pub decodes : DecodesToAllowed (alone reads) one_client.address (read_octets 0)
+  pub rightly_passed : IsRightlyPassed (alone reads) one_client.address (WholeUnit (Adu (read_of 0)))
   pub refused : IsLetThrough protocol.Modbus
       (fate.Refused (record { decider = decider.Default; reason = reason.Point; act = record { code = 3; group = 0; point = 1; value = None } })) → ⊥
   pub lengthens : IsLetThrough protocol.Modbus fate.Lengthens → ⊥

@@ -4,6 +4,7 @@
 use Rattle.cf_lane.specs.Rows.{modbus_asset}
 use Rattle.cf_leg.specs.Event.{Greeting, LegEvent, Nothing, Spoke}
 use Rattle.cf_packet.specs.Packet.{PacketValue}
+use Rattle.cf_policy.specs.Site.{alone}
 use Rattle.cf_policy.specs.declared.Asset.{Asset}
 use Rattle.cf_isolation.specs.ReadBack.{record_by}
 use Rattle.cf_records.specs.Capture.{Record}
@@ -81,7 +82,7 @@ request_octets =
 abbrev pub carried : (number : ℕ) → (bytes : List ℕ) → Carried
 carried number bytes = record { number = number; at = pos 0; text = record { bytes = bytes; ended = false } }
 
--- a flow of a client to the first asset
+-- a flow of a client to the site of the first asset
 abbrev pub flow : Endpoint → (number : ℕ) → (all : List Carried) → (answered : Bool) → Watched
 flow client number all answered =
     record { client = client; asset = 0; origin = number; answered = answered; midstream = None; carried = all }
@@ -109,7 +110,7 @@ one_heard = record { number = 1; packet = greets one 1000 } ∷ record { number 
 -- the session of the one client as it speaks to its controller
 abbrev pub one_spoken : Spoken
 one_spoken = record {
-  flow = record { asset = modbus_asset; syn = segment one pump 1000 0 2 None [] };
+  flow = record { site = alone modbus_asset; syn = segment one pump 1000 0 2 None [] };
   first = record { number = 1; packet = greets one 1000 };
   rest = record { number = 5; packet = requests one 1000 (read_of 0) } ∷ [];
 }

@@ -1,6 +1,6 @@
 -- What a run sends has no objection. The main definition is RunsAreUnobjected.
 --
--- Its output capture, watched over the assets of its own policy, has flows, each the letters that went from one client to one asset. A
+-- Its output capture, watched over the assets of its own policy, has flows, each the letters that went from one client to one site. A
 -- judge of the same policy reads them by the verdict on each act, and finds no conflict of letters, no octet that no unit has in its
 -- place, nothing stray and no command that is refused: neither in whole sessions nor in those that a cut broke off, whatever rules were
 -- spent, and whatever the capture holds that the run was given.

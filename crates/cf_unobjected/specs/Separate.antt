@@ -1,4 +1,4 @@
--- Steps of the proof: the watched flows of one client and one asset, `pair_of`, and the packets that go from the one to the other, `is_to`.
+-- Steps of the proof: the watched flows of one client and one site, `pair_of`, and the packets that go from the one to the other, `is_to`.
 use Rattle.std.specs.Prelude.{◌&&◌, ◌==◌, ℕ, Bool, false, List, [], ◌∷◌, ◌++◌, Option, Some, None, Ok, if◌then◌else◌}
 use Rattle.cf_packet.specs.Packet.{PacketValue}
 use Rattle.cf_policy.specs.declared.Asset.{Asset}
@@ -8,7 +8,7 @@ use Rattle.cf_view.specs.Endpoints.{same_endpoint}
 use Rattle.cf_watch.specs.Watched.{Watched, is_between, with_record}
 use Rattle.cf_unobjected.specs.OneFlow.{Numbered}
 
--- the flows of a client and an asset, the newest first
+-- the flows of a client and the site of a place, the newest first
 abbrev pub pair_of : (client : Endpoint) (asset : ℕ) → List Watched → List Watched
 pair_of client asset [] = []
 pair_of client asset (f ∷ fs) = pair_of client asset fs ++ (if is_between client asset f then f ∷ [] else [])
@@ -18,7 +18,7 @@ abbrev pub heard_on : List Asset → List Numbered → List Watched → List Wat
 heard_on assets [] flows = flows
 heard_on assets (n ∷ ns) flows = heard_on assets ns (with_record assets n.number (Ok n.packet) flows)
 
--- what goes from a source to the asset of a place, if to one, goes from a client to an asset
+-- what goes from a source to the site of a place, if to one, goes from a client to a site
 abbrev pub is_to_place : (client : Endpoint) (asset : ℕ) → (source : Endpoint) → (place : Option ℕ) → Bool
 is_to_place client asset source None = false
 is_to_place client asset source (Some place) = same_endpoint source client && (place == asset)

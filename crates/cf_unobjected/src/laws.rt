@@ -87,7 +87,8 @@ pub fn runs_are_unobjected()
 }
 
 /// Flows worked by hand: of one with a conflict a receiver may have taken either octet, and of one out of order both; of two with a
-/// read each a judge objects to the one that no rule allows; and of a capture each session is watched as one flow, of its own packets
+/// read each a judge objects to the one that no rule allows; of reads of two stations behind one address and port to the one that the
+/// second station's own rules do not allow, under its name; and of a capture each session is watched as one flow, of its own packets
 /// alone.
 pub fn rows_hold()
     ensures flows { RowsHold }

@@ -1,5 +1,5 @@
 -- The other stretches of flows are to assets of the policy, and have a record for each byte.
-use Rattle.std.proofs.Common.{◌≡◌, ◌<◌, ◌+◌, ◌∙◌, ◌++◌, ◌∷◌, [], ℕ, ℤ, pos, ◌^◌, zero, suc, Bool, true, false, List, Option, Some, None, if◌then◌else◌, length, map, max, refl, sym, ap, length-append}
+use Rattle.std.proofs.Common.{◌≡◌, ◌+◌, ◌∙◌, ◌++◌, ◌∷◌, [], ℕ, ℤ, pos, ◌^◌, zero, suc, Bool, true, false, List, Option, Some, None, if◌then◌else◌, length, map, max, refl, sym, ap, length-append}
 use Rattle.std.specs.List.{AllByRecursion}
 use Rattle.std.proofs.lemmas.List.Elements.{All-from_recursion}
 use Rattle.cf_policy.specs.declared.Asset.{Asset}
@@ -41,15 +41,15 @@ module _ (assets : List Asset) where
   abbrev IsFor : StretchValue → Type 0
   IsFor s = IsForAsset assets s.flow
 
-  for_from : (f : FlowValue) (gap : ℤ) (runs : List Run) → f.asset < length assets → AllByRecursion IsEven runs → AllByRecursion IsFor (stretches_from f gap runs)
+  for_from : (f : FlowValue) (gap : ℤ) (runs : List Run) → IsForAsset assets f → AllByRecursion IsEven runs → AllByRecursion IsFor (stretches_from f gap runs)
   for_from f gap [] h even = tt
-  for_from f gap (r ∷ runs) h even = (record { asset = h; born = even.0 }, for_from f gap runs h even.1)
+  for_from f gap (r ∷ runs) h even = (record { asset = h.asset; first = h.first; born = even.0 }, for_from f gap runs h even.1)
 
   for_append : (xs ys : List StretchValue) → AllByRecursion IsFor xs → AllByRecursion IsFor ys → AllByRecursion IsFor (xs ++ ys)
   for_append [] ys h i = i
   for_append (x ∷ xs) ys h i = (h.0, for_append xs ys h.1 i)
 
-  stretches_for : (w : Watched) (f : FlowValue) → f.asset < length assets → AllByRecursion IsFor (stretches_of w f)
+  stretches_for : (w : Watched) (f : FlowValue) → IsForAsset assets f → AllByRecursion IsFor (stretches_of w f)
   stretches_for w f h =
       let runs = runs_of (apart (length f.bytes) (first_letter w.carried)) (2 ^ 31 + top_of w.carried) in
       for_from f (pos (length f.bytes)) runs h (even_runs (apart (length f.bytes) (first_letter w.carried)) (2 ^ 31 + top_of w.carried))
@@ -58,7 +58,7 @@ module _ (assets : List Asset) where
   for_all [] flows h = tt
   for_all (w ∷ ws) [] h = tt
   for_all (w ∷ ws) (f ∷ flows) h =
-      for_append (stretches_of w f) (all_stretches ws flows) (stretches_for w f h.0.asset) (for_all ws flows h.1)
+      for_append (stretches_of w f) (all_stretches ws flows) (stretches_for w f h.0) (for_all ws flows h.1)
 
   flows_for : (ss : List StretchValue) → AllByRecursion IsFor ss → AllByRecursion (IsForAsset assets) (map (λ s. s.flow) ss)
   flows_for [] h = tt

@@ -1,13 +1,14 @@
 -- What a contract sees of a `Flow` and of a `Stretch`: FlowValue, StretchValue.
-use Rattle.std.specs.Prelude.{◌≡◌, ◌<◌, ℕ, ℤ, List, All, length, map, Option}
+use Rattle.std.specs.Prelude.{◌≡◌, ◌<◌, ℕ, ℤ, List, All, length, map, Option, Some}
+use Rattle.cf_policy.specs.AtEndpoint.{asset_place}
 use Rattle.cf_policy.specs.declared.Asset.{Asset}
 use Rattle.cf_view.specs.declared.Endpoint.{Endpoint}
 use Rattle.cf_watch.specs.declared.flow.Conflict.{Conflict}
 use Rattle.cf_watch.specs.declared.flow.Flow.{Flow}
 use Rattle.cf_watch.specs.declared.flow.Stretch.{Stretch}
 
--- a flow: its client, the place of its asset in the policy, the record with which it begins where that is amid its stream, its bytes,
--- for each of them the number of the record with which they reached it, and its first conflict
+-- a flow: its client, the place in the policy of the first asset at the address and port that it goes to, the record with which it begins
+-- where that is amid its stream, its bytes, for each of them the number of the record with which they reached it, and its first conflict
 pub record FlowValue : Type 0 where
   pub client : Endpoint
   pub asset : ℕ
@@ -27,9 +28,14 @@ flow_value f = record {
       f.conflict;
 }
 
--- a flow whose asset is a place of the policy, and each byte of which came with a record
+-- the place is that of the first asset that has some endpoint
+abbrev pub IsFirstPlace : List Asset → (place : ℕ) → Type 0
+IsFirstPlace assets place = (endpoint : Endpoint) × (asset_place assets endpoint ≡ Some place)
+
+-- a flow whose asset is a place of the policy, the first with the asset's endpoint, and each byte of which came with a record
 pub record IsForAsset (assets : List Asset) (f : FlowValue) : Type 0 where
   pub asset : f.asset < length assets
+  pub first : IsFirstPlace assets f.asset
   pub born : length f.born ≡ length f.bytes
 
 -- bytes of a flow that do not follow on its first ones, as a flow that begins amid its stream; and of the first of these stretches the

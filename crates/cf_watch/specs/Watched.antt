@@ -1,4 +1,5 @@
--- The watched flows of a capture: watched. A flow is a client endpoint and an asset; each SYN that begins it anew begins another.
+-- The watched flows of a capture: watched. A flow is a client endpoint and the endpoint of an asset, which stands for all that have this
+-- endpoint: the first of them names it. Each SYN that begins it anew begins another.
 -- Packets of a flow before its first SYN are not used, nor are packets to no asset.
 use Rattle.std.specs.Prelude.{◌==◌, ◌+◌, ◌+ℤ◌, ℕ, ℤ, suc, pos, zero, Bool, true, false, not, ◌&&◌, ◌||◌, if◌then◌else◌, List, [], ◌∷◌, ◌++◌}
 use Rattle.std.specs.Prelude.{length, set, slice_get, Option, Some, None, Result, Ok, Err}

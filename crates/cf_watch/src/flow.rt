@@ -14,12 +14,13 @@ pub struct Conflict {
     pub position: i64,
 }
 
-/// What a client sent to an asset, from a SYN on or from amid its stream, as the packets of a capture carry it. This project's own.
+/// What a client sent to the address and port of assets, from a SYN on or from amid its stream, as the packets of a capture carry
+/// it. This project's own.
 #[derive(Drop)]
 pub struct Flow {
     /// The address and the port that the packets come from.
     pub client: Endpoint,
-    /// The place of the asset in the policy, counted from 0.
+    /// The place in the policy of the first asset with this address and port, counted from 0.
     pub asset: u32,
     /// The number, counted from 1, of the record with which it begins, where that is amid its stream: no SYN of it was seen.
     pub midstream: Option<u64>,

@@ -133,7 +133,7 @@ fn packet_by<'a>(
     }
 }
 
-/// The place of the asset at an endpoint.
+/// The place of the first asset at an endpoint.
 fn asset_at(assets: &[Asset], endpoint: &Endpoint) -> Option<usize>
     ensures place { result ≡ asset_place assets.now endpoint.now }
     ensures inside { IfSome result (λ place. place < length assets.now) }

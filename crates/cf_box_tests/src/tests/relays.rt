@@ -4,7 +4,7 @@ ghost use Rattle.cf_policy.specs.Within.{IsAssetWithin};
 
 use crate::tests::{field, same};
 use cf_outside::{Fail as Scripted, MemoryFiles, MemoryPair, Told};
-use cf_policy::Asset;
+use cf_policy::{Asset, Site};
 use cf_relay::relay;
 use cf_samples::rows::{hex, octets};
 use cf_samples::{CLIENT, pump, rtu};
@@ -161,12 +161,21 @@ fn push_given(alloc: Global, text: &mut String, pair: &MemoryPair, side: Side) -
     Ok(())
 }
 
-/// What a relay answers and leaves, and the counts that are wanted.
+/// What a relay answers and leaves, and the counts that are wanted, of an asset that has its endpoint for itself.
+#[tactic(auto, using(crate::proofs::Alone::alone_within))]
 fn relayed(alloc: Global, given: &str, wanted: &str) -> Result<String, Fail> {
     let mut pair = pair_of(alloc, given)?;
     let mut files = MemoryFiles::new(alloc);
     let asset = asset_of(alloc, field(given, "asset:"))?;
-    let done = relay(alloc, &asset, 1502, 5, "l", &mut pair, &mut files);
+    let done = relay(
+        alloc,
+        &Site::alone(&asset),
+        1502,
+        5,
+        "l",
+        &mut pair,
+        &mut files,
+    );
     let mut text = format!(in alloc; "{done:?}\n")?;
     if !field(wanted, "answers").is_empty() {
         write!(&mut text, "answers {}\n", pair.told.len())?;

@@ -1,6 +1,7 @@
 //! Stored streams that are sifted over files in memory.
 use crate::tests::{field, same};
 use cf_outside::{Fail as Scripted, MemoryFiles};
+use cf_policy::Site;
 use cf_samples::pump;
 use cf_samples::rows::{hex, octets};
 use cf_sift::{SiftNames, sift_stream};
@@ -52,11 +53,12 @@ fn files_of(alloc: Global, row: &str) -> Result<MemoryFiles, Fail> {
     Ok(files)
 }
 
-/// What a sift answers and leaves.
+/// What a sift answers and leaves, of an asset that has its endpoint for itself.
+#[tactic(auto, using(crate::proofs::Alone::alone_within))]
 fn sifted(alloc: Global, row: &str) -> Result<String, Fail> {
     let mut files = files_of(alloc, row)?;
     let asset = pump(alloc)?;
-    let done = sift_stream(alloc, &asset, 0x0A00_0005, &NAMES, &mut files);
+    let done = sift_stream(alloc, &Site::alone(&asset), 0x0A00_0005, &NAMES, &mut files);
     let mut text = format!(in alloc; "{done:?}\n")?;
     for (name, word) in [("o", "output"), ("r", "replies")] {
         let octets = files.files.get(name).ok_or("no file")?;

@@ -473,6 +473,29 @@ codes: codes = [] | points: points = ["@none"] | version: version = 2 => 6 codes
 values: values = ["@a"] | version: version = 2 / set = [{ name = "a", points = ["1"] }] => 6 values asset 1 rule 2
 clients: clients = ["@a"] | version: version = 2 / set = [{ name = "a", points = ["1"] }] => 5 clients asset 1 rule 2"#;
 
+/// Several assets of one address and port, which version 3 has.
+pub(super) const SITES: &str =
+    r#"rtu.address: address = "10.0.0.9" | version: version = 2 => 7 port asset 2 rule 0
+rtu.address: address = "10.0.0.9" | version: version = 3 => 7 protocol asset 2 rule 0
+rtu.address: address = "10.0.0.9" | rtu.protocol: | version: version = 2 => 7 port asset 2 rule 0
+rtu.address: address = "10.0.0.9" | rtu.protocol: | version: version = 3 => 3 protocol asset 2 rule 0
+rtu.address: address = "10.0.0.9" | rtu.protocol: protocol = "MODBUS" | version: version = 3 => 6 protocol asset 2 rule 0
+rtu.address: address = "10.0.0.9" | rtu.protocol: protocol = "modbus" | rtu.master: | version: version = 3 => ok
+rtu.address: address = "10.0.0.9" | rtu.protocol: protocol = "modbus" | rtu.master: | version: version = 1 => 7 port asset 2 rule 0
+rtu.address: address = "10.0.0.9" | rtu.protocol: protocol = "modbus" | rtu.station: station = 1 | version: version = 3 => 7 station asset 2 rule 0
+rtu.address: address = "10.0.0.9" | rtu.protocol: protocol = "modbus" | rtu.station: station = 0x01 | version: version = 3 => 7 station asset 2 rule 0
+rtu.address: address = "10.0.0.9" | rtu.protocol: protocol = "modbus" | rtu.station: station = 256 | version: version = 3 => 6 station asset 2 rule 0
+rtu.address: address = "10.0.0.9" | rtu.protocol: protocol = "modbus" | version: version = 3 => 2 - asset 2 rule 0
+rtu.address: address = "10.0.0.9" | rtu.protocol: protocol = "modbus" | rtu.station: station = 1 | rtu.master: | rtu.name: name = "pump" | version: version = 3 => 7 name asset 2 rule 0
+rtu.address: address = "10.0.0.9" | rtu.port: port = 0 | version: version = 3 => 6 port asset 2 rule 0
+rtu.address: address = "10.0.0.9" | rtu.port: port = 503 | rtu.station: station = 1 | version: version = 3 => ok
+protocol: protocol = "dnp3" | master: master = 0 | rtu.address: address = "10.0.0.9" | version: version = 3 => ok
+protocol: protocol = "dnp3" | master: master = 1 | rtu.address: address = "10.0.0.9" | rtu.station: station = 1 | rtu.master: master = "1" | version: version = 3 => 7 station asset 2 rule 0
+rtu.master: master = 1 / [[asset]] / name = "b" / address = "10.0.0.9" / port = 502 | version: version = 3 => 7 port asset 3 rule 0
+rtu.master: master = 1 / [[asset]] / name = "b" / address = "10.0.0.10" / port = 502 / protocol = "dnp3" / station = 9 / master = 1 | version: version = 3 => ok
+rtu.address: address = "10.0.0.9" | rtu.protocol: protocol = "modbus" | rtu.master: [[asset]] / name = "b" / address = "10.0.0.9" / port = 502 / protocol = "modbus" / station = 1 | version: version = 3 => 7 station asset 3 rule 0
+rtu.address: address = "10.0.0.9" | rtu.protocol: protocol = "modbus" | rtu.master: [[asset]] / name = "b" / address = "10.0.0.9" / port = 502 / protocol = "modbus" / station = 3 | version: version = 3 => ok"#;
+
 /// What a text means: `ok`, or its refusal.
 pub(super) fn meaning(alloc: Global, changes: &str) -> Result<String, Fail> {
     let octets = policy_octets(alloc, LINES, changes)?;

@@ -46,22 +46,22 @@ p:6:12: this is no TOML: invalid value, expected a string, number, boolean, date
 1: version = 4
 p:1:1: `version` is the number 4
   write version = 1 above the first table, version = 2 where rules name sets of points, or version = 3 where rules have a log or names
-    of codes and groups
+    of codes and groups, or assets one address and port
 
 1:
 p: `version` is missing
   write version = 1 above the first table, version = 2 where rules name sets of points, or version = 3 where rules have a log or names
-    of codes and groups
+    of codes and groups, or assets one address and port
 
 1: versoin = 1
 p: `version` is missing; did you write "versoin" for it?
   write version = 1 above the first table, version = 2 where rules name sets of points, or version = 3 where rules have a log or names
-    of codes and groups
+    of codes and groups, or assets one address and port
 
 1: version = "1"
 p:1:1: `version` is the text "1", and has to be a whole number
   write version = 1 above the first table, version = 2 where rules name sets of points, or version = 3 where rules have a log or names
-    of codes and groups
+    of codes and groups, or assets one address and port
 
 2: [asset]
 p:20:1: this is no TOML: duplicate key; write [[asset]] and [[asset.rule]] with two brackets each time
@@ -277,7 +277,43 @@ p:21:1: asset 2 "pump": `name` is the text "pump", which asset 1 has
 
 22: address = "10.0.0.9"
 p:23:1: asset 2 "rtu": asset 1 has the same address and port
-  no two assets have the same address and port
+  no two assets have the same address and port; in version 3 those of a gateway may, each with a station of its own
+
+1: version = 2 | 22: address = "10.0.0.9" | 24: protocol = "modbus" | 25: station = 2 | 26:
+p:23:1: asset 2 "rtu": asset 1 has the same address and port
+  no two assets have the same address and port; in version 3 those of a gateway may, each with a station of its own
+
+1: version = 3 | 22: address = "10.0.0.9" | 24: protocol = "modbus" | 25: station = 2 | 26:
+ok
+
+1: version = 3 | 22: address = "10.0.0.9"
+p:24:1: asset 2 "rtu": asset 1 has the same address and port, and another protocol
+  assets with the same address and port stand one behind the other, with one protocol and stations that differ
+
+1: version = 3 | 22: address = "10.0.0.9" | 24: protocol = "modbus" | 25: station = 1 | 26:
+p:25:1: asset 2 "rtu": asset 1 has the same address, port and station
+  assets with the same address and port stand one behind the other, with one protocol and stations that differ
+
+1: version = 3 | 22: address = "10.0.0.9" | 24: protocol = "modbus" | 25: station = 2 | 26: [[asset]] / name = "b" / address = "10.0.0.9" /
+    port = 502 / protocol = "modbus" / station = 2
+p:31:1: asset 3 "b": asset 2 has the same address, port and station
+  assets with the same address and port stand one behind the other, with one protocol and stations that differ
+
+1: version = 3 | 26: master = 1 / [[asset]] / name = "b" / address = "10.0.0.9" / port = 502 / protocol = "modbus" / station = 2
+p:30:1: asset 3 "b": asset 1 has the same address and port, and another one stands between
+  assets with the same address and port stand one behind the other, with one protocol and stations that differ
+
+text: version = 3 / asset = [{ name = "a", address = "10.0.0.9", port = 1, protocol = "dnp3", station = 1, master = 0 },
+    { name = "b", address = "10.0.0.9", port = 1, protocol = "dnp3", station = 2, master = 0 },
+    { name = "c", address = "10.0.0.9", port = 1, protocol = "dnp3", station = 3, master = 0 },
+    { name = "d", address = "10.0.0.9", port = 1, protocol = "dnp3", station = 4, master = 0 },
+    { name = "e", address = "10.0.0.9", port = 1, protocol = "dnp3", station = 5, master = 0 },
+    { name = "f", address = "10.0.0.9", port = 1, protocol = "dnp3", station = 6, master = 0 },
+    { name = "g", address = "10.0.0.9", port = 1, protocol = "dnp3", station = 7, master = 0 },
+    { name = "h", address = "10.0.0.9", port = 1, protocol = "dnp3", station = 8, master = 0 },
+    { name = "i", address = "10.0.0.9", port = 1, protocol = "dnp3", station = 8 }]
+p: asset 9 "i": 8 assets of DNP3 before it have the same address and port
+  at most 32 assets have the same address and port, and of DNP3 at most 8
 
 6: protocol = “modbus”
 p:6:12: this is no TOML: invalid value, expected a string, number, boolean, date-time, array or inline table; quotation marks are the
@@ -542,7 +578,8 @@ p:4:1: asset 1 "pump": `address` is "10.0.0.9..10.0.0.12": one address stands th
   an address is four numbers from 0 to 255, without leading zeros, as address = "10.0.0.9"
 
 7: stations = [1, 2]
-p:7:1: asset 1 "pump": "stations" is no key of an asset: it has one, as station = 1
+p:7:1: asset 1 "pump": "stations" is no key of an asset: it has one, as station = 1; in version 3 several assets may have one address
+    and port
   an asset has name, address, port, protocol, station, for DNP3 master, and tables [[asset.rule]]
 
 octets:d4c3b2a1 02000400 0000000000000000ffff0000 01000000

@@ -45,6 +45,18 @@ version: version = 3 | protocol: protocol = "iec104" | last: [[asset.rule]] / na
     | [[asset.rule]] / action = "allow" / codes = [3] / name = "poll"
     | [[asset.rule]] / action = "allow" / codes = [6, 16] / name = "set" / points = ["40..49"] / values = ["0..500"]
     | [[asset.rule]] / action = "allow" / codes = [45, 46] / groups = ["6", "5..8"] / log = true / name = "switch"
+version: version = 3 | last: [[asset]] / name = "valve" / address = "10.0.0.9" / port = 502 / protocol = "modbus" / station = 0
+    => version = 3
+    | [[asset]] / address = "10.0.0.9" / name = "pump" / port = 502 / protocol = "modbus" / station = 1
+    | [[asset.rule]] / action = "allow" / codes = [3] / name = "poll"
+    | [[asset.rule]] / action = "allow" / codes = [6, 16] / name = "set" / points = ["40..49"] / values = ["0..500"]
+    | [[asset]] / address = "10.0.0.9" / name = "valve" / port = 502 / protocol = "modbus" / station = 0
+version: version = 3 | last: [[asset]] / name = "valve" / address = "10.0.0.9" / port = 503 / protocol = "modbus" / station = 1
+    => version = 2
+    | [[asset]] / address = "10.0.0.9" / name = "pump" / port = 502 / protocol = "modbus" / station = 1
+    | [[asset.rule]] / action = "allow" / codes = [3] / name = "poll"
+    | [[asset.rule]] / action = "allow" / codes = [6, 16] / name = "set" / points = ["40..49"] / values = ["0..500"]
+    | [[asset]] / address = "10.0.0.9" / name = "valve" / port = 503 / protocol = "modbus" / station = 1
 poll: points = ["40..49"] => version = 2
     | [[asset]] / address = "10.0.0.9" / name = "pump" / port = 502 / protocol = "modbus" / station = 1
     | [[asset.rule]] / action = "allow" / codes = [3] / name = "poll" / points = ["@set1"]

@@ -1,6 +1,7 @@
 //! What is said of words, captures, outputs and assets.
 use cf_explain::{
-    asset_message, capture_message, outputs_message, own_endpoint_message, words_message,
+    asset_message, capture_message, outputs_message, own_endpoint_message, same_site_message,
+    words_message,
 };
 use cf_outside::MemoryFiles;
 use cf_policylang::read_policy;
@@ -236,12 +237,19 @@ Kessel/
 p: it has no asset "Kessel\n"
   it has pump bay-3"#;
 
-/// A row: a place, and what is said where it is the controller of the first asset.
+/// A row: a place, and what is said where it is the controller of the first asset; or two places, and what is said where they are of one
+/// site.
 pub(super) const PLACES: &str = r#"bay-3=10.0.0.9:502
-p: the place "bay-3=10.0.0.9:502" is the address and port of the controller of asset pump: the service would connect to itself"#;
+p: the place "bay-3=10.0.0.9:502" is the address and port of the controller of asset pump: the service would connect to itself
 
-/// What is said of such a place.
+bay-3=10.0.0.1:5021 pump=10.0.0.1:5020
+p: the places "bay-3=10.0.0.1:5021" and "pump=10.0.0.1:5020" are for assets of one address and port: one place serves all of them"#;
+
+/// What is said of such places.
 pub(super) fn place(alloc: Global, place: &str) -> Result<String, Fail> {
+    if let Some((place, other)) = place.split_once(' ') {
+        return Ok(same_site_message(alloc, "p", place, other)?);
+    }
     let policy = read_policy(alloc, POLICY)?;
     match policy.assets.as_slice().first() {
         Some(asset) => Ok(own_endpoint_message(alloc, "p", asset, place)?),

@@ -272,6 +272,11 @@ action: action = "refuse" | lists: codes = [3]
 p:2:1: warning: asset 1 "x" has no rule that allows: each command is refused, and serve closes each client as it comes
 .
 
+version: version = 3 | action: action = "refuse" | lists: codes = [3] | more: [[asset]] / name = "y" / address = "10.0.0.9" / port = 1 /
+    protocol = "modbus" / station = 2 / [[asset.rule]] / name = "b" / action = "allow" / codes = [3]
+p:2:1: warning: asset 1 "x" has no rule that allows: each command is refused
+.
+
 text: version = 1 / asset = []
 .
 

@@ -6,10 +6,10 @@ ghost use Rattle.cf_outside.specs.Faults.{HasCause};
 ghost use Rattle.cf_outside.specs.Desk.{DeskValue};
 ghost use Rattle.cf_lane.specs.Rings.{IsRulesOf, says_by};
 ghost use Rattle.cf_policy.specs.Within.{IsAssetWithin};
-ghost use Rattle.cf_lane.specs.Fragments.{MissesFrame, TakesFrame, owed_by, parts};
+ghost use Rattle.cf_lane.specs.Fragments.{MissesFrame, TakesFrame, parts};
 ghost use Rattle.cf_lane.specs.Handled.{Grows, HasRoom, IsOpen, WritesLog};
 ghost use Rattle.cf_lane.specs.History.{is_side};
-ghost use Rattle.cf_lane.specs.Kept.{AreFragments};
+ghost use Rattle.cf_lane.specs.Kept.{AreFragments, owed_by};
 ghost use Rattle.cf_lane.specs.Unit.{frame_spelling};
 
 use crate::dnp3::served::{is_data, stray_of};

@@ -47,7 +47,8 @@ pub fn is_data(frame: &Frame<'_>) -> bool
     is_primary(frame) && link_code(frame) == DATA
 }
 
-fn has_addresses(asset: &Asset, side: Side, frame: &Frame<'_>) -> bool
+/// Whether a frame of a side is between the asset's station and its master.
+pub(crate) fn has_addresses(asset: &Asset, side: Side, frame: &Frame<'_>) -> bool
     ensures { result ≡ has_addresses asset.now side (frame_value frame.now) }
 {
     match side {

@@ -1,12 +1,12 @@
-//! Clients that no rule of their asset names.
+//! Clients that no rule of an asset of their site names.
 ghost use Rattle.std.specs.Prelude.{◌≡◌, false, ℕ};
 ghost use Rattle.cf_links.specs.MemoryLinks.{serves_in};
 ghost use Rattle.cf_policy.specs.Within.{IsWithin};
 
 use crate::tests::set_back::SetBack;
 use crate::tests::{
-    Run, SECONDS, asset_named, fail_at, field, files_of, host, links_of, number, numbers, put,
-    same, text_of,
+    Run, SECONDS, fail_at, field, files_of, host, links_of, number, numbers, put, same, site_named,
+    text_of,
 };
 use cf_links::{LinksTold, MemoryClient};
 use cf_outside::{Fail as Scripted, MemoryFiles, MemoryPair};
@@ -257,7 +257,7 @@ fn policy(rt: &impl Abort, alloc: Global) -> Policy
     read_policy(alloc, POLICY.as_bytes()).expect(rt, "policy")
 }
 
-/// Serves both assets.
+/// Serves both assets, each at a site of its own.
 fn serve_two(
     rt: &impl Abort,
     alloc: Global,
@@ -270,11 +270,11 @@ fn serve_two(
 {
     let places = [
         Place {
-            asset: asset_named(rt, policy, "pump"),
+            site: site_named(rt, policy, "pump"),
             at: host(1, 5020),
         },
         Place {
-            asset: asset_named(rt, policy, "shut"),
+            site: site_named(rt, policy, "shut"),
             at: host(1, 5021),
         },
     ];

@@ -5,7 +5,7 @@ ghost use Rattle.cf_policy.specs.Within.{IsWithin};
 
 use crate::tests::set_back::SetBack;
 use crate::tests::{
-    Run, SECONDS, asset_named, field, files_of, host, links_of, number, numbers, policy, put, same,
+    Run, SECONDS, field, files_of, host, links_of, number, numbers, policy, put, same, site_named,
 };
 use cf_links::{LinksTold, MemoryClient};
 use cf_outside::{MemoryPair, Told};
@@ -115,7 +115,7 @@ fn serve_pump(rt: &impl Abort, alloc: Global, policy: &Policy, mut links: SetBac
     requires free { (session : ℕ) → serves_in links.links session ≡ false }
 {
     let places = [Place {
-        asset: asset_named(rt, policy, "pump"),
+        site: site_named(rt, policy, "pump"),
         at: host(1, 5020),
     }];
     let mut files = files_of(rt, alloc, None);

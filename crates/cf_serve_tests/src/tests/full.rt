@@ -1,11 +1,13 @@
 //! Services that have as many sessions as they may, over nine places: no client has a turn but the first, whose controller is not reached.
 ghost use Rattle.std.specs.Prelude.{◌≡◌, false, ℕ};
 ghost use Rattle.cf_links.specs.MemoryLinks.{serves_in};
+ghost use Rattle.cf_policy.specs.Site.{IsSiteWithin};
 ghost use Rattle.cf_policy.specs.Within.{IsWithin};
+ghost use Rattle.cf_serve.specs.declared.table.Place.{Place as PlaceOf};
 
 use crate::tests::{
-    Run, SECONDS, asset_named, fail_at, field, files_of, host, links_of, number, numbers, policy,
-    put, same,
+    Run, SECONDS, fail_at, field, files_of, host, links_of, number, numbers, policy, put, same,
+    site_named,
 };
 use cf_links::{LinksTold, MemoryClient, MemoryLinks};
 use cf_outside::{MemoryFiles, MemoryPair};
@@ -73,7 +75,18 @@ fn clients(rt: &impl Abort, alloc: Global, row: &str) -> Vec<MemoryClient> {
     clients
 }
 
-/// Serves three assets, each at three of nine places.
+/// The place of the site of the asset with a name, at a port of 10.0.0.1.
+fn place_named<'a>(rt: &impl Abort, policy: &'a Policy, name: &str, port: u16) -> Place<'a>
+    requires { IsWithin policy.now }
+    ensures { IsSiteWithin (PlaceOf.site result) }
+{
+    Place {
+        site: site_named(rt, policy, name),
+        at: host(1, port),
+    }
+}
+
+/// Serves three sites, each at three of nine places.
 fn serve_nine(
     rt: &impl Abort,
     alloc: Global,
@@ -84,19 +97,17 @@ fn serve_nine(
     requires within { IsWithin policy.now }
     requires free { (session : ℕ) → serves_in links session ≡ false }
 {
-    let pump = Place {
-        asset: asset_named(rt, policy, "pump"),
-        at: host(1, 5020),
-    };
-    let rtu = Place {
-        asset: asset_named(rt, policy, "rtu"),
-        at: host(1, 5021),
-    };
-    let sub = Place {
-        asset: asset_named(rt, policy, "sub"),
-        at: host(1, 5022),
-    };
-    let places = [pump, rtu, sub, pump, rtu, sub, pump, rtu, sub];
+    let places = [
+        place_named(rt, policy, "pump", 5020),
+        place_named(rt, policy, "rtu", 5021),
+        place_named(rt, policy, "sub", 5022),
+        place_named(rt, policy, "pump", 5020),
+        place_named(rt, policy, "rtu", 5021),
+        place_named(rt, policy, "sub", 5022),
+        place_named(rt, policy, "pump", 5020),
+        place_named(rt, policy, "rtu", 5021),
+        place_named(rt, policy, "sub", 5022),
+    ];
     let answer = serve(alloc, &places, SECONDS, "l", &mut links, &mut files);
     Run {
         answer,

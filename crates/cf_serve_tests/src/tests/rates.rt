@@ -8,7 +8,7 @@ ghost use Rattle.cf_links.specs.MemoryLinks.{serves_in};
 ghost use Rattle.cf_policy.specs.Within.{IsWithin};
 
 use crate::tests::{
-    Run, SECONDS, asset_named, field, files_of, host, links_of, number, numbers, put, same,
+    Run, SECONDS, field, files_of, host, links_of, number, numbers, put, same, site_named,
 };
 use cf_links::{LinksTold, MemoryClient};
 use cf_outside::{MemoryPair, Told};
@@ -178,7 +178,7 @@ fn serve_pump(rt: &impl Abort, alloc: Global, policy: &Policy, row: &str) -> Run
     requires within { IsWithin policy.now }
 {
     let places = [Place {
-        asset: asset_named(rt, policy, "pump"),
+        site: site_named(rt, policy, "pump"),
         at: host(1, 5020),
     }];
     let mut links = links_of(alloc, clients(rt, alloc, row), 20, None);

@@ -16,7 +16,7 @@ use cf_audit::push_cut;
 use cf_lane::{Fed, Lane};
 use cf_outq::Outq;
 use cf_outside::MemoryDesk;
-use cf_policy::{Action, Asset, Items, Name, Protocol, Rule};
+use cf_policy::{Action, Asset, Items, Name, Protocol, Rule, Site};
 use cf_samples::rows::row;
 use cf_samples::{CLIENT, one_span, pump, rtu};
 use cf_view::{Endpoint, Side, View};
@@ -116,7 +116,7 @@ CONTROLLER: 680407000000
 printed: admitted 0/refused 0/
 ";
 
-/// A lane of an asset, its two queues and its desk.
+/// A lane of an asset that has its endpoint for itself, its two queues and its desk.
 #[derive(Drop)]
 struct Scene {
     asset: Asset,
@@ -129,14 +129,14 @@ struct Scene {
 impl Model for Scene {
     ghost use Rattle.std.specs.Prelude.{◌≤◌};
     ghost use Rattle.cf_lane.specs.Handled.{IsLaneOf, debt};
-    ghost use Rattle.cf_policy.specs.Within.{IsAssetWithin};
+    ghost use Rattle.cf_policy.specs.Site.{IsSiteWithin, alone};
     ghost use Rattle.cf_policy.specs.declared.Asset.{Asset};
 
     ghost Value = { Asset };
 
     ghost view = { λ s. s.asset };
 
-    ghost invariant = { λ s. IsAssetWithin s.asset × IsLaneOf s.asset s.lane × (debt s.lane ≤ 5300) };
+    ghost invariant = { λ s. IsSiteWithin (alone s.asset) × IsLaneOf (alone s.asset) s.lane × (debt s.lane ≤ 5300) };
 }
 
 /// The asset `sub`, which allows single commands to point 1000.
@@ -180,10 +180,11 @@ fn asset_of(alloc: Global, name: &str) -> Result<Asset, AllocError>
 }
 
 /// A lane of an asset at its beginning.
+#[tactic(auto, using(crate::proofs::Alone::alone_within))]
 fn begins(rt: &impl Abort, alloc: Global, name: &str) -> Scene {
     let asset = asset_of(alloc, name).expect(rt, "asset");
     Scene {
-        lane: Lane::new(alloc, &asset, CLIENT, None).expect(rt, "lane"),
+        lane: Lane::new(alloc, &Site::alone(&asset), CLIENT, None).expect(rt, "lane"),
         asset,
         to_client: Outq::new(alloc).expect(rt, "memory"),
         to_controller: Outq::new(alloc).expect(rt, "memory"),
@@ -202,6 +203,7 @@ fn is_open(side: Side, to_client: &Outq, to_controller: &Outq) -> bool
 }
 
 /// Octets of a side come.
+#[tactic(auto, using(crate::proofs::Alone::owed_alone))]
 fn feeds(rt: &impl Abort, scene: &mut Scene, now: u64, side: Side, bytes: View<'_>) -> Fed {
     assert!(rt; bytes.len() <= 1024 && scene.desk.faults == 0);
     assert!(rt; is_open(side, &scene.to_client, &scene.to_controller));
@@ -211,7 +213,7 @@ fn feeds(rt: &impl Abort, scene: &mut Scene, now: u64, side: Side, bytes: View<'
     scene
         .lane
         .feed(
-            &scene.asset,
+            &Site::alone(&scene.asset),
             now,
             side,
             bytes,
@@ -230,7 +232,7 @@ fn ends(rt: &impl Abort, scene: &mut Scene, now: u64, side: Side, rest: u32) {
     scene
         .lane
         .ended(
-            &scene.asset,
+            &Site::alone(&scene.asset),
             now,
             side,
             u64::from(rest),

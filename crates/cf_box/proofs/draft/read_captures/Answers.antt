@@ -1,4 +1,4 @@
-use Rattle.std.proofs.Common.{map, subst}
+use Rattle.std.proofs.Common.{map}
 use Rattle.cf_watch.specs.FlowValue.{flow_value, stretch_value}
 use Rattle.cf_box.proofs.draft.read_captures.Goals as goal
 

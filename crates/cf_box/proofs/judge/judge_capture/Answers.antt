@@ -1,5 +1,6 @@
 use Rattle.std.proofs.Common.{Err, ap, map, refl, subst, sym}
-use Rattle.cf_watch.specs.FlowValue.{flow_value}
+use Rattle.std.specs.Prelude.{All}
+use Rattle.cf_watch.specs.FlowValue.{IsForAsset, flow_value}
 use Rattle.cf_words.specs.Command.{Judge}
 use Rattle.cf_box.specs.Ends.{Meets}
 use Rattle.cf_box.specs.Judge.{SaysOfFlows}
@@ -30,3 +31,7 @@ returns-clause-meets g c = λ sink pair.
     flows_meet c.args.policy.now c.args.capture.now before middle after c.in-Ok.meaning c.in-Ok.ensures.has c.load_policy.ensures.only c.watch.ensures.reads.same refl refl
     (map flow_value c.in-Ok-watch.flows.items) c.in-Ok-watch.ensures.watched c.judge_flows.result
     (subst (λ l. SaysOfFlows c.in-Ok.meaning (map flow_value l) c.judge_flows.result) c.as_slice.ensures.value c.judge_flows.ensures)
+
+pub judge_flows-requires-clause-flows : goal.judge_flows-requires-clause-flows
+judge_flows-requires-clause-flows g c =
+    subst (λ l. All (IsForAsset c.in-Ok.meaning.assets) (map flow_value l)) (sym c.as_slice.ensures.value) c.in-Ok-watch.ensures.for_assets

@@ -1,4 +1,5 @@
 use Rattle.std.proofs.Common.{refl}
+use Rattle.cf_box.proofs.Back.{back_eight, back_few, back_iec104, back_modbus, back_more}
 use Rattle.cf_box.proofs.numbers.numbers_are.Goals as goal
 
 pub returns : goal.returns
@@ -13,7 +14,7 @@ returns c = record {
     too_many = λ seen sorted same ascends many. record { sorted = sorted; same = same; ascends = ascends; many = many };
   };
   bytes = refl;
-  back = refl;
+  back = record { modbus = back_modbus; iec104 = back_iec104; few = back_few; more = back_more; eight = back_eight };
   shown = refl;
   name = refl;
 }

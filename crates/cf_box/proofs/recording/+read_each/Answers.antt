@@ -1,4 +1,4 @@
-use Rattle.std.proofs.Common.{Err, ◌++◌, ap, map, subst, sym}
+use Rattle.std.proofs.Common.{Err, ap, map, subst, sym}
 use Rattle.std.specs.Prelude.{string_bytes}
 use Rattle.cf_box.specs.Recording.{StopsReading}
 use Rattle.cf_ending.specs.Outside.{files_value}

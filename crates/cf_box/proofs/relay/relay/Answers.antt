@@ -19,6 +19,6 @@ returns-clause-meets g c = λ sink.
     let after = outside (files_value g.F.Files c.relay.new.files) sink (pair_value g.P.Pair c.relay.new.pair) in
     let relayed = c.relay.ensures.ends in
     subst (Meets (Relay c.args.policy_file.now c.args.asset_name.now c.args.port c.args.idles c.args.log.now) before after) (sym c.answer_of.ensures)
-    (relay_after c.args.policy_file.now c.args.asset_name.now c.args.port c.args.idles c.args.log.now before middle after c.in-Some.asset.now
+    (relay_after c.args.policy_file.now c.args.asset_name.now c.args.port c.args.idles c.args.log.now before middle after c.in-Some.site
     (record { policy = c.in-Ok.policy; has = c.in-Ok.ensures.has; named = sym c.in-Some.ensures.named }) c.load_policy.ensures.only c.relay.result relayed.0 relayed.1 relayed.2
     c.relay.ensures.idle c.relay.ensures.others c.relay.ensures.link c.relay.ensures.write refl)

@@ -1,11 +1,11 @@
 use Rattle.std.proofs.Common.{List, arith, map, refl, subst, sym, ℕ, ◌∷◌, ◌∙◌, ◌≡◌, ap}
-use Rattle.std.specs.Prelude.{string_bytes}
+use Rattle.std.specs.Prelude.{All, string_bytes}
 use Rattle.cf_outside.specs.Files.{Content, IsPartly, content_after_write}
 use Rattle.cf_review.specs.Lines.{review_text}
 use Rattle.cf_review.specs.Remark.{remark_value}
 use Rattle.cf_review.specs.Review.{IsReviewOf}
 use Rattle.cf_watch.specs.Recorded.{HasRecording}
-use Rattle.cf_watch.specs.FlowValue.{flow_value, stretch_value}
+use Rattle.cf_watch.specs.FlowValue.{AreStretchesFor, IsForAsset, flow_value, stretch_value}
 use Rattle.cf_words.specs.Command.{Review}
 use Rattle.cf_ending.specs.Outside.{ReadsOnly, files_value, outside}
 use Rattle.cf_box.specs.Review.{ReviewLeaves}
@@ -117,3 +117,13 @@ returns-clause-later g c =
       reads = rises_still names (g.F.Files.read_faults c.args.files.now) (g.F.Files.read_faults c.read_recording.new.files) (g.F.Files.read_faults c.write_lines.new.files) reads c.write_lines.ensures.writes.reads;
       writes = omega (arith, c.load_policy.ensures.only.writes, c.read_recording.ensures.only.writes, c.write_lines.ensures.writes.cause.later);
     }
+
+pub review-requires-clause-flows : goal.review-requires-clause-flows
+review-requires-clause-flows g c =
+    subst (λ l. All (IsForAsset c.in-Ok.policy.assets) (map flow_value l)) (sym c.as_slice-flows.ensures.value)
+    c.in-Ok-read_recording.ensures.for_assets
+
+pub review-requires-clause-stretches : goal.review-requires-clause-stretches
+review-requires-clause-stretches g c =
+    subst (λ l. AreStretchesFor c.in-Ok.policy.assets (map stretch_value l)) (sym c.as_slice.ensures.value)
+    c.in-Ok-read_recording.ensures.stretches_for_assets

@@ -20,7 +20,7 @@ returns-clause-meets g c = λ sink pair.
     let middle = outside (files_value g.F.Files c.load_policy.new.files) sink pair in
     let after = outside (files_value g.F.Files c.run_capture.new.files) sink pair in
     subst (λ s. Meets (Run c.args.policy_file.now names) before after (Err s)) (sym c.run_stop.ensures)
-    (run_after c.args.policy_file.now names before middle after c.in-Ok.policy c.in-Ok.ensures.has c.load_policy.ensures.only (Err c.in-Err-run_capture.fault)
+    (run_after c.args.policy_file.now names before middle after c.in-Ok.policy c.in-Ok.ensures.has c.in-Ok.ensures.within c.load_policy.ensures.only (Err c.in-Err-run_capture.fault)
     c.in-Err-run_capture.ensures.runs c.in-Err-run_capture.ensures.others c.in-Err-run_capture.ensures.read.rose c.in-Err-run_capture.ensures.write.rose refl refl)
 
 pub returns-in-Ok-run_capture-clause-later : goal.returns-in-Ok-run_capture-clause-later

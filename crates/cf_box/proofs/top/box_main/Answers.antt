@@ -126,11 +126,11 @@ pub returns-in-Some-clause-unwritten : goal.returns-in-Some-clause-unwritten
 returns-in-Some-clause-unwritten g c = λ w own. unwritten_told (explains g c) w (own (command g c) (let known = c.in-Some.ensures.command in cc))
 
 pub returns-in-Some-clause-headline : goal.returns-in-Some-clause-headline
-returns-in-Some-clause-headline g c = λ policy names is. run_told c.runs_have_headline.ensures c.runs_are_logged.ensures (explains g c) policy names
+returns-in-Some-clause-headline g c = λ policy names is. run_told c.runs_have_headline.ensures c.sessions_have_sites.ensures c.runs_are_logged.ensures (explains g c) policy names
     (let known = c.in-Some.ensures.command in cc)
 
 pub returns-in-Some-clause-world : goal.returns-in-Some-clause-world
-returns-in-Some-clause-world g c = λ seed sessions policy names is. world_told (explains g c) c.runs_have_headline.ensures c.runs_are_logged.ensures seed sessions policy names
+returns-in-Some-clause-world g c = λ seed sessions policy names is. world_told (explains g c) c.runs_have_headline.ensures c.sessions_have_sites.ensures c.runs_are_logged.ensures seed sessions policy names
     (let known = c.in-Some.ensures.command in cc)
 
 pub returns-in-Some-clause-own : goal.returns-in-Some-clause-own

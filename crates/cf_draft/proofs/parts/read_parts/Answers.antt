@@ -1,8 +1,21 @@
-use Rattle.std.proofs.Common.{[], ap, map, subst}
-use Rattle.cf_watch.specs.FlowValue.{flow_value, stretch_value}
+use Rattle.std.proofs.Common.{ap, map, subst, sym}
+use Rattle.std.specs.Prelude.{All}
+use Rattle.cf_watch.specs.FlowValue.{AreStretchesFor, IsForAsset, flow_value, stretch_value}
 use Rattle.cf_draft.specs.Parts.{AddsRead}
 use Rattle.cf_draft.proofs.Reading.{adds_both, read_alone}
 use Rattle.cf_draft.proofs.parts.read_parts.Goals as goal
+
+pub add_flows-requires : goal.add_flows-requires
+add_flows-requires c = record {
+  flows = subst (λ a. All (IsForAsset a) (map flow_value c.as_slice.result.now)) (sym c.as_slice-assets.ensures)
+      (subst (λ l. All (IsForAsset c.args.policy.now.assets) (map flow_value l)) (sym c.as_slice.ensures.value) c.requires.flows);
+}
+
+pub add_stretches-requires : goal.add_stretches-requires
+add_stretches-requires c = record {
+  stretches = subst (λ a. AreStretchesFor a (map stretch_value c.as_slice-2.result.now)) (sym c.as_slice-assets.ensures)
+      (subst (λ l. AreStretchesFor c.args.policy.now.assets (map stretch_value l)) (sym c.as_slice-2.ensures.value) c.requires.stretches);
+}
 
 pub returns : goal.returns
 returns c =

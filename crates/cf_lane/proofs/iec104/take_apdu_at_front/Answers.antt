@@ -1,4 +1,10 @@
-use Rattle.std.proofs.Common.{arith, refl}
+use Rattle.std.proofs.Common.{arith, refl, subst, sym}
+use Rattle.cf_lane.proofs.Fronts.{few_at}
+use Rattle.cf_lane.proofs.Parting.{within_at}
+use Rattle.cf_lane.specs.Renumbered.{MissesApdu, TakesApdu, numbered}
+use Rattle.cf_lane.specs.Rings.{IsRulesOf, says_by}
+use Rattle.cf_policy.specs.Within.{IsAssetWithin}
+use Rattle.cf_policy.specs.declared.Asset.{Asset}
 use Rattle.cf_apci.specs.Apdu.{apdu_value}
 use Rattle.cf_outside.specs.Desk.{DeskValue}
 use Rattle.cf_lane.proofs.Apdus.{apdu_front, apdu_length, apdu_misses, grows_apdu}
@@ -20,28 +26,56 @@ take_apdu-requires-clause-controller_room g c =
 
 pub returns-in-More-clause-fronts : goal.returns-in-More-clause-fronts
 returns-in-More-clause-fronts g c = λ admitted refused.
-    (step_waits c.args.asset.now (apdus c.args.asset.now.protocol c.requires.iec104) _ _ c.after.ensures.bytes c.in-More.ensures.true_answer, refl)
+    (step_waits c.args.site.now (apdus c.args.site.now.first.protocol c.requires.iec104) _ _ c.after.ensures.bytes c.in-More.ensures.true_answer, refl)
 
 pub returns-in-Broken-clause-fronts : goal.returns-in-Broken-clause-fronts
 returns-in-Broken-clause-fronts g c = λ admitted refused. (
-  step_breaks c.args.asset.now (apdus c.args.asset.now.protocol c.requires.iec104) _ _ c.after.ensures.bytes c.args.side c.in-Broken.reason c.in-Broken.ensures.true_answer,
+  step_breaks c.args.site.now (apdus c.args.site.now.first.protocol c.requires.iec104) _ _ c.after.ensures.bytes c.args.side c.in-Broken.reason c.in-Broken.ensures.true_answer,
   refl,
 )
+
+pub take_apdu-requires-clause-rules : goal.take_apdu-requires-clause-rules
+take_apdu-requires-clause-rules g c =
+    subst (λ (a : Asset). IsRulesOf a c.args.client.now.address c.rules_at.result.now) (sym c.asset.ensures) (c.requires.rules.each c.place_for_apdu-place.result c.rules_at.result.now c.rules_at.ensures)
+
+pub take_apdu-requires-clause-within : goal.take_apdu-requires-clause-within
+take_apdu-requires-clause-within g c =
+    subst IsAssetWithin (sym c.asset.ensures) (within_at c.args.site.now c.requires.within c.place_for_apdu-place.result)
 
 pub returns-in_ok-fate-in-Unit-clause-fronts : goal.returns-in_ok-fate-in-Unit-clause-fronts
 returns-in_ok-fate-in-Unit-clause-fronts g c =
     let value = g.D.Desk.value in
-    apdu_front c.args.asset.now c.requires.iec104 c.args.client.now c.args.rules.now c.requires.rules c.args.moment c.args.side c.args.bytes.now.bytes (apdu_value c.in-Unit.unit) c.in-Unit.used
+    let site = c.args.site.now in
+    let place = c.place_for_apdu-place.result in
+    let own = c.rules_at.result.now in
+    apdu_front site c.requires.iec104 c.args.client.now c.args.rules.now place own c.rules_at.ensures (c.requires.rules.each place own c.rules_at.ensures) c.args.moment c.args.side c.args.bytes.now.bytes
+    (apdu_value c.in-Unit.unit) c.place_for_apdu-place.ensures.place c.in-Unit.used
     (begins_same c.after.ensures.bytes c.in-Unit.ensures.true_answer) c.args.numbers.now (outlets c.args.to_client.now c.args.to_controller.now (DeskValue.lines (value c.args.desk.now)))
     c.in_ok-fate-in-Unit.fate c.take_apdu.new.numbers (outlets c.take_apdu.new.to_client c.take_apdu.new.to_controller (DeskValue.lines (value c.take_apdu.new.desk)))
-    c.in_ok-fate-in-Unit.ensures.takes
+    (subst (λ (a : Asset). TakesApdu a (says_by a c.args.client.now.address own c.args.moment) c.args.client.now c.args.moment c.args.side (apdu_value c.in-Unit.unit) c.in_ok-fate-in-Unit.fate
+    (numbered c.args.numbers.now c.args.to_client.now c.args.to_controller.now (DeskValue.lines (value c.args.desk.now)))
+    (numbered c.take_apdu.new.numbers c.take_apdu.new.to_client c.take_apdu.new.to_controller (DeskValue.lines (value c.take_apdu.new.desk)))) c.asset.ensures c.in_ok-fate-in-Unit.ensures.takes)
 
 pub returns-in_err-fate-in-Unit-clause-misses : goal.returns-in_err-fate-in-Unit-clause-misses
 returns-in_err-fate-in-Unit-clause-misses g c =
     let value = g.D.Desk.value in
-    on_err _ _ (apdu_misses c.args.asset.now c.requires.iec104 c.args.client.now c.args.rules.now c.requires.rules c.args.moment c.args.side c.args.bytes.now.bytes (apdu_value c.in-Unit.unit) c.in-Unit.used
+    let site = c.args.site.now in
+    let place = c.place_for_apdu-place.result in
+    let own = c.rules_at.result.now in
+    on_err _ _ (apdu_misses site c.requires.iec104 c.args.client.now c.args.rules.now place own c.rules_at.ensures (c.requires.rules.each place own c.rules_at.ensures) c.args.moment c.args.side
+    c.args.bytes.now.bytes (apdu_value c.in-Unit.unit) c.place_for_apdu-place.ensures.place c.in-Unit.used
     (begins_same c.after.ensures.bytes c.in-Unit.ensures.true_answer) c.args.numbers.now (outlets c.args.to_client.now c.args.to_controller.now (DeskValue.lines (value c.args.desk.now)))
-    (DeskValue.lines (value c.take_apdu.new.desk)) (DeskValue.line_part (value c.take_apdu.new.desk)) c.in_err-fate-in-Unit.ensures.misses)
+    (DeskValue.lines (value c.take_apdu.new.desk)) (DeskValue.line_part (value c.take_apdu.new.desk))
+    (subst (λ (a : Asset). MissesApdu a (says_by a c.args.client.now.address own c.args.moment) c.args.client.now c.args.moment c.args.side (apdu_value c.in-Unit.unit)
+    (numbered c.args.numbers.now c.args.to_client.now c.args.to_controller.now (DeskValue.lines (value c.args.desk.now)))
+    (DeskValue.lines (value c.take_apdu.new.desk)) (DeskValue.line_part (value c.take_apdu.new.desk))) c.asset.ensures c.in_err-fate-in-Unit.ensures.misses))
+
+pub returns-in_ok-fate-in-Unit-clause-few : goal.returns-in_ok-fate-in-Unit-clause-few
+returns-in_ok-fate-in-Unit-clause-few g c =
+    few_at c.args.site.now c.args.client.now.address c.place_for_apdu-place.result c.args.rules.now c.requires.rules (omega (arith, c.place_for_apdu-place.ensures.inside, c.requires.rules.one_each))
+
+pub rules_at-requires : goal.rules_at-requires
+rules_at-requires g c = omega (arith, c.place_for_apdu-place.ensures.inside, c.requires.rules.one_each)
 
 pub returns-in_ok-fate-in-Unit-clause-client_grows : goal.returns-in_ok-fate-in-Unit-clause-client_grows
 returns-in_ok-fate-in-Unit-clause-client_grows g c =

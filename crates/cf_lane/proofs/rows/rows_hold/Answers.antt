@@ -30,4 +30,10 @@ returns c = record {
   broken_behind_a_write_cut = refl;
   broken_behind_a_write_controller = refl;
   broken_behind_a_write_log = refl;
+  interleaved_controller = refl;
+  interleaved_client = refl;
+  interleaved_log = refl;
+  by_stations_controller = refl;
+  by_stations_client = refl;
+  by_stations_log = refl;
 }

@@ -1,7 +1,8 @@
-use Rattle.std.proofs.Common.{ℕ, map}
+use Rattle.std.proofs.Common.{ℕ, map, subst}
 use Rattle.std.proofs.lemmas.Result.{IfOk-weaker}
+use Rattle.cf_policy.specs.declared.Asset.{Asset}
 use Rattle.cf_watch.specs.FlowValue.{stretch_value}
-use Rattle.cf_review.specs.FirstUnit.{from_place}
+use Rattle.cf_review.specs.FirstUnit.{IsReadPart, from_place}
 use Rattle.cf_review.specs.Remark.{remark_value}
 use Rattle.cf_review.specs.Review.{AddsStretch, AddsUnits}
 use Rattle.cf_review.proofs.Behind.{adds_stretch}
@@ -14,7 +15,7 @@ returns c =
     let start = map remark_value c.args.remarks.now.items in
     let first = map remark_value c.add_gap.new.remarks.items in
     let now = map remark_value c.review_units.new.remarks.items in
-    IfOk-weaker c.review_units.result (λ (admitted : ℕ). AddsUnits c.args.asset.now (from_place place s.flow) first now admitted)
-    (λ (admitted : ℕ). AddsStretch c.args.asset.now s start now admitted)
-    (λ admitted units. adds_stretch c.args.asset.now s place start first now admitted c.first_place-start.ensures.part c.in_ok-add_gap.ensures units)
+    IfOk-weaker c.review_units.result (λ (admitted : ℕ). AddsUnits c.args.site.now (from_place place s.flow) first now admitted)
+    (λ (admitted : ℕ). AddsStretch c.args.site.now s start now admitted)
+    (λ admitted units. adds_stretch c.args.site.now s place start first now admitted (subst (λ (own : Asset). IsReadPart own.protocol s.flow (from_place place s.flow)) c.first.ensures c.first_place-start.ensures.part) c.in_ok-add_gap.ensures units)
     c.review_units.ensures

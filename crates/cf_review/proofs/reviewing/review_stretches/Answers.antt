@@ -1,7 +1,7 @@
-use Rattle.std.proofs.Common.{◌≡◌, ◌+◌, ◌<◌, ◌++◌, ◌∷◌, [], ◌∙◌, sym, ap, subst, refl, arith, take, map, length, Some, min, ◌^◌, ◌-◌, slice_get, get_or}
+use Rattle.std.proofs.Common.{◌≡◌, ◌+◌, ◌<◌, ◌≤◌, ◌++◌, ◌∷◌, [], ◌∙◌, sym, ap, subst, arith, take, map, length, Some, min, ◌^◌, ◌-◌}
 use Rattle.std.proofs.lemmas.List.{map_more, take_all}
-use Rattle.std.proofs.lemmas.Option.{slice_get_read}
-use Rattle.cf_policy.specs.Within.{IsAssetWithin}
+use Rattle.cf_policy.specs.Site.{site_from}
+use Rattle.cf_policy.specs.Within.{AreAssetsWithin, most_assets}
 use Rattle.cf_watch.specs.FlowValue.{stretch_value}
 use Rattle.cf_review.specs.Remark.{remark_value}
 use Rattle.cf_review.specs.Review.{AddsStretches}
@@ -11,17 +11,18 @@ use Rattle.cf_review.proofs.reviewing.review_stretches.Goals as goal
 pub loop-stretch-init : goal.loop-stretch-init
 loop-stretch-init c = stretches_first c.args.policy.now.assets c.args.before _
 
-pub bounds-assets-stretch : goal.bounds-assets-stretch
-bounds-assets-stretch c =
+pub site_at_place-site-requires : goal.site_at_place-site-requires
+site_at_place-site-requires c =
     let here = for_stretch c.args.policy.now.assets c.args.stretches.now c.requires.stretches c.loop-stretch.stretch-index c.stretch-item.result c.loop-stretch-test.true c.stretch-item.is in
     omega (arith, here.asset, ap length c.as_slice-assets.ensures)
 
 pub review_stretch-requires-clause-within : goal.review_stretch-requires-clause-within
-review_stretch-requires-clause-within c =
-    let asset = c.index-assets-stretch.result in
-    let here = for_stretch c.args.policy.now.assets c.args.stretches.now c.requires.stretches c.loop-stretch.stretch-index c.stretch-item.result c.loop-stretch-test.true c.stretch-item.is in
-    subst IsAssetWithin (sym (c.index-assets-stretch.is ∙ ap (λ xs. get_or xs c.stretch-item.result.flow.asset asset) c.as_slice-assets.ensures))
-    (c.requires.within.each c.stretch-item.result.flow.asset asset (omega (arith, here.asset)))
+review_stretch-requires-clause-within c = c.site_at_place-site.ensures.within (subst AreAssetsWithin (sym c.as_slice-assets.ensures) c.requires.within)
+
+pub review_stretch-requires-clause-places : goal.review_stretch-requires-clause-places
+review_stretch-requires-clause-places c =
+    let few : length c.args.policy.now.assets ≤ most_assets = c.requires.within.count in
+    omega (arith, c.site_at_place-site.ensures.inside, ap length c.as_slice-assets.ensures, few)
 
 pub review_stretch-requires-clause-born : goal.review_stretch-requires-clause-born
 review_stretch-requires-clause-born c = (for_stretch c.args.policy.now.assets c.args.stretches.now c.requires.stretches c.loop-stretch.stretch-index c.stretch-item.result c.loop-stretch-test.true c.stretch-item.is).born
@@ -38,14 +39,10 @@ loop-stretch-preserved c =
     let inside : i < length stretches = c.loop-stretch-test.true in
     let values : map stretch_value (take i stretches) ++ stretch_value s ∷ [] ≡ map stretch_value (take (i + 1) stretches) =
     ap (λ g. map stretch_value (take i stretches) ++ stretch_value g ∷ []) c.stretch-item.is ∙ sym (map_more stretch_value stretches i s inside) in
-    let at : slice_get assets s.flow.asset ≡ Some c.index-assets-stretch.result =
-    let here = for_stretch assets stretches c.requires.stretches i s inside c.stretch-item.is in
-    let lent = c.as_slice-assets.result.now in
-    let same : lent ≡ assets = c.as_slice-assets.ensures in
-    let below : s.flow.asset < length lent = omega (arith, here.asset, ap length same) in
-    subst (λ xs. slice_get xs s.flow.asset ≡ Some c.index-assets-stretch.result) same (slice_get_read lent (length lent) s.flow.asset c.index-assets-stretch.result refl below c.index-assets-stretch.is) in
+    let site = c.site_at_place-site.result in
+    let at : site_from assets s.flow.asset ≡ Some site = subst (λ xs. site_from xs s.flow.asset ≡ Some site) c.as_slice-assets.ensures c.site_at_place-site.ensures.site in
     let next = stretches_on assets (map stretch_value (take i stretches)) before c.loop-stretch.admitted c.in_ok-more.more start (map remark_value c.loop-stretch.remarks.items) new (stretch_value s)
-    c.index-assets-stretch.result c.loop-stretch.invariant at c.in_ok-more.ensures in
+    site c.loop-stretch.invariant at c.in_ok-more.ensures in
     let counted : min (c.loop-stretch.admitted + c.in_ok-more.more) (2 ^ 64 - 1) ≡ c.saturating_add-admitted.result = sym c.saturating_add-admitted.ensures in
     subst (λ ss. AddsStretches assets ss before start new c.saturating_add-admitted.result) values
     (subst (λ n. AddsStretches assets (map stretch_value (take i stretches) ++ stretch_value s ∷ []) before start new n) counted next)

@@ -21,19 +21,19 @@ module _ (c : In-Took) where
   cut : length read.bytes ≡ length c.args.flow.now.bytes.items - c.args.start
   cut = length-drop c.args.start c.args.flow.now.bytes.items
 
-  unit : TakesUnit c.args.asset.now read.client.address c.units.invariant.units (drop c.units.at read.bytes) c.in-Took.ruling c.in-Took.used c.next.new.self
+  unit : TakesUnit c.args.site.now read.client.address c.units.invariant.units (drop c.units.at read.bytes) c.in-Took.ruling c.in-Took.place c.in-Took.used c.next.new.self
   unit = took _ _ _ _ _ _ _ c.units.invariant c.octets_of.result.bytes
-      (c.octets_of.ensures ∙ ap (λ xs. slice_range xs c.units.at (length xs)) c.bytes_from-bytes.ensures) _ _ _ c.in-Took.ensures.front
+      (c.octets_of.ensures ∙ ap (λ xs. slice_range xs c.units.at (length xs)) c.bytes_from-bytes.ensures) _ _ _ _ c.in-Took.ensures.front
 
   inside : (c.units.at + c.in-Took.used ≤ length read.bytes) × (0 < c.in-Took.used)
-  inside = took_inside _ _ _ _ _ _ _ c.units.invariant _ _ _ unit
+  inside = took_inside _ _ _ _ _ _ _ c.units.invariant _ _ _ _ unit
 
 -- the bytes broke
 module _ (c : In-Broken) where
   abbrev rest : FlowValue
   rest = from_place c.args.start (flow_value c.args.flow.now)
 
-  breaks : BreaksAt (SpellsUnit c.args.asset.now.protocol) (drop c.units.at rest.bytes) c.in-Broken.place × (c.in-Broken.reason ≡ unit_break c.args.asset.now.protocol c.in-Broken.place)
+  breaks : BreaksAt (SpellsUnit c.args.site.now.first.protocol) (drop c.units.at rest.bytes) c.in-Broken.place × (c.in-Broken.reason ≡ unit_break c.args.site.now.first.protocol c.in-Broken.place)
   breaks = broke _ _ _ _ _ _ _ c.units.invariant c.octets_of.result.bytes
       (c.octets_of.ensures ∙ ap (λ xs. slice_range xs c.units.at (length xs)) c.bytes_from-bytes.ensures) _ _ c.in-Broken.ensures.front
 
@@ -47,10 +47,10 @@ pub returns-then-is_empty : goal.returns-then-is_empty
 returns-then-is_empty c =
     let read = from_place c.args.start (flow_value c.args.flow.now) in
     let e : length c.bytes_from-bytes.result.now ≡ 0 = grind (arith, nat_tests, c.if-is_empty.ensures) in
-    found_nothing c.args.asset.now read _ _ (sym c.bytes_from-bytes.ensures ∙ nil_from_length c.bytes_from-bytes.result.now e) refl
+    found_nothing c.args.site.now read _ _ (sym c.bytes_from-bytes.ensures ∙ nil_from_length c.bytes_from-bytes.result.now e) refl
 
 pub units-init : goal.units-init
-units-init c = so_far_first c.args.asset.now (from_place c.args.start (flow_value c.args.flow.now)) _ _ _ c.in_ok-reader.ensures.reader refl
+units-init c = so_far_first c.args.site.now (from_place c.args.start (flow_value c.args.flow.now)) _ _ _ c.in_ok-reader.ensures.reader refl
 
 pub returns-in-Rest : goal.returns-in-Rest
 returns-in-Rest c =
@@ -104,8 +104,17 @@ record_at-number-requires-in-Took c =
     let at = (goal.at.record_at-number-requires-in-Took c).In-Took in
     record { place = omega (arith, (inside at).0, (inside at).1, cut at, c.requires.inside, c.requires.born) }
 
-pub add_unit-requires : goal.add_unit-requires
-add_unit-requires c = record { whole = (unit (goal.at.add_unit-requires c).In-Took).whole }
+pub next-requires : goal.next-requires
+next-requires c = record { for_site = c.units.invariant.reader.one_each }
+
+pub add_unit-requires-clause-places : goal.add_unit-requires-clause-places
+add_unit-requires-clause-places c =
+    let at = (goal.at.add_unit-requires-clause-places c).In-Took in
+    let inside = (unit at).inside in
+    omega (arith, inside, c.requires.places)
+
+pub add_unit-requires-clause-whole : goal.add_unit-requires-clause-whole
+add_unit-requires-clause-whole c = (unit (goal.at.add_unit-requires-clause-whole c).In-Took).whole
 
 pub units-smaller : goal.units-smaller
 units-smaller c =
@@ -116,7 +125,7 @@ pub units-preserved : goal.units-preserved
 units-preserved c =
     let at = (goal.at.units-preserved c).In-Took in
     let place : c.args.start + (c.units.at + c.in-Took.used - 1) ≡ c.args.start + (c.units.at + c.in-Took.used) - 1 = omega (arith, (inside at).1) in
-    so_far_on _ _ _ _ _ _ _ c.units.invariant c.in-Took.ruling c.in-Took.used c.next.new.self c.record_at-number-in-Took.result c.allowed_by-admitted.result c.octets_of-unit.result.bytes _
+    so_far_on _ _ _ _ _ _ _ c.units.invariant c.in-Took.ruling c.in-Took.place c.in-Took.used c.next.new.self c.record_at-number-in-Took.result c.allowed_by-admitted.result c.octets_of-unit.result.bytes _
     (same_sizes c.args.flow.now.bytes.items c.args.flow.now.born c.args.start c.requires.born) (unit at)
     (number_from c.args.flow.now.born c.args.start (c.units.at + c.in-Took.used - 1) _ c.record_at-number-in-Took.result place c.record_at-number-in-Took.ensures)
     c.allowed_by-admitted.ensures.few c.allowed_by-admitted.ensures.count

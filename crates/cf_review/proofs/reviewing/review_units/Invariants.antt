@@ -6,7 +6,7 @@ use Rattle.cf_watch.specs.FlowValue.{flow_value}
 use Rattle.cf_review.proofs.reviewing.review_units.Given as goal
 
 abbrev pub invariant-units : goal.invariant-units
-invariant-units l = SoFar l.asset (from_place l.start (flow_value l.flow)) (map remark_value l.fn.remarks.items) l.at l.reader l.admitted (map remark_value l.remarks.items)
+invariant-units l = SoFar l.site (from_place l.start (flow_value l.flow)) (map remark_value l.fn.remarks.items) l.at l.reader l.admitted (map remark_value l.remarks.items)
 
 abbrev pub decreases-units : goal.decreases-units
 decreases-units l = length l.bytes - l.at

@@ -1,32 +1,33 @@
 use Rattle.std.proofs.Common.{◌≡◌, ◌∷◌, sym, ap, ◌∙◌, subst, Some}
-use Rattle.std.specs.Prelude.{slice_get, slice_set}
-use Rattle.std.proofs.lemmas.Option.{slice_get_within, get_or_from_slice_get}
+use Rattle.std.specs.Prelude.{slice_set}
+use Rattle.std.proofs.lemmas.Option.{get_or_from_slice_get}
 use Rattle.std.proofs.lemmas.List.{get_or-set_same}
-use Rattle.cf_policy.specs.declared.Asset.{Asset}
+use Rattle.cf_policy.specs.Site.{SiteValue, site_from}
 use Rattle.cf_session.specs.Stands.{IsSessionOf, IsSound}
 use Rattle.cf_session.specs.Told.{told}
 use Rattle.cf_run.specs.Engine.{TickAs}
 use Rattle.cf_run.specs.Entries.{cuts_by, stays_by}
 use Rattle.cf_run.specs.declared.entry.Entry.{Entry}
-use Rattle.cf_run.proofs.Soundness.{stands_at, sound_set, same_asset, sound_after, lives}
+use Rattle.cf_run.proofs.Soundness.{stands_at, sound_set, sound_after, lives}
+use Rattle.cf_run.proofs.Sites.{same_site, site_inside}
 use Rattle.cf_run.proofs.Timers.{by_life}
 use Rattle.cf_session.proofs.Amid.{on_err}
 use Rattle.cf_run.proofs.first_half.tick_at.Goals as goal
 
-pub asset_of-asset-requires : goal.asset_of-asset-requires
-asset_of-asset-requires g c =
+pub site_at_place-site-requires : goal.site_at_place-site-requires
+site_at_place-site-requires g c =
     let items = c.args.table.now.items in
     let x = c.index_mut-entry.result.now in
     let (at, one) = stands_at c.args.assets.now c.args.limit items c.args.place x c.requires.sound c.requires.inside c.index_mut-entry.ensures.value in
-    slice_get_within c.args.assets.now x.asset one.asset one.at
+    site_inside c.args.assets.now x.asset one.site one.at
 
 pub on_clock-requires-clause-sound : goal.on_clock-requires-clause-sound
 on_clock-requires-clause-sound g c =
     let items = c.args.table.now.items in
     let x = c.index_mut-entry.result.now in
     let (at, one) = stands_at c.args.assets.now c.args.limit items c.args.place x c.requires.sound c.requires.inside c.index_mut-entry.ensures.value in
-    let same : one.asset ≡ c.asset_of-asset.result.now = same_asset c.args.assets.now x.asset one.asset c.asset_of-asset.result.now one.at c.asset_of-asset.ensures in
-    subst (λ (a : Asset). IsSound a x.session) same one.sound
+    let same : one.site ≡ c.site_at_place-site.result = same_site c.args.assets.now x.asset one.site c.site_at_place-site.result one.at c.site_at_place-site.ensures.site in
+    subst (λ (a : SiteValue). IsSound a x.session) same one.sound
 
 pub returns-clause-sound : goal.returns-clause-sound
 returns-clause-sound g c = λ stays.
@@ -34,7 +35,7 @@ returns-clause-sound g c = λ stays.
     let x = c.index_mut-entry.result.now in
     let (at, one) = stands_at c.args.assets.now c.args.limit items c.args.place x c.requires.sound c.requires.inside c.index_mut-entry.ensures.value in
     sound_set c.args.assets.now c.args.limit items c.args.place _ c.requires.sound
-    (sound_after c.args.assets.now c.args.limit x c.asset_of-asset.result.now c.on_clock.new.self one c.asset_of-asset.ensures
+    (sound_after c.args.assets.now c.args.limit x c.site_at_place-site.result c.on_clock.new.self one c.site_at_place-site.ensures.site
     (c.in_ok-life.ensures.sound (lives c.in_ok-life.life stays)) c.in_ok-life.ensures.same.0 c.due-entry.result c.due-entry.ensures)
 
 pub returns-clause-ticks : goal.returns-clause-ticks
@@ -45,9 +46,9 @@ returns-clause-ticks g c = λ before after at_before at_after.
     let was : x ≡ before = c.index_mut-entry.ensures.value ∙ get_or_from_slice_get items c.args.place before x at_before in
     let is : y ≡ after = sym (get_or-set_same items c.args.place y y c.requires.inside) ∙ get_or_from_slice_get (slice_set items c.args.place y) c.args.place after y at_after in (
       ap (λ (e : Entry). e.asset) (sym is) ∙ ap (λ (e : Entry). e.asset) was,
-      λ flow earlier event stands asset.
-          let here : slice_get c.args.assets.now x.asset ≡ Some flow.asset = ap (λ (e : Entry). slice_get c.args.assets.now e.asset) was ∙ asset in
-          let found : flow.asset ≡ c.asset_of-asset.result.now = same_asset c.args.assets.now x.asset flow.asset c.asset_of-asset.result.now here c.asset_of-asset.ensures in
+      λ flow earlier event stands site.
+          let here : site_from c.args.assets.now x.asset ≡ Some flow.site = ap (λ (e : Entry). site_from c.args.assets.now e.asset) was ∙ site in
+          let found : flow.site ≡ c.site_at_place-site.result = same_site c.args.assets.now x.asset flow.site c.site_at_place-site.result here c.site_at_place-site.ensures.site in
           let ticks = c.in_ok-life.ensures.ticks flow earlier event found (subst (λ (e : Entry). IsSessionOf flow earlier event e.session) (sym was) stands) in
           subst (λ (e : Entry). TickAs flow (event ∷ earlier) c.args.moment e.session (told (g.D.Desk.value c.args.desk.now)) (told (g.D.Desk.value c.on_clock.new.desk)) (stays_by c.in_ok-life.life) (cuts_by c.in_ok-life.life)) is
           (by_life flow (event ∷ earlier) c.args.moment c.on_clock.new.self _ _ c.in_ok-life.life ticks),
@@ -55,10 +56,10 @@ returns-clause-ticks g c = λ before after at_before at_after.
 
 pub returns-in_err-life-clause-broken : goal.returns-in_err-life-clause-broken
 returns-in_err-life-clause-broken g c =
-    on_err c.from_residual.result (λ before at_before flow earlier event stands asset.
+    on_err c.from_residual.result (λ before at_before flow earlier event stands site.
     let items = c.args.table.now.items in
     let x = c.index_mut-entry.result.now in
     let was : x ≡ before = c.index_mut-entry.ensures.value ∙ get_or_from_slice_get items c.args.place before x at_before in
-    let here : slice_get c.args.assets.now x.asset ≡ Some flow.asset = ap (λ (e : Entry). slice_get c.args.assets.now e.asset) was ∙ asset in
-    let found : flow.asset ≡ c.asset_of-asset.result.now = same_asset c.args.assets.now x.asset flow.asset c.asset_of-asset.result.now here c.asset_of-asset.ensures in
+    let here : site_from c.args.assets.now x.asset ≡ Some flow.site = ap (λ (e : Entry). site_from c.args.assets.now e.asset) was ∙ site in
+    let found : flow.site ≡ c.site_at_place-site.result = same_site c.args.assets.now x.asset flow.site c.site_at_place-site.result here c.site_at_place-site.ensures.site in
     c.in_err-life.ensures.broken flow earlier event found (subst (λ (e : Entry). IsSessionOf flow earlier event e.session) (sym was) stands))

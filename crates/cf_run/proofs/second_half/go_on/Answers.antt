@@ -3,16 +3,16 @@ use Rattle.std.specs.Prelude.{slice_set}
 use Rattle.std.specs.List.{remove}
 use Rattle.std.specs.Option.{is_some}
 use Rattle.cf_lane.specs.Judged.{one_if}
-use Rattle.std.proofs.lemmas.Option.{slice_get_within}
 use Rattle.std.proofs.lemmas.List.{drop-set-lt, take-set}
-use Rattle.cf_policy.specs.declared.Asset.{Asset}
+use Rattle.cf_policy.specs.Site.{SiteValue}
 use Rattle.cf_packet.specs.Packet.{packet_value}
 use Rattle.cf_session.specs.Told.{told}
 use Rattle.cf_session.specs.Stands.{HearsBy, IsSound}
 use Rattle.cf_run.specs.Engine.{AreDueFrom, AreSound}
 use Rattle.cf_run.specs.declared.entry.Entry.{Entry}
 use Rattle.cf_run.proofs.Due.{due_removed, due_set, due_sooner}
-use Rattle.cf_run.proofs.Soundness.{stands_at, sound_set, sound_removed, same_asset, sound_after, lives}
+use Rattle.cf_run.proofs.Soundness.{stands_at, sound_set, sound_removed, sound_after, lives}
+use Rattle.cf_run.proofs.Sites.{same_site, site_inside}
 use Rattle.cf_run.proofs.Timers.{removed_same}
 use Rattle.cf_run.proofs.Received.{heard_as}
 use Rattle.cf_session.specs.Broken.{BreaksPacket}
@@ -23,20 +23,20 @@ removed_set : (items : List Entry) (place : ℕ) (y : Entry) → remove (slice_s
 removed_set items place y =
     removed_same (slice_set items place y) items place (take-set items place y) (drop-set-lt (place + 1) items place y (omega arith))
 
-pub asset_of-asset-requires : goal.asset_of-asset-requires
-asset_of-asset-requires g c =
+pub site_at_place-site-requires : goal.site_at_place-site-requires
+site_at_place-site-requires g c =
     let items = c.args.table.now.sessions.items in
     let x = c.index_mut-entry.result.now in
     let (at, one) = stands_at c.args.assets.now c.args.limit items c.args.place x c.requires.sound c.requires.inside c.index_mut-entry.ensures.value in
-    slice_get_within c.args.assets.now x.asset one.asset one.at
+    site_inside c.args.assets.now x.asset one.site one.at
 
 pub on_packet-requires-clause-sound : goal.on_packet-requires-clause-sound
 on_packet-requires-clause-sound g c =
     let items = c.args.table.now.sessions.items in
     let x = c.index_mut-entry.result.now in
     let (at, one) = stands_at c.args.assets.now c.args.limit items c.args.place x c.requires.sound c.requires.inside c.index_mut-entry.ensures.value in
-    let same : one.asset ≡ c.asset_of-asset.result.now = same_asset c.args.assets.now x.asset one.asset c.asset_of-asset.result.now one.at c.asset_of-asset.ensures in
-    subst (λ (a : Asset). IsSound a x.session) same one.sound
+    let same : one.site ≡ c.site_at_place-site.result = same_site c.args.assets.now x.asset one.site c.site_at_place-site.result one.at c.site_at_place-site.ensures.site in
+    subst (λ (a : SiteValue). IsSound a x.session) same one.sound
 
 pub returns-else-not-stays-clause-sound : goal.returns-else-not-stays-clause-sound
 returns-else-not-stays-clause-sound g c =
@@ -44,7 +44,7 @@ returns-else-not-stays-clause-sound g c =
     let x = c.index_mut-entry.result.now in
     let (at, one) = stands_at c.args.assets.now c.args.limit items c.args.place x c.requires.sound c.requires.inside c.index_mut-entry.ensures.value in
     sound_set c.args.assets.now c.args.limit items c.args.place _ c.requires.sound
-    (sound_after c.args.assets.now c.args.limit x c.asset_of-asset.result.now c.on_packet.new.self one c.asset_of-asset.ensures
+    (sound_after c.args.assets.now c.args.limit x c.site_at_place-site.result c.on_packet.new.self one c.site_at_place-site.ensures.site
     (c.in-Ok.ensures.sound (lives c.in-Ok.life (sym c.stays.ensures ∙ c.if-not-stays.false))) c.in-Ok.ensures.same.0 c.due-due.result c.due-due.ensures)
 
 pub returns-then-not-stays-clause-sound : goal.returns-then-not-stays-clause-sound
@@ -72,7 +72,7 @@ returns-else-not-stays-clause-goes g c = λ table ticked all.
     let x = c.index_mut-entry.result.now in
     let (at, one) = stands_at c.args.assets.now c.args.limit items c.args.place x c.requires.sound c.requires.inside c.index_mut-entry.ensures.value in
     heard_as c.args.assets.now c.args.limit c.args.moment c.args.place c.args.side (packet_value c.args.packet.now) items table
-    (told (g.D.Desk.value c.args.desk.now)) (told (g.D.Desk.value c.on_packet.new.desk)) x c.on_packet.new.self c.due-due.result c.asset_of-asset.result.now at c.asset_of-asset.ensures
+    (told (g.D.Desk.value c.args.desk.now)) (told (g.D.Desk.value c.on_packet.new.desk)) x c.on_packet.new.self c.due-due.result c.site_at_place-site.result at c.site_at_place-site.ensures.site
     all ticked c.requires.moment.0 c.admitted-admitted.result c.refused-refused.result c.admitted-admitted.ensures.counts c.refused-refused.ensures.counts
     (λ flow earlier event s. sym c.admitted.ensures.value ∙ c.admitted.ensures.counts flow earlier event s) (λ flow earlier event s. sym c.refused.ensures.value ∙ c.refused.ensures.counts flow earlier event s)
     c.is_closed-was_closed.result (λ flow earlier event s. c.is_closed-was_closed.ensures ∙ ap is_some s.closed) c.misfit-misfit.result c.misfit-misfit.ensures.value
@@ -91,7 +91,7 @@ returns-then-not-stays-clause-goes g c = λ table ticked all.
     let (at, one) = stands_at c.args.assets.now c.args.limit items c.args.place x c.requires.sound c.requires.inside c.index_mut-entry.ensures.value in
     rw (c.remove.ensures.items, removed_set items c.args.place y)
     (heard_as c.args.assets.now c.args.limit c.args.moment c.args.place c.args.side (packet_value c.args.packet.now) items table
-    (told (g.D.Desk.value c.args.desk.now)) (told (g.D.Desk.value c.on_packet.new.desk)) x c.on_packet.new.self c.due-due.result c.asset_of-asset.result.now at c.asset_of-asset.ensures
+    (told (g.D.Desk.value c.args.desk.now)) (told (g.D.Desk.value c.on_packet.new.desk)) x c.on_packet.new.self c.due-due.result c.site_at_place-site.result at c.site_at_place-site.ensures.site
     all ticked c.requires.moment.0 c.admitted-admitted.result c.refused-refused.result c.admitted-admitted.ensures.counts c.refused-refused.ensures.counts
     (λ flow earlier event s. sym c.admitted.ensures.value ∙ c.admitted.ensures.counts flow earlier event s) (λ flow earlier event s. sym c.refused.ensures.value ∙ c.refused.ensures.counts flow earlier event s)
     c.is_closed-was_closed.result (λ flow earlier event s. c.is_closed-was_closed.ensures ∙ ap is_some s.closed) c.misfit-misfit.result c.misfit-misfit.ensures.value
@@ -110,6 +110,6 @@ returns-in-Err-clause-broken g c = λ e.
     let d1 = g.D.Desk.value c.on_packet.new.desk in
     let p = packet_value c.args.packet.now in
     let (at, one) = stands_at c.args.assets.now c.args.limit items c.args.place x c.requires.sound c.requires.inside c.index_mut-entry.ensures.value in
-    going_breaks c.args.assets.now c.args.limit c.args.moment c.args.place c.args.side p items d0 d1 x c.asset_of-asset.result.now at c.asset_of-asset.ensures c.requires.moment.0
+    going_breaks c.args.assets.now c.args.limit c.args.moment c.args.place c.args.side p items d0 d1 x c.site_at_place-site.result at c.site_at_place-site.ensures.site c.requires.moment.0
     (λ flow earlier half served stands tick now.
     subst (λ n. BreaksPacket flow n earlier half c.args.side p d0 d1) one.limit_is (c.in-Err.ensures.broken flow earlier half served stands tick now))

@@ -12,9 +12,9 @@ returns-then-has_rates-clause-own c =
       λ rated. (
         r.result,
         (
-          r.ensures.of_asset c.args.asset.now (subst (λ (v : RelayingValue). IsLaneOf c.args.asset.now v.lane) (sym same) c.requires.lane),
+          r.ensures.of_site c.args.site.now (subst (λ (v : RelayingValue). IsLaneOf c.args.site.now v.lane) (sym same) c.requires.lane),
           (
-            λ before js know. r.ensures.know before js (subst (λ (v : RelayingValue). KnowsRules before v.lane.rules js) (sym same) know),
+            λ before js know. r.ensures.know c.args.site.now before js (subst (λ (v : RelayingValue). KnowsRules c.args.site.now before v.lane.rules js) (sym same) know),
             c.give_back.ensures.own,
           ),
         ),

@@ -12,7 +12,7 @@ use Rattle.cf_serve.proofs.session.lose.Goals as goal
 pub returns-clause-does : goal.returns-clause-does
 returns-clause-does g c = λ left client told. record {
   answers = [];
-  lines = line_about c.args.terms.now.asset.now c.args.met 0 (Lost 0 0) ∷ [];
+  lines = line_about c.args.terms.now.site.now.first c.args.met 0 (Lost 0 0) ∷ [];
   tells = told_same told;
   added = c.in_ok-log_line.ensures.lines;
   leaves = (lost_first (listening_of c.args.terms.now) c.args.terms.now.most client c.requires.most c.args.met, refl);
@@ -20,7 +20,7 @@ returns-clause-does g c = λ left client told. record {
 
 pub returns-in_err-log_line-clause-breaks : goal.returns-in_err-log_line-clause-breaks
 returns-in_err-log_line-clause-breaks g c = on_err c.from_residual.result _ (λ client told.
-    end_missed (listening_of c.args.terms.now) c.args.terms.now.most client (met_at c.args.terms.now.port c.args.terms.now.asset.now.endpoint c.args.met ∷ [])
+    end_missed (listening_of c.args.terms.now) c.args.terms.now.most client (met_at c.args.terms.now.port c.args.terms.now.site.now.first.endpoint c.args.met ∷ [])
     told told (g.D.Desk.value c.args.desk.now).lines (g.D.Desk.value c.log_line.new.desk).lines (g.D.Desk.value c.log_line.new.desk).line_part [] (told_same told) refl
-    (line_about c.args.terms.now.asset.now c.args.met 0 (Lost 0 0)) c.in_err-log_line.ensures.fails
+    (line_about c.args.terms.now.site.now.first c.args.met 0 (Lost 0 0)) c.in_err-log_line.ensures.fails
     end.Lost (lost_first (listening_of c.args.terms.now) c.args.terms.now.most client c.requires.most c.args.met))

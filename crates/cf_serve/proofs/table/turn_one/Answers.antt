@@ -23,12 +23,12 @@ returns-then-not-is_ready-clause-does g c = λ before found es own begins stands
 pub returns-in-None-clause-does : goal.returns-in-None-clause-does
 returns-in-None-clause-does g c = λ before found es own begins stands.
     rw c.if-again.false (stays_on _ before found _ _ es own _ _ (phase_of c.args.served.now).seat _ _ _ _ _ c.if-not-is_ready.ensures.entry stands (sym c.must_rest.ensures ∙ c.if-must_rest.false)
-    _ begins c.args.terms.now.asset.now c.args.terms.now.place c.args.keeping.now _ _ c.in_ok-turn.ensures.keeps.begins (ap phase_of c.turn.ensures.same) c.in-None.is c.in_ok-turn.ensures.owes c.in_ok-turn.ensures.does)
+    _ begins c.args.terms.now.site.now c.args.terms.now.place c.args.keeping.now _ _ c.in_ok-turn.ensures.keeps.begins (ap phase_of c.turn.ensures.same) c.in-None.is c.in_ok-turn.ensures.owes c.in_ok-turn.ensures.does)
 
 pub returns-in-Some-clause-does : goal.returns-in-Some-clause-does
 returns-in-Some-clause-does g c = λ before found es own begins stands.
     rw c.if-again.false (leaves_now _ before found _ _ es own _ _ (phase_of c.args.served.now).seat _ _ _ _ _ c.if-not-is_ready.ensures.entry stands (sym c.must_rest.ensures ∙ c.if-must_rest.false)
-    _ begins c.args.terms.now.asset.now c.args.terms.now.place c.args.keeping.now _ _ _ _ c.in_ok-turn.ensures.keeps.begins (ap phase_of c.turn.ensures.same) c.in-Some.is c.leave-in-Some.ensures.entry c.in_ok-turn.ensures.again c.in_ok-turn.ensures.does)
+    _ begins c.args.terms.now.site.now c.args.terms.now.place c.args.keeping.now _ _ _ _ c.in_ok-turn.ensures.keeps.begins (ap phase_of c.turn.ensures.same) c.in-Some.is c.leave-in-Some.ensures.entry c.in_ok-turn.ensures.again c.in_ok-turn.ensures.does)
 
 pub returns-in_err-turn-clause-breaks : goal.returns-in_err-turn-clause-breaks
 returns-in_err-turn-clause-breaks g c = on_err c.from_residual-in_err-turn.result _ (λ before es own stands.

@@ -19,7 +19,7 @@ loop-number-preserved g c =
     record {
       served = c.listen.ensures.place.serves ∙ i.served;
       round = c.in-Told.ensures.place.round.still (λ is. cc) ∙ i.round;
-      does = opens_more _ _ _ _ _ _ _ _ c.in-Told.moment c.place_of-place.result c.place_of-place.ensures.is i.does c.in-Told.ensures.entry c.in-Ok.ensures.lines;
+      does = opens_more _ _ _ _ _ _ _ _ c.in-Told.moment c.place_of-place.result.now c.place_of-place.ensures.is i.does c.in-Told.ensures.entry c.in-Ok.ensures.lines;
       whole = c.in-Ok.ensures.whole;
       log = writes_both _ _ _ i.log c.log_line.ensures.log;
       later = omega (arith, i.later, c.log_line.ensures.cause.later);
@@ -27,4 +27,4 @@ loop-number-preserved g c =
 
 pub returns-in-Err-clause-breaks : goal.returns-in-Err-clause-breaks
 returns-in-Err-clause-breaks g c = λ is most.
-    opens_missed _ most _ _ _ _ _ _ _ _ c.in-Told.moment c.place_of-place.result c.place_of-place.ensures.is c.loop-number.invariant.does c.in-Told.ensures.entry c.in-Err.ensures.fails
+    opens_missed _ most _ _ _ _ _ _ _ _ c.in-Told.moment c.place_of-place.result.now c.place_of-place.ensures.is c.loop-number.invariant.does c.in-Told.ensures.entry c.in-Err.ensures.fails

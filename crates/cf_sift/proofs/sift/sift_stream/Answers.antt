@@ -20,11 +20,11 @@ module _ (g : Over) (c : In_ok-create_outputs g) where
   abbrev mid : List ℕ → Content
   mid = g.F.Files.content c.create_outputs.new.files
 
-  start : IsSiftingOf c.args.asset.now (stored_client c.args.client) names (created before) mid [] None c.in_ok-sifting.sifting
+  start : IsSiftingOf c.args.site.now (stored_client c.args.client) names (created before) mid [] None c.in_ok-sifting.sifting
   start =
       let n = c.in_ok-sifting.ensures in
       let o = c.in_ok-create_outputs.ensures in
-      starts_sifting c.args.asset.now c.args.client names before mid o.done o.writes.others c.requires.apart c.in_ok-sifting.sifting n.follows n.client n.letters n.ready.controller.goes
+      starts_sifting c.args.site.now c.args.client names before mid o.done o.writes.others c.requires.apart c.in_ok-sifting.sifting n.follows n.client n.letters n.ready.controller.goes
 
 pub returns-in_err-create_outputs-clause-ends : goal.returns-in_err-create_outputs-clause-ends
 returns-in_err-create_outputs-clause-ends g c =
@@ -37,7 +37,7 @@ returns-in_err-cut-clause-ends g c =
     let at = (goal.at.returns-in_err-cut-clause-ends g c).In_ok-create_outputs in
     let o = c.in_ok-create_outputs.ensures in
     let t = c.take_stream.ensures in
-    fault_ends c.args.asset.now c.args.client (names g at) (before g at) (mid g at) o.done o.writes.others c.requires.apart
+    fault_ends c.args.site.now c.args.client (names g at) (before g at) (mid g at) o.done o.writes.others c.requires.apart
     (g.F.Files.content c.take_stream.new.files) c.take_stream.result c.in_err-cut.field-0.0 c.from_residual-in_err-cut.result
     c.in_err-cut.ensures.others c.in_err-cut.was c.from_residual-in_err-cut.ensures.1
     (λ r. t.read r (stored_client c.args.client) _ (start g at)) (λ w. t.write w (stored_client c.args.client) _ (start g at)) t.memory
@@ -49,7 +49,7 @@ returns-in_err-log_cut-clause-ends g c =
     let t = c.in_ok-cut.ensures in
     let new = g.F.Files.content c.log_cut.new.files in
     let is = err_from_is_err_and c.from_residual-in_err-log_cut.result c.from_residual-in_err-log_cut.ensures.1 in
-    rw (is.1, is.2) (inr (some_fails c.args.asset.now c.args.client (names g at) (before g at) (mid g at) o.done o.writes.others c.requires.apart
+    rw (is.1, is.2) (inr (some_fails c.args.site.now c.args.client (names g at) (before g at) (mid g at) o.done o.writes.others c.requires.apart
     (g.F.Files.content c.take_stream.new.files) c.in_ok-cut.cut c.take_stream.new.sifting (t.taken (stored_client c.args.client) _ (start g at)) t.others
     new c.in_err-log_cut.ensures.some c.log_cut.ensures.writes.others c.in_err-log_cut.ensures.fails))
 
@@ -59,6 +59,6 @@ returns-clause-ends g c =
     let o = c.in_ok-create_outputs.ensures in
     let t = c.in_ok-cut.ensures in
     let l = c.in_ok-log_cut.ensures in
-    sifted c.args.asset.now c.args.client (names g at) (before g at) (mid g at) o.done o.writes.others c.requires.apart
+    sifted c.args.site.now c.args.client (names g at) (before g at) (mid g at) o.done o.writes.others c.requires.apart
     (g.F.Files.content c.take_stream.new.files) c.in_ok-cut.cut c.take_stream.new.sifting (t.taken (stored_client c.args.client) _ (start g at)) t.others
     (g.F.Files.content c.log_cut.new.files) c.admitted.result c.refused.result l.writes.others l.lines l.whole c.admitted.ensures c.refused.ensures

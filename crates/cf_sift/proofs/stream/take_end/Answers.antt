@@ -15,7 +15,7 @@ pub returns-in_err-end-clause-fails : goal.returns-in_err-end-clause-fails
 returns-in_err-end-clause-fails g c = on_err _ c.from_residual.result (λ client first h before.
     let content = g.F.Files.content in
     let names = sift_names_value c.args.names.now in
-    inl (line_fails c.args.asset.now client names first c.streams_go_on.ensures.go_on (content c.args.files.now) h c.args.sifting.now before
+    inl (line_fails c.args.site.now client names first c.streams_go_on.ensures.go_on (content c.args.files.now) h c.args.sifting.now before
     (end_at 0 side.Client) (end_at 0 side.Client) [] (content c.end.new.files) refl
     (began_whole _ _ _ _ _ _ _ _ (c.in_err-end.ensures.misses none_before h (client_rests c.args.sifting.now.heard.rest.items) _ _ refl before.follows))
     (c.end.ensures.writes.others names.out (c.requires.apart.out_log, tt)) (c.end.ensures.writes.others names.replies (c.requires.apart.replies_log, tt))))
@@ -25,7 +25,7 @@ returns-clause-taken g c = λ client first h before.
     let content = g.F.Files.content in
     let names = sift_names_value c.args.names.now in
     let f = c.in_ok-end.ensures in
-    let sifting = sifting_ended c.args.asset.now client names first c.streams_go_on.ensures.go_on (content c.args.files.now) h c.args.sifting.now before
+    let sifting = sifting_ended c.args.site.now client names first c.streams_go_on.ensures.go_on (content c.args.files.now) h c.args.sifting.now before
     (end_at 0 side.Client) None c.end.new.self (content c.end.new.files) f.takes
     (c.end.ensures.writes.others names.out (c.requires.apart.out_log, tt)) (c.end.ensures.writes.others names.replies (c.requires.apart.replies_log, tt)) f.whole
     (ap (λ (x : Sifting). x.to_client.pushed) f.new) (ap (λ (x : Sifting). x.to_controller.pushed) f.new)
@@ -34,5 +34,5 @@ returns-clause-taken g c = λ client first h before.
     record {
       by_item = None;
       sifting_of = sifting;
-      is_cut = cut_known c.args.asset.now client names first (content c.end.new.files) _ None c.end.new.self sifting ∙ sym c.length_cut.ensures;
+      is_cut = cut_known c.args.site.now client names first (content c.end.new.files) _ None c.end.new.self sifting ∙ sym c.length_cut.ensures;
     }

@@ -21,7 +21,7 @@ returns-in_err-cut-clause-fails g c = on_err _ c.from_residual.result (λ client
     let content = g.F.Files.content in
     let names = sift_names_value c.args.names.now in
     let fails = within_whole _ _ _ _ _ _ _ _ _ _ _ (c.in_err-cut.ensures.misses none_before h (client_rests c.args.sifting.now.heard.rest.items) _ _ refl before.follows) in
-    inl (line_fails c.args.asset.now client names first c.streams_go_on.ensures.go_on (content c.args.files.now) h c.args.sifting.now before
+    inl (line_fails c.args.site.now client names first c.streams_go_on.ensures.go_on (content c.args.files.now) h c.args.sifting.now before
     (bytes_at 0 side.Client fails.handled) (bytes_at 0 side.Client c.args.piece.now) fails.rest (content c.feed.new.files) (ap (bytes_at 0 side.Client) fails.piece_is) fails.began
     (c.feed.ensures.writes.others names.out (c.requires.apart.out_log, tt)) (c.feed.ensures.writes.others names.replies (c.requires.apart.replies_log, tt))))
 
@@ -30,7 +30,7 @@ returns-in_err-drain-clause-fails g c = on_err _ c.from_residual-in_err-drain.re
     let content = g.F.Files.content in
     let names = sift_names_value c.args.names.now in
     let f = c.in_ok-cut.ensures in
-    moves_fail c.args.asset.now client names first c.streams_go_on.ensures.go_on (content c.args.files.now) h c.args.sifting.now before
+    moves_fail c.args.site.now client names first c.streams_go_on.ensures.go_on (content c.args.files.now) h c.args.sifting.now before
     (bytes_at 0 side.Client c.args.piece.now) _ c.feed.new.self (content c.feed.new.files) f.takes
     (f.writes.others names.out (c.requires.apart.out_log, tt)) (f.writes.others names.replies (c.requires.apart.replies_log, tt)) f.whole
     c.requires.ready.client c.requires.ready.controller (content c.drain.new.files) c.drain.new.self c.drain.ensures.log
@@ -43,7 +43,7 @@ returns-clause-taken g c = λ client first h before.
     let f = c.in_ok-cut.ensures in
     let d = c.in_ok-drain.ensures in
     let element = bytes_at 0 side.Client c.args.piece.now in
-    let sifting = sifting_of c.args.asset.now client names first c.streams_go_on.ensures.go_on (content c.args.files.now) h c.args.sifting.now before
+    let sifting = sifting_of c.args.site.now client names first c.streams_go_on.ensures.go_on (content c.args.files.now) h c.args.sifting.now before
     element _ c.feed.new.self (content c.feed.new.files) f.takes
     (f.writes.others names.out (c.requires.apart.out_log, tt)) (f.writes.others names.replies (c.requires.apart.replies_log, tt)) f.whole
     c.requires.ready.client c.requires.ready.controller (content c.drain.new.files) c.drain.new.self.to_client c.drain.new.self.to_controller d.log
@@ -53,7 +53,7 @@ returns-clause-taken g c = λ client first h before.
     record {
       by_item = _;
       sifting_of = sifting;
-      is_cut = cut_known c.args.asset.now client names first (content c.drain.new.files) _ _ c.drain.new.self sifting ∙ ap (option_or _) (sym c.length_cut.ensures) ∙ sym c.or.ensures;
+      is_cut = cut_known c.args.site.now client names first (content c.drain.new.files) _ _ c.drain.new.self sifting ∙ ap (option_or _) (sym c.length_cut.ensures) ∙ sym c.or.ensures;
     }
 
 pub returns-clause-ready : goal.returns-clause-ready
@@ -65,8 +65,8 @@ returns-clause-ready g c = λ none.
     let new = c.drain.new.self in
     let (letters, controller, to_client, to_controller) = limit_short LETTER_LIMIT new.heard.letters 0 (queue_length new.to_client) (queue_length new.to_controller)
     (sym c.length_cut.ensures ∙ (neither c.in_ok-cut.cut c.length_cut.result (sym c.or.ensures ∙ none)).1) in
-    subst (IsReady c.args.asset.now) (sym d.same) (record {
-      of_asset = t.of_asset;
+    subst (IsReady c.args.site.now) (sym d.same) (record {
+      of_site = t.of_site;
       debt = t.debt;
       client = drained _ _ _ _ (t.controller_ended ∙ ap (λ b. b || false) r.client.goes) d.to_client to_client;
       controller = drained _ _ _ _ (t.client_ended ∙ ap (λ b. b || false) r.controller.goes) d.to_controller to_controller;

@@ -7,7 +7,7 @@ use Rattle.cf_outside.proofs.Frames.{cause_on, cause_still}
 use Rattle.cf_outside.proofs.Pieces.{none_read}
 use Rattle.cf_outside.specs.Files.{Content}
 use Rattle.cf_outside.specs.Part.{IsFilled}
-use Rattle.cf_policy.specs.declared.Asset.{Asset}
+use Rattle.cf_policy.specs.Site.{SiteValue}
 use Rattle.cf_view.specs.declared.Endpoint.{Endpoint}
 use Rattle.cf_view.specs.declared.Side.TheVariants as side
 use Rattle.cf_sift.specs.Names.{SiftNamesValue, sift_names_value}
@@ -21,9 +21,9 @@ use Rattle.cf_sift.proofs.stream.take_stream.Goals.{In-Some}
 
 -- a piece was read
 module _ (g : Over) (c : In-Some g) (client : Endpoint) (first : List ℕ → Content)
-    (sifting : IsSiftingOf c.args.asset.now client (sift_names_value c.args.names.now) first (g.F.Files.content c.args.files.now) [] None c.args.sifting.now) where
-  abbrev asset : Asset
-  asset = c.args.asset.now
+    (sifting : IsSiftingOf c.args.site.now client (sift_names_value c.args.names.now) first (g.F.Files.content c.args.files.now) [] None c.args.sifting.now) where
+  abbrev site : SiteValue
+  site = c.args.site.now
 
   abbrev names : SiftNamesValue
   names = sift_names_value c.args.names.now
@@ -41,8 +41,8 @@ module _ (g : Over) (c : In-Some g) (client : Endpoint) (first : List ℕ → Co
   piece = take c.in-Some.count c.fill.new.buffer
 
   -- what was taken before it
-  t : IsTakenTo asset client names first old now c.pieces.at c.pieces.sifting
-  t = subst (λ f. IsTakenTo asset client names first old f c.pieces.at c.pieces.sifting) (sym c.fill.ensures.reads.same) (c.pieces.invariant.taken client first sifting)
+  t : IsTakenTo site client names first old now c.pieces.at c.pieces.sifting
+  t = subst (λ f. IsTakenTo site client names first old f c.pieces.at c.pieces.sifting) (sym c.fill.ensures.reads.same) (c.pieces.invariant.taken client first sifting)
 
   size : length piece ≡ c.in-Some.count
   size = length-take-le c.in-Some.count c.fill.new.buffer (omega (arith, c.in-Some.ensures.inside, c.fill.ensures.length, c.pieces.invariant.piece))
@@ -51,30 +51,30 @@ module _ (g : Over) (c : In-Some g) (client : Endpoint) (first : List ℕ → Co
   filled = filled_at (old names.stream) (g.F.Files.content c.pieces.files names.stream) c.pieces.at (length t.bytes) 4096 piece
       (c.pieces.invariant.others names.stream (c.requires.apart.stream_out, (c.requires.apart.stream_replies, (c.requires.apart.stream_log, tt)))) t.size refl c.in-Some.ensures.filled
 
-  none_is_next : c.in-Some.count ≡ 0 → ComesNext asset client names first old now c.pieces.sifting (end_at 0 side.Client) []
-  none_is_next none = none_next asset client names first one old now c.pieces.at c.pieces.sifting t piece filled (omega (arith, size, none))
+  none_is_next : c.in-Some.count ≡ 0 → ComesNext site client names first old now c.pieces.sifting (end_at 0 side.Client) []
+  none_is_next none = none_next site client names first one old now c.pieces.at c.pieces.sifting t piece filled (omega (arith, size, none))
 
-  piece_is_next : 0 < c.in-Some.count → (later : List Element) × ComesNext asset client names first old now c.pieces.sifting (bytes_at 0 side.Client piece) later
-  piece_is_next some = piece_next asset client names first one old now c.pieces.at c.pieces.sifting t piece filled (omega (arith, size, some))
+  piece_is_next : 0 < c.in-Some.count → (later : List Element) × ComesNext site client names first old now c.pieces.sifting (bytes_at 0 side.Client piece) later
+  piece_is_next some = piece_next site client names first one old now c.pieces.at c.pieces.sifting t piece filled (omega (arith, size, some))
       (omega (arith, size, c.in-Some.ensures.inside, c.fill.ensures.length, c.pieces.invariant.piece))
 
   -- nothing cuts after it
   module _ (new : List ℕ → Content) (last : Sifting) (cut : Option CutReason) (is : cut ≡ None)
-      (taken : TakesElement asset names (bytes_at 0 side.Client piece) c.pieces.sifting last now new cut) where
-    after : IsSiftingAfter asset client names first new (t.history ++ bytes_at 0 side.Client piece ∷ []) None last
-    after = subst (λ k. IsSiftingAfter asset client names first new (t.history ++ bytes_at 0 side.Client piece ∷ []) k last) is (taken client first t.history t.sifting_of)
+      (taken : TakesElement site names (bytes_at 0 side.Client piece) c.pieces.sifting last now new cut) where
+    after : IsSiftingAfter site client names first new (t.history ++ bytes_at 0 side.Client piece ∷ []) None last
+    after = subst (λ k. IsSiftingAfter site client names first new (t.history ++ bytes_at 0 side.Client piece ∷ []) k last) is (taken client first t.history t.sifting_of)
 
-    piece_is_taken : c.in-Some.count ≡ 4096 → IsTakenTo asset client names first old new (c.pieces.at + c.in-Some.count) last
-    piece_is_taken full = subst (λ n. IsTakenTo asset client names first old new (c.pieces.at + n) last) size
-        (goes_on asset client names first one old now c.pieces.at c.pieces.sifting t piece filled new last after (omega (arith, size, full)))
+    piece_is_taken : c.in-Some.count ≡ 4096 → IsTakenTo site client names first old new (c.pieces.at + c.in-Some.count) last
+    piece_is_taken full = subst (λ n. IsTakenTo site client names first old new (c.pieces.at + n) last) size
+        (goes_on site client names first one old now c.pieces.at c.pieces.sifting t piece filled new last after (omega (arith, size, full)))
 
-    end_is_next : 0 < c.in-Some.count → c.in-Some.count < 4096 → ComesNext asset client names first old new last (end_at 0 side.Client) []
-    end_is_next some less = last_next asset client names first one old now c.pieces.at c.pieces.sifting t piece filled new last after
+    end_is_next : 0 < c.in-Some.count → c.in-Some.count < 4096 → ComesNext site client names first old new last (end_at 0 side.Client) []
+    end_is_next some less = last_next site client names first one old now c.pieces.at c.pieces.sifting t piece filled new last after
         (omega (arith, size, some)) (omega (arith, size, less))
 
 pub pieces-init : goal.pieces-init
 pieces-init g c = record {
-  taken = λ client first sifting. starts c.args.asset.now client (sift_names_value c.args.names.now) first c.has_one_judgement.ensures (g.F.Files.content c.args.files.now)
+  taken = λ client first sifting. starts c.args.site.now client (sift_names_value c.args.names.now) first c.has_one_judgement.ensures (g.F.Files.content c.args.files.now)
       c.args.sifting.now c.requires.ready sifting;
   ready = c.requires.ready;
   letters = c.requires.fresh;
@@ -93,12 +93,12 @@ pub returns-in_default-clause-read : goal.returns-in_default-clause-read
 returns-in_default-clause-read g c = λ is client first sifting.
     let content = g.F.Files.content in
     let names = sift_names_value c.args.names.now in
-    let asset = c.args.asset.now in
+    let site = c.args.site.now in
     let old = content c.args.files.now in
     let now = content c.fill.new.files in
     let inv = c.pieces.invariant in
-    let t = subst (λ f. IsTakenTo asset client names first old f c.pieces.at c.pieces.sifting) (sym c.fill.ensures.reads.same) (inv.taken client first sifting) in
-    read_stops asset client names first c.has_one_judgement.ensures old now c.pieces.at c.pieces.sifting t
+    let t = subst (λ f. IsTakenTo site client names first old f c.pieces.at c.pieces.sifting) (sym c.fill.ensures.reads.same) (inv.taken client first sifting) in
+    read_stops site client names first c.has_one_judgement.ensures old now c.pieces.at c.pieces.sifting t
 
 pub returns-in_err-take_end-clause-write : goal.returns-in_err-take_end-clause-write
 returns-in_err-take_end-clause-write g c = λ is client first sifting.

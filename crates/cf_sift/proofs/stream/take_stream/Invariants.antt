@@ -13,9 +13,9 @@ abbrev pub invariant-pieces : goal.invariant-pieces
 invariant-pieces g l =
     let content = g.F.Files.content in
     record {
-      taken : (client : Endpoint) (first : List ℕ → Content) → IsSiftingOf l.asset client (sift_names_value l.names) first (content l.fn.files) [] None l.fn.sifting →
-          IsTakenTo l.asset client (sift_names_value l.names) first (content l.fn.files) (content l.files) l.at l.sifting;
-      ready : IsReady l.asset l.sifting;
+      taken : (client : Endpoint) (first : List ℕ → Content) → IsSiftingOf l.site client (sift_names_value l.names) first (content l.fn.files) [] None l.fn.sifting →
+          IsTakenTo l.site client (sift_names_value l.names) first (content l.fn.files) (content l.files) l.at l.sifting;
+      ready : IsReady l.site l.sifting;
       letters : l.sifting.heard.letters ≡ l.at;
       whole : ends_with_line (content l.files l.names.log.now) ≡ true;
       others : KeepsOtherFiles (sift_output_names (sift_names_value l.names)) (content l.fn.files) (content l.files);

@@ -7,4 +7,4 @@ returns-in_err-ended-clause-misses g c =
 
 pub returns-clause-takes : goal.returns-clause-takes
 returns-clause-takes g c =
-    takes_end _ _ c.args.side _ _ _ _ _ _ _ _ _ _ c.len-rest.ensures.value c.in_ok-ended.ensures.apart c.requires.little c.requires.of_asset c.requires.debt c.ended.ensures.lane c.in_ok-ended.ensures.queues
+    takes_end _ _ c.args.side _ _ _ _ _ _ _ _ _ _ c.len-rest.ensures.value c.in_ok-ended.ensures.apart c.requires.little c.requires.of_site c.requires.debt c.ended.ensures.lane c.in_ok-ended.ensures.queues

@@ -20,7 +20,7 @@ units-init g c = record {
   client_grows = grows_none _ _;
   controller_grows = grows_none _ _;
   counts = omega arith;
-  of_asset = c.requires.of_asset;
+  of_site = c.requires.of_site;
   whole = c.requires.whole;
   log = writes_none _;
 }
@@ -49,42 +49,42 @@ returns-in_err-step-clause-cause g c =
 
 pub units-smaller : goal.units-smaller
 units-smaller g c =
-    smaller c.args.asset.now c.args.moment c.args.side c.args.bytes.bytes c.after.result.bytes c.units.used c.after.ensures.bytes c.units.invariant.inside c.in_ok-step.step c.in-Took.n c.in-Took.is
-    (some_letters c.args.asset.now c.args.moment c.args.side c.args.bytes.bytes c.after.result.bytes c.units.used c.after.ensures.bytes c.units.invariant.inside _ _ c.in_ok-step.step c.in-Took.n c.in-Took.is c.in_ok-step.ensures.steps)
+    smaller c.args.site.now c.args.moment c.args.side c.args.bytes.bytes c.after.result.bytes c.units.used c.after.ensures.bytes c.units.invariant.inside c.in_ok-step.step c.in-Took.n c.in-Took.is
+    (some_letters c.args.site.now c.args.moment c.args.side c.args.bytes.bytes c.after.result.bytes c.units.used c.after.ensures.bytes c.units.invariant.inside _ _ c.in_ok-step.step c.in-Took.n c.in-Took.is c.in_ok-step.ensures.steps)
     c.in_ok-step.ensures.inside
 
 pub units-preserved : goal.units-preserved
 units-preserved g c =
     let inv = c.units.invariant in
     record {
-      inside = omega (arith, within c.args.asset.now c.args.moment c.args.side c.args.bytes.bytes c.after.result.bytes c.units.used c.after.ensures.bytes inv.inside c.in_ok-step.step c.in_ok-step.ensures.inside, ap letters_in c.in-Took.is);
-      along = along_took c.args.asset.now c.args.moment c.args.side c.args.bytes.bytes c.after.result.bytes c.units.used c.after.ensures.bytes inv.inside _ _ _ c.in_ok-step.step c.in-Took.n c.in-Took.is inv.along c.in_ok-step.ensures.steps;
-      client_grows = grows_took c.args.asset.now c.args.moment c.args.side c.args.bytes.bytes c.after.result.bytes c.units.used c.after.ensures.bytes inv.inside _ _ _ _ _ _ c.in_ok-step.step c.in-Took.n c.in-Took.is inv.client_grows c.in_ok-step.ensures.client_grows;
-      controller_grows = grows_took c.args.asset.now c.args.moment c.args.side c.args.bytes.bytes c.after.result.bytes c.units.used c.after.ensures.bytes inv.inside _ _ _ _ _ _ c.in_ok-step.step c.in-Took.n c.in-Took.is inv.controller_grows c.in_ok-step.ensures.controller_grows;
+      inside = omega (arith, within c.args.site.now c.args.moment c.args.side c.args.bytes.bytes c.after.result.bytes c.units.used c.after.ensures.bytes inv.inside c.in_ok-step.step c.in_ok-step.ensures.inside, ap letters_in c.in-Took.is);
+      along = along_took c.args.site.now c.args.moment c.args.side c.args.bytes.bytes c.after.result.bytes c.units.used c.after.ensures.bytes inv.inside _ _ _ c.in_ok-step.step c.in-Took.n c.in-Took.is inv.along c.in_ok-step.ensures.steps;
+      client_grows = grows_took c.args.site.now c.args.moment c.args.side c.args.bytes.bytes c.after.result.bytes c.units.used c.after.ensures.bytes inv.inside _ _ _ _ _ _ c.in_ok-step.step c.in-Took.n c.in-Took.is inv.client_grows c.in_ok-step.ensures.client_grows;
+      controller_grows = grows_took c.args.site.now c.args.moment c.args.side c.args.bytes.bytes c.after.result.bytes c.units.used c.after.ensures.bytes inv.inside _ _ _ _ _ _ c.in_ok-step.step c.in-Took.n c.in-Took.is inv.controller_grows c.in_ok-step.ensures.controller_grows;
       counts = omega (arith, inv.counts, c.in_ok-step.ensures.counts, ap letters_in c.in-Took.is);
-      of_asset = c.in_ok-step.ensures.of_asset;
+      of_site = c.in_ok-step.ensures.of_site;
       whole = c.in_ok-step.ensures.whole;
       log = writes_both _ _ _ inv.log c.step.ensures.log;
     }
 
 pub returns-in-More-clause-history : goal.returns-in-More-clause-history
 returns-in-More-clause-history g c =
-    rw c.cut_in.ensures (follows_stop c.args.asset.now c.args.moment c.args.side c.args.bytes.bytes c.after.result.bytes c.units.used _ _ _ c.units.invariant.along c.after.ensures.bytes
+    rw c.cut_in.ensures (follows_stop c.args.site.now c.args.moment c.args.side c.args.bytes.bytes c.after.result.bytes c.units.used _ _ _ c.units.invariant.along c.after.ensures.bytes
     c.in_ok-step.step c.in_ok-step.ensures.steps c.after.ensures.octets c.in-More.is)
 
 pub returns-in-More-clause-apart : goal.returns-in-More-clause-apart
 returns-in-More-clause-apart g c =
-    rw c.cut_in.ensures (apart_stop c.args.asset.now c.args.moment c.args.side c.args.bytes.bytes c.after.result.bytes c.units.used _ _ _ c.units.invariant.along c.after.ensures.bytes
+    rw c.cut_in.ensures (apart_stop c.args.site.now c.args.moment c.args.side c.args.bytes.bytes c.after.result.bytes c.units.used _ _ _ c.units.invariant.along c.after.ensures.bytes
     c.in_ok-step.step c.in_ok-step.ensures.steps c.after.ensures.octets c.in-More.is)
 
 pub returns-in-More-clause-client_grows : goal.returns-in-More-clause-client_grows
 returns-in-More-clause-client_grows g c =
-    grows_end c.args.asset.now c.args.moment c.args.side c.args.bytes.bytes c.after.result.bytes c.units.used c.after.ensures.bytes c.units.invariant.inside _ _ _ _ _ _ c.in_ok-step.step c.in-More.is
+    grows_end c.args.site.now c.args.moment c.args.side c.args.bytes.bytes c.after.result.bytes c.units.used c.after.ensures.bytes c.units.invariant.inside _ _ _ _ _ _ c.in_ok-step.step c.in-More.is
     c.units.invariant.client_grows c.in_ok-step.ensures.client_grows
 
 pub returns-in-More-clause-controller_grows : goal.returns-in-More-clause-controller_grows
 returns-in-More-clause-controller_grows g c =
-    grows_end c.args.asset.now c.args.moment c.args.side c.args.bytes.bytes c.after.result.bytes c.units.used c.after.ensures.bytes c.units.invariant.inside _ _ _ _ _ _ c.in_ok-step.step c.in-More.is
+    grows_end c.args.site.now c.args.moment c.args.side c.args.bytes.bytes c.after.result.bytes c.units.used c.after.ensures.bytes c.units.invariant.inside _ _ _ _ _ _ c.in_ok-step.step c.in-More.is
     c.units.invariant.controller_grows c.in_ok-step.ensures.controller_grows
 
 pub returns-in-More-clause-counts : goal.returns-in-More-clause-counts
@@ -98,21 +98,21 @@ returns-in-More-clause-cause g c = record { later = omega (arith, c.units.invari
 
 pub returns-in-More-clause-left : goal.returns-in-More-clause-left
 returns-in-More-clause-left g c = λ e.
-    little_left c.args.asset.now c.args.moment c.args.side c.args.bytes.bytes c.after.result.bytes c.units.used _ _ _ c.units.invariant.along c.after.ensures.bytes c.in_ok-step.step c.in_ok-step.ensures.steps c.in-More.is (sym c.cut_in.ensures ∙ e)
+    little_left c.args.site.now c.args.moment c.args.side c.args.bytes.bytes c.after.result.bytes c.units.used _ _ _ c.units.invariant.along c.after.ensures.bytes c.in_ok-step.step c.in_ok-step.ensures.steps c.in-More.is (sym c.cut_in.ensures ∙ e)
 
 pub returns-in-More-clause-client : goal.returns-in-More-clause-client
 returns-in-More-clause-client g c =
-    same_client c.args.asset.now c.args.moment c.args.side c.args.bytes.bytes c.after.result.bytes c.units.used _ _ _ c.units.invariant.along c.after.ensures.bytes c.in_ok-step.step c.in_ok-step.ensures.steps c.in-More.is
+    same_client c.args.site.now c.args.moment c.args.side c.args.bytes.bytes c.after.result.bytes c.units.used _ _ _ c.units.invariant.along c.after.ensures.bytes c.in_ok-step.step c.in_ok-step.ensures.steps c.in-More.is
 
 pub returns-in_err-step-clause-fails : goal.returns-in_err-step-clause-fails
 returns-in_err-step-clause-fails g c =
-    on_err _ _ (fails_of_whole _ _ _ _ _ _ _ (fails_apart c.args.asset.now (free_unit c.args.asset.now.protocol) (nothing_unit c.args.asset.now.protocol)
+    on_err _ _ (fails_of_whole _ _ _ _ _ _ _ (fails_apart c.args.site.now (free_unit c.args.site.now.first.protocol) (nothing_unit c.args.site.now.first.protocol)
     c.args.moment c.args.side c.args.bytes.bytes c.units.used _ _ _ _ c.units.invariant.along (misses_rest _ _ _ _ _ _ _ _ c.after.ensures.bytes c.in_err-step.ensures.misses)))
 
 pub returns-in_err-step-clause-fails_apart : goal.returns-in_err-step-clause-fails_apart
 returns-in_err-step-clause-fails_apart g c =
-    on_err _ _ (fails_apart c.args.asset.now (free_unit c.args.asset.now.protocol) (nothing_unit c.args.asset.now.protocol)
+    on_err _ _ (fails_apart c.args.site.now (free_unit c.args.site.now.first.protocol) (nothing_unit c.args.site.now.first.protocol)
     c.args.moment c.args.side c.args.bytes.bytes c.units.used _ _ _ _ c.units.invariant.along (misses_rest _ _ _ _ _ _ _ _ c.after.ensures.bytes c.in_err-step.ensures.misses))
 
 pub returns-in-More-clause-debt : goal.returns-in-More-clause-debt
-returns-in-More-clause-debt g c = debt_most _ _ c.in_ok-step.ensures.of_asset
+returns-in-More-clause-debt g c = debt_most _ _ c.in_ok-step.ensures.of_site

@@ -9,12 +9,12 @@ invariant-units g l =
     let value = g.D.Desk.value in
     record {
       inside : l.used ≤ length l.bytes.bytes;
-      along : Along l.asset l.moment l.side l.bytes.bytes l.used (state l.fn.self l.fn.to_client l.fn.to_controller (DeskValue.lines (value l.fn.desk)))
+      along : Along l.site l.moment l.side l.bytes.bytes l.used (state l.fn.self l.fn.to_client l.fn.to_controller (DeskValue.lines (value l.fn.desk)))
           (state l.self l.to_client l.to_controller (DeskValue.lines (value l.desk)));
       client_grows : Grows (2 * l.used) (debt l.fn.self) (debt l.self) l.fn.to_client l.to_client;
       controller_grows : Grows (2 * l.used) (debt l.fn.self) (debt l.self) l.fn.to_controller l.to_controller;
       counts : CountsBy l.used l.fn.self l.self;
-      of_asset : IsLaneOf l.asset l.self;
+      of_site : IsLaneOf l.site l.self;
       whole : DeskValue.whole (value l.desk) ≡ true;
       log : WritesLog (value l.fn.desk) (value l.desk);
     }

@@ -10,32 +10,32 @@ count_front-requires-clause-counts g c =
     let value = g.D.Desk.value in
     let old = outlets c.args.to_client.now c.args.to_controller.now (DeskValue.lines (value c.args.desk.now)) in
     let new = outlets c.take_frame_at_front.new.to_client c.take_frame_at_front.new.to_controller (DeskValue.lines (value c.take_frame_at_front.new.desk)) in
-    let front = fronts_in c.args.asset.now _ _ _ _ _ _ _ c.self.view_is c.in-Dnp3.is c.args.moment c.args.side c.args.bytes.now.bytes old (wire.Dnp3 c.take_frame_at_front.new.self) new c.in_ok-front-in-Dnp3.front c.in_ok-front-in-Dnp3.ensures.fronts in
-    omega (arith, c.requires.counts, counted_most c.args.asset.now c.args.moment c.args.side c.args.bytes.now.bytes _ _ c.in_ok-front-in-Dnp3.front front, ap (λ (l : LaneValue). l.admitted) c.self.view_is, ap (λ (l : LaneValue). l.refused) c.self.view_is)
+    let front = fronts_in c.args.site.now _ _ _ _ _ _ _ c.self.view_is c.in-Dnp3.is c.args.moment c.args.side c.args.bytes.now.bytes old (wire.Dnp3 c.take_frame_at_front.new.self) new c.in_ok-front-in-Dnp3.front c.as_slice.result.now c.as_slice.ensures.value c.in_ok-front-in-Dnp3.ensures.fronts in
+    omega (arith, c.requires.counts, counted_most c.args.site.now c.args.moment c.args.side c.args.bytes.now.bytes _ _ c.in_ok-front-in-Dnp3.front front, ap (λ (l : LaneValue). l.admitted) c.self.view_is, ap (λ (l : LaneValue). l.refused) c.self.view_is)
 
 pub returns-in_ok-front-in-Dnp3-clause-steps : goal.returns-in_ok-front-in-Dnp3-clause-steps
 returns-in_ok-front-in-Dnp3-clause-steps g c =
     let value = g.D.Desk.value in
     let old = outlets c.args.to_client.now c.args.to_controller.now (DeskValue.lines (value c.args.desk.now)) in
     let new = outlets c.take_frame_at_front.new.to_client c.take_frame_at_front.new.to_controller (DeskValue.lines (value c.take_frame_at_front.new.desk)) in
-    let mid = lane_of c.self.inside.client c.self.inside.admitted c.self.inside.refused c.self.inside.rules (wire.Dnp3 c.take_frame_at_front.new.self) in
-    let front = fronts_in c.args.asset.now _ _ _ _ _ _ _ c.self.view_is c.in-Dnp3.is c.args.moment c.args.side c.args.bytes.now.bytes old (wire.Dnp3 c.take_frame_at_front.new.self) new c.in_ok-front-in-Dnp3.front c.in_ok-front-in-Dnp3.ensures.fronts in
-    steps_counted c.args.asset.now c.args.moment c.args.side c.args.bytes.now.bytes _ mid _ _ _ c.in_ok-front-in-Dnp3.front front c.count_front.new.self c.count_front.ensures.counts c.count_front.result c.count_front.ensures.step
+    let mid = lane_of c.self.inside.client c.self.inside.admitted c.self.inside.refused c.self.inside.rules.items (wire.Dnp3 c.take_frame_at_front.new.self) in
+    let front = fronts_in c.args.site.now _ _ _ _ _ _ _ c.self.view_is c.in-Dnp3.is c.args.moment c.args.side c.args.bytes.now.bytes old (wire.Dnp3 c.take_frame_at_front.new.self) new c.in_ok-front-in-Dnp3.front c.as_slice.result.now c.as_slice.ensures.value c.in_ok-front-in-Dnp3.ensures.fronts in
+    steps_counted c.args.site.now c.args.moment c.args.side c.args.bytes.now.bytes _ mid _ _ _ c.in_ok-front-in-Dnp3.front front c.count_front.new.self c.count_front.ensures.counts c.count_front.result c.count_front.ensures.step
 
-pub returns-in_ok-front-in-Dnp3-clause-of_asset : goal.returns-in_ok-front-in-Dnp3-clause-of_asset
-returns-in_ok-front-in-Dnp3-clause-of_asset g c =
-    lane_counted c.args.asset.now c.args.moment c.in_ok-front-in-Dnp3.front _ c.count_front.new.self
-    (lane_in c.args.asset.now _ _ _ _ _ _ _ c.self.view_is c.in-Dnp3.is (wire.Dnp3 c.take_frame_at_front.new.self) (dnp3_wire c.args.asset.now.protocol c.take_frame_at_front.new.self (is_dnp3 c.args.asset.now.protocol _ (wire_in c.args.asset.now _ _ _ _ _ _ _ c.self.view_is c.in-Dnp3.is c.requires.of_asset)) c.in_ok-front-in-Dnp3.ensures.are) c.requires.of_asset) c.count_front.ensures.counts
+pub returns-in_ok-front-in-Dnp3-clause-of_site : goal.returns-in_ok-front-in-Dnp3-clause-of_site
+returns-in_ok-front-in-Dnp3-clause-of_site g c =
+    lane_counted c.args.site.now c.args.moment c.in_ok-front-in-Dnp3.front _ c.count_front.new.self
+    (lane_in c.args.site.now _ _ _ _ _ _ _ c.self.view_is c.in-Dnp3.is (wire.Dnp3 c.take_frame_at_front.new.self) (dnp3_wire c.args.site.now.first.protocol _ c.take_frame_at_front.new.self (is_dnp3 c.args.site.now.first.protocol _ _ (wire_in c.args.site.now _ _ _ _ _ _ _ c.self.view_is c.in-Dnp3.is c.requires.of_site)) c.in_ok-front-in-Dnp3.ensures.are) c.requires.of_site) c.count_front.ensures.counts
 
 pub returns-in_ok-front-in-Dnp3-clause-counts : goal.returns-in_ok-front-in-Dnp3-clause-counts
 returns-in_ok-front-in-Dnp3-clause-counts g c =
     let value = g.D.Desk.value in
     let old = outlets c.args.to_client.now c.args.to_controller.now (DeskValue.lines (value c.args.desk.now)) in
     let new = outlets c.take_frame_at_front.new.to_client c.take_frame_at_front.new.to_controller (DeskValue.lines (value c.take_frame_at_front.new.desk)) in
-    let front = fronts_in c.args.asset.now _ _ _ _ _ _ _ c.self.view_is c.in-Dnp3.is c.args.moment c.args.side c.args.bytes.now.bytes old (wire.Dnp3 c.take_frame_at_front.new.self) new c.in_ok-front-in-Dnp3.front c.in_ok-front-in-Dnp3.ensures.fronts in
+    let front = fronts_in c.args.site.now _ _ _ _ _ _ _ c.self.view_is c.in-Dnp3.is c.args.moment c.args.side c.args.bytes.now.bytes old (wire.Dnp3 c.take_frame_at_front.new.self) new c.in_ok-front-in-Dnp3.front c.as_slice.result.now c.as_slice.ensures.value c.in_ok-front-in-Dnp3.ensures.fronts in
     omega (
       arith,
-      counts_counted c.args.asset.now c.args.moment c.args.side c.args.bytes.now.bytes _ _ c.in_ok-front-in-Dnp3.front front c.count_front.new.self c.count_front.ensures.counts c.count_front.result c.count_front.ensures.step,
+      counts_counted c.args.site.now c.args.moment c.args.side c.args.bytes.now.bytes _ _ c.in_ok-front-in-Dnp3.front front c.count_front.new.self c.count_front.ensures.counts c.count_front.result c.count_front.ensures.step,
       ap (λ (l : LaneValue). l.admitted) c.self.view_is,
       ap (λ (l : LaneValue). l.refused) c.self.view_is,
     )
@@ -45,19 +45,19 @@ returns-in_ok-front-in-Dnp3-clause-inside g c =
     let value = g.D.Desk.value in
     let old = outlets c.args.to_client.now c.args.to_controller.now (DeskValue.lines (value c.args.desk.now)) in
     let new = outlets c.take_frame_at_front.new.to_client c.take_frame_at_front.new.to_controller (DeskValue.lines (value c.take_frame_at_front.new.desk)) in
-    let front = fronts_in c.args.asset.now _ _ _ _ _ _ _ c.self.view_is c.in-Dnp3.is c.args.moment c.args.side c.args.bytes.now.bytes old (wire.Dnp3 c.take_frame_at_front.new.self) new c.in_ok-front-in-Dnp3.front c.in_ok-front-in-Dnp3.ensures.fronts in
-    inside_counted c.args.asset.now c.args.moment c.args.side c.args.bytes.now.bytes _ _ c.in_ok-front-in-Dnp3.front front c.count_front.result c.count_front.ensures.step
+    let front = fronts_in c.args.site.now _ _ _ _ _ _ _ c.self.view_is c.in-Dnp3.is c.args.moment c.args.side c.args.bytes.now.bytes old (wire.Dnp3 c.take_frame_at_front.new.self) new c.in_ok-front-in-Dnp3.front c.as_slice.result.now c.as_slice.ensures.value c.in_ok-front-in-Dnp3.ensures.fronts in
+    inside_counted c.args.site.now c.args.moment c.args.side c.args.bytes.now.bytes _ _ c.in_ok-front-in-Dnp3.front front c.count_front.result c.count_front.ensures.step
 
 pub returns-in_ok-front-in-Dnp3-clause-client_grows : goal.returns-in_ok-front-in-Dnp3-clause-client_grows
 returns-in_ok-front-in-Dnp3-clause-client_grows g c =
-    grows_in c.args.asset.now _ _ _ _ _ _ _ c.self.view_is c.in-Dnp3.is _ _ _ _
-    (grows_counted c.args.side c.args.moment c.in_ok-front-in-Dnp3.front (lane_of c.self.inside.client c.self.inside.admitted c.self.inside.refused c.self.inside.rules (wire.Dnp3 c.take_frame_at_front.new.self))
+    grows_in c.args.site.now _ _ _ _ _ _ _ c.self.view_is c.in-Dnp3.is _ _ _ _
+    (grows_counted c.args.side c.args.moment c.in_ok-front-in-Dnp3.front (lane_of c.self.inside.client c.self.inside.admitted c.self.inside.refused c.self.inside.rules.items (wire.Dnp3 c.take_frame_at_front.new.self))
     c.count_front.new.self c.count_front.ensures.counts c.count_front.result c.count_front.ensures.step _ _ _ c.in_ok-front-in-Dnp3.ensures.client_grows)
 
 pub returns-in_ok-front-in-Dnp3-clause-controller_grows : goal.returns-in_ok-front-in-Dnp3-clause-controller_grows
 returns-in_ok-front-in-Dnp3-clause-controller_grows g c =
-    grows_in c.args.asset.now _ _ _ _ _ _ _ c.self.view_is c.in-Dnp3.is _ _ _ _
-    (grows_counted c.args.side c.args.moment c.in_ok-front-in-Dnp3.front (lane_of c.self.inside.client c.self.inside.admitted c.self.inside.refused c.self.inside.rules (wire.Dnp3 c.take_frame_at_front.new.self))
+    grows_in c.args.site.now _ _ _ _ _ _ _ c.self.view_is c.in-Dnp3.is _ _ _ _
+    (grows_counted c.args.side c.args.moment c.in_ok-front-in-Dnp3.front (lane_of c.self.inside.client c.self.inside.admitted c.self.inside.refused c.self.inside.rules.items (wire.Dnp3 c.take_frame_at_front.new.self))
     c.count_front.new.self c.count_front.ensures.counts c.count_front.result c.count_front.ensures.step _ _ _ c.in_ok-front-in-Dnp3.ensures.controller_grows)
 
 pub count_front-requires-in-Iec104-clause-counts : goal.count_front-requires-in-Iec104-clause-counts
@@ -65,32 +65,32 @@ count_front-requires-in-Iec104-clause-counts g c =
     let value = g.D.Desk.value in
     let old = outlets c.args.to_client.now c.args.to_controller.now (DeskValue.lines (value c.args.desk.now)) in
     let new = outlets c.take_apdu_at_front.new.to_client c.take_apdu_at_front.new.to_controller (DeskValue.lines (value c.take_apdu_at_front.new.desk)) in
-    let front = fronts_in c.args.asset.now _ _ _ _ _ _ _ c.self.view_is c.in-Iec104.is c.args.moment c.args.side c.args.bytes.now.bytes old (wire.Iec104 c.take_apdu_at_front.new.numbers) new c.in_ok-front-in-Iec104.front c.in_ok-front-in-Iec104.ensures.fronts in
-    omega (arith, c.requires.counts, counted_most c.args.asset.now c.args.moment c.args.side c.args.bytes.now.bytes _ _ c.in_ok-front-in-Iec104.front front, ap (λ (l : LaneValue). l.admitted) c.self.view_is, ap (λ (l : LaneValue). l.refused) c.self.view_is)
+    let front = fronts_in c.args.site.now _ _ _ _ _ _ _ c.self.view_is c.in-Iec104.is c.args.moment c.args.side c.args.bytes.now.bytes old (wire.Iec104 c.take_apdu_at_front.new.numbers) new c.in_ok-front-in-Iec104.front c.as_slice-in-Iec104.result.now c.as_slice-in-Iec104.ensures.value c.in_ok-front-in-Iec104.ensures.fronts in
+    omega (arith, c.requires.counts, counted_most c.args.site.now c.args.moment c.args.side c.args.bytes.now.bytes _ _ c.in_ok-front-in-Iec104.front front, ap (λ (l : LaneValue). l.admitted) c.self.view_is, ap (λ (l : LaneValue). l.refused) c.self.view_is)
 
 pub returns-in_ok-front-in-Iec104-clause-steps : goal.returns-in_ok-front-in-Iec104-clause-steps
 returns-in_ok-front-in-Iec104-clause-steps g c =
     let value = g.D.Desk.value in
     let old = outlets c.args.to_client.now c.args.to_controller.now (DeskValue.lines (value c.args.desk.now)) in
     let new = outlets c.take_apdu_at_front.new.to_client c.take_apdu_at_front.new.to_controller (DeskValue.lines (value c.take_apdu_at_front.new.desk)) in
-    let mid = lane_of c.self.inside.client c.self.inside.admitted c.self.inside.refused c.self.inside.rules (wire.Iec104 c.take_apdu_at_front.new.numbers) in
-    let front = fronts_in c.args.asset.now _ _ _ _ _ _ _ c.self.view_is c.in-Iec104.is c.args.moment c.args.side c.args.bytes.now.bytes old (wire.Iec104 c.take_apdu_at_front.new.numbers) new c.in_ok-front-in-Iec104.front c.in_ok-front-in-Iec104.ensures.fronts in
-    steps_counted c.args.asset.now c.args.moment c.args.side c.args.bytes.now.bytes _ mid _ _ _ c.in_ok-front-in-Iec104.front front c.count_front-in-Iec104.new.self c.count_front-in-Iec104.ensures.counts c.count_front-in-Iec104.result c.count_front-in-Iec104.ensures.step
+    let mid = lane_of c.self.inside.client c.self.inside.admitted c.self.inside.refused c.self.inside.rules.items (wire.Iec104 c.take_apdu_at_front.new.numbers) in
+    let front = fronts_in c.args.site.now _ _ _ _ _ _ _ c.self.view_is c.in-Iec104.is c.args.moment c.args.side c.args.bytes.now.bytes old (wire.Iec104 c.take_apdu_at_front.new.numbers) new c.in_ok-front-in-Iec104.front c.as_slice-in-Iec104.result.now c.as_slice-in-Iec104.ensures.value c.in_ok-front-in-Iec104.ensures.fronts in
+    steps_counted c.args.site.now c.args.moment c.args.side c.args.bytes.now.bytes _ mid _ _ _ c.in_ok-front-in-Iec104.front front c.count_front-in-Iec104.new.self c.count_front-in-Iec104.ensures.counts c.count_front-in-Iec104.result c.count_front-in-Iec104.ensures.step
 
-pub returns-in_ok-front-in-Iec104-clause-of_asset : goal.returns-in_ok-front-in-Iec104-clause-of_asset
-returns-in_ok-front-in-Iec104-clause-of_asset g c =
-    lane_counted c.args.asset.now c.args.moment c.in_ok-front-in-Iec104.front _ c.count_front-in-Iec104.new.self
-    (lane_in c.args.asset.now _ _ _ _ _ _ _ c.self.view_is c.in-Iec104.is (wire.Iec104 c.take_apdu_at_front.new.numbers) (iec104_wire c.args.asset.now.protocol c.take_apdu_at_front.new.numbers (is_iec104 c.args.asset.now.protocol _ (wire_in c.args.asset.now _ _ _ _ _ _ _ c.self.view_is c.in-Iec104.is c.requires.of_asset)) c.in_ok-front-in-Iec104.ensures.idle) c.requires.of_asset) c.count_front-in-Iec104.ensures.counts
+pub returns-in_ok-front-in-Iec104-clause-of_site : goal.returns-in_ok-front-in-Iec104-clause-of_site
+returns-in_ok-front-in-Iec104-clause-of_site g c =
+    lane_counted c.args.site.now c.args.moment c.in_ok-front-in-Iec104.front _ c.count_front-in-Iec104.new.self
+    (lane_in c.args.site.now _ _ _ _ _ _ _ c.self.view_is c.in-Iec104.is (wire.Iec104 c.take_apdu_at_front.new.numbers) (iec104_wire c.args.site.now.first.protocol _ c.take_apdu_at_front.new.numbers (is_iec104 c.args.site.now.first.protocol _ _ (wire_in c.args.site.now _ _ _ _ _ _ _ c.self.view_is c.in-Iec104.is c.requires.of_site)) c.in_ok-front-in-Iec104.ensures.idle) c.requires.of_site) c.count_front-in-Iec104.ensures.counts
 
 pub returns-in_ok-front-in-Iec104-clause-counts : goal.returns-in_ok-front-in-Iec104-clause-counts
 returns-in_ok-front-in-Iec104-clause-counts g c =
     let value = g.D.Desk.value in
     let old = outlets c.args.to_client.now c.args.to_controller.now (DeskValue.lines (value c.args.desk.now)) in
     let new = outlets c.take_apdu_at_front.new.to_client c.take_apdu_at_front.new.to_controller (DeskValue.lines (value c.take_apdu_at_front.new.desk)) in
-    let front = fronts_in c.args.asset.now _ _ _ _ _ _ _ c.self.view_is c.in-Iec104.is c.args.moment c.args.side c.args.bytes.now.bytes old (wire.Iec104 c.take_apdu_at_front.new.numbers) new c.in_ok-front-in-Iec104.front c.in_ok-front-in-Iec104.ensures.fronts in
+    let front = fronts_in c.args.site.now _ _ _ _ _ _ _ c.self.view_is c.in-Iec104.is c.args.moment c.args.side c.args.bytes.now.bytes old (wire.Iec104 c.take_apdu_at_front.new.numbers) new c.in_ok-front-in-Iec104.front c.as_slice-in-Iec104.result.now c.as_slice-in-Iec104.ensures.value c.in_ok-front-in-Iec104.ensures.fronts in
     omega (
       arith,
-      counts_counted c.args.asset.now c.args.moment c.args.side c.args.bytes.now.bytes _ _ c.in_ok-front-in-Iec104.front front c.count_front-in-Iec104.new.self c.count_front-in-Iec104.ensures.counts c.count_front-in-Iec104.result c.count_front-in-Iec104.ensures.step,
+      counts_counted c.args.site.now c.args.moment c.args.side c.args.bytes.now.bytes _ _ c.in_ok-front-in-Iec104.front front c.count_front-in-Iec104.new.self c.count_front-in-Iec104.ensures.counts c.count_front-in-Iec104.result c.count_front-in-Iec104.ensures.step,
       ap (λ (l : LaneValue). l.admitted) c.self.view_is,
       ap (λ (l : LaneValue). l.refused) c.self.view_is,
     )
@@ -100,17 +100,17 @@ returns-in_ok-front-in-Iec104-clause-inside g c =
     let value = g.D.Desk.value in
     let old = outlets c.args.to_client.now c.args.to_controller.now (DeskValue.lines (value c.args.desk.now)) in
     let new = outlets c.take_apdu_at_front.new.to_client c.take_apdu_at_front.new.to_controller (DeskValue.lines (value c.take_apdu_at_front.new.desk)) in
-    let front = fronts_in c.args.asset.now _ _ _ _ _ _ _ c.self.view_is c.in-Iec104.is c.args.moment c.args.side c.args.bytes.now.bytes old (wire.Iec104 c.take_apdu_at_front.new.numbers) new c.in_ok-front-in-Iec104.front c.in_ok-front-in-Iec104.ensures.fronts in
-    inside_counted c.args.asset.now c.args.moment c.args.side c.args.bytes.now.bytes _ _ c.in_ok-front-in-Iec104.front front c.count_front-in-Iec104.result c.count_front-in-Iec104.ensures.step
+    let front = fronts_in c.args.site.now _ _ _ _ _ _ _ c.self.view_is c.in-Iec104.is c.args.moment c.args.side c.args.bytes.now.bytes old (wire.Iec104 c.take_apdu_at_front.new.numbers) new c.in_ok-front-in-Iec104.front c.as_slice-in-Iec104.result.now c.as_slice-in-Iec104.ensures.value c.in_ok-front-in-Iec104.ensures.fronts in
+    inside_counted c.args.site.now c.args.moment c.args.side c.args.bytes.now.bytes _ _ c.in_ok-front-in-Iec104.front front c.count_front-in-Iec104.result c.count_front-in-Iec104.ensures.step
 
 pub returns-in_ok-front-in-Iec104-clause-client_grows : goal.returns-in_ok-front-in-Iec104-clause-client_grows
 returns-in_ok-front-in-Iec104-clause-client_grows g c =
-    grows_in c.args.asset.now _ _ _ _ _ _ _ c.self.view_is c.in-Iec104.is _ _ _ _
-    (grows_counted c.args.side c.args.moment c.in_ok-front-in-Iec104.front (lane_of c.self.inside.client c.self.inside.admitted c.self.inside.refused c.self.inside.rules (wire.Iec104 c.take_apdu_at_front.new.numbers))
+    grows_in c.args.site.now _ _ _ _ _ _ _ c.self.view_is c.in-Iec104.is _ _ _ _
+    (grows_counted c.args.side c.args.moment c.in_ok-front-in-Iec104.front (lane_of c.self.inside.client c.self.inside.admitted c.self.inside.refused c.self.inside.rules.items (wire.Iec104 c.take_apdu_at_front.new.numbers))
     c.count_front-in-Iec104.new.self c.count_front-in-Iec104.ensures.counts c.count_front-in-Iec104.result c.count_front-in-Iec104.ensures.step _ _ _ c.in_ok-front-in-Iec104.ensures.client_grows)
 
 pub returns-in_ok-front-in-Iec104-clause-controller_grows : goal.returns-in_ok-front-in-Iec104-clause-controller_grows
 returns-in_ok-front-in-Iec104-clause-controller_grows g c =
-    grows_in c.args.asset.now _ _ _ _ _ _ _ c.self.view_is c.in-Iec104.is _ _ _ _
-    (grows_counted c.args.side c.args.moment c.in_ok-front-in-Iec104.front (lane_of c.self.inside.client c.self.inside.admitted c.self.inside.refused c.self.inside.rules (wire.Iec104 c.take_apdu_at_front.new.numbers))
+    grows_in c.args.site.now _ _ _ _ _ _ _ c.self.view_is c.in-Iec104.is _ _ _ _
+    (grows_counted c.args.side c.args.moment c.in_ok-front-in-Iec104.front (lane_of c.self.inside.client c.self.inside.admitted c.self.inside.refused c.self.inside.rules.items (wire.Iec104 c.take_apdu_at_front.new.numbers))
     c.count_front-in-Iec104.new.self c.count_front-in-Iec104.ensures.counts c.count_front-in-Iec104.result c.count_front-in-Iec104.ensures.step _ _ _ c.in_ok-front-in-Iec104.ensures.controller_grows)

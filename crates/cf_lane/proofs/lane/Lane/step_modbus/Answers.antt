@@ -31,12 +31,12 @@ push_octets-requires-clause-room g c =
 
 pub returns-in-More-clause-steps : goal.returns-in-More-clause-steps
 returns-in-More-clause-steps g c =
-    (step_waits c.args.asset.now (adus c.args.asset.now.protocol c.requires.modbus) _ _ c.all_of.ensures.bytes c.in-More.ensures.true_answer, refl)
+    (step_waits c.args.site.now (adus c.args.site.now.first.protocol c.requires.modbus) _ _ c.all_of.ensures.bytes c.in-More.ensures.true_answer, refl)
 
 pub returns-in-Broken-clause-steps : goal.returns-in-Broken-clause-steps
 returns-in-Broken-clause-steps g c =
     inl (
-      step_breaks c.args.asset.now (adus c.args.asset.now.protocol c.requires.modbus) _ _ c.all_of.ensures.bytes c.args.side c.in-Broken.reason c.in-Broken.ensures.true_answer,
+      step_breaks c.args.site.now (adus c.args.site.now.first.protocol c.requires.modbus) _ _ c.all_of.ensures.bytes c.args.side c.in-Broken.reason c.in-Broken.ensures.true_answer,
       refl,
     )
 
@@ -44,39 +44,39 @@ pub returns-in_ok-take_command-in-Client-clause-client_grows :
     goal.returns-in_ok-take_command-in-Client-clause-client_grows
 returns-in_ok-take_command-in-Client-clause-client_grows g c =
     let b = begins_same c.all_of.ensures.bytes c.in-Unit.ensures.true_answer in
-    grows_modbus c.args.asset.now c.requires.modbus _ _ c.requires.of_asset c.in_ok-take_command-in-Client.ensures.of_asset _ _ _
+    grows_modbus c.args.site.now c.requires.modbus _ _ c.requires.of_site c.in_ok-take_command-in-Client.ensures.of_site _ _ _
     (grows_more _ _ _ _ _ _ (omega (arith, adu_least _ _ _ b)) c.in_ok-take_command-in-Client.ensures.client_grows)
 
 pub returns-in_ok-take_command-in-Client-clause-controller_grows :
     goal.returns-in_ok-take_command-in-Client-clause-controller_grows
 returns-in_ok-take_command-in-Client-clause-controller_grows g c =
     let b = begins_same c.all_of.ensures.bytes c.in-Unit.ensures.true_answer in
-    grows_modbus c.args.asset.now c.requires.modbus _ _ c.requires.of_asset c.in_ok-take_command-in-Client.ensures.of_asset _ _ _
+    grows_modbus c.args.site.now c.requires.modbus _ _ c.requires.of_site c.in_ok-take_command-in-Client.ensures.of_site _ _ _
     (grows_more _ _ _ _ _ _ (omega (arith, adu_length _ _ _ b)) c.in_ok-take_command-in-Client.ensures.controller_grows)
 
 pub returns-in_ok-take_command-in-Client-clause-steps : goal.returns-in_ok-take_command-in-Client-clause-steps
 returns-in_ok-take_command-in-Client-clause-steps g c =
-    takes_of_client c.args.asset.now c.requires.modbus c.args.moment c.args.bytes.now.bytes c.args.side c.in-Client.is (adu_value c.in-Unit.unit) c.in-Unit.used _ _
+    takes_of_client c.args.site.now c.requires.modbus c.args.moment c.args.bytes.now.bytes c.args.side c.in-Client.is (adu_value c.in-Unit.unit) c.in-Unit.used _ _
     (begins_same c.all_of.ensures.bytes c.in-Unit.ensures.true_answer)
     c.in_ok-take_command-in-Client.ensures.takes
 
 pub returns-in-Controller-clause-steps : goal.returns-in-Controller-clause-steps
 returns-in-Controller-clause-steps g c =
-    takes_of_controller c.args.asset.now c.requires.modbus c.args.moment c.args.bytes.now.bytes c.args.side c.in-Controller.is (adu_value c.in-Unit.unit) c.in-Unit.used _ _
+    takes_of_controller c.args.site.now c.requires.modbus c.args.moment c.args.bytes.now.bytes c.args.side c.in-Controller.is (adu_value c.in-Unit.unit) c.in-Unit.used _ _
     c.requires.«open» refl (c.push_octets.ensures.queue ∙ ap (after_push c.args.to_client.now) (c.sub.ensures.bytes ∙ front_is _ _ _ (own_octets (adu_value c.in-Unit.unit) c.args.bytes.now.bytes c.in-Unit.used (begins_same c.all_of.ensures.bytes c.in-Unit.ensures.true_answer)))) refl refl
     (begins_same c.all_of.ensures.bytes c.in-Unit.ensures.true_answer)
 
 pub returns-in-Controller-clause-client_grows : goal.returns-in-Controller-clause-client_grows
 returns-in-Controller-clause-client_grows g c =
     let b = begins_same c.all_of.ensures.bytes c.in-Unit.ensures.true_answer in
-    grows_modbus c.args.asset.now c.requires.modbus _ _ c.requires.of_asset c.requires.of_asset _ _ _
+    grows_modbus c.args.site.now c.requires.modbus _ _ c.requires.of_site c.requires.of_site _ _ _
     (subst (λ (q : Queue). Grows (2 * c.in-Unit.used) 0 0 c.args.to_client.now q)
     (sym (c.push_octets.ensures.queue ∙ ap (after_push c.args.to_client.now) (c.sub.ensures.bytes ∙ front_is _ _ _ (own_octets (adu_value c.in-Unit.unit) c.args.bytes.now.bytes c.in-Unit.used (begins_same c.all_of.ensures.bytes c.in-Unit.ensures.true_answer)))))
     (grows_push (2 * c.in-Unit.used) c.args.to_client.now (spelling (adu_value c.in-Unit.unit)) (omega (arith, adu_length _ _ _ b))))
 
 pub returns-in_err-take_command-in-Client-clause-misses : goal.returns-in_err-take_command-in-Client-clause-misses
 returns-in_err-take_command-in-Client-clause-misses g c =
-    on_err _ _ (misses_unit c.args.asset.now c.requires.modbus c.args.moment c.args.side c.in-Client.is c.args.bytes.now.bytes (adu_value c.in-Unit.unit) c.in-Unit.used _ _ _
+    on_err _ _ (misses_unit c.args.site.now c.requires.modbus c.args.moment c.args.side c.in-Client.is c.args.bytes.now.bytes (adu_value c.in-Unit.unit) c.in-Unit.used _ _ _
     (begins_same c.all_of.ensures.bytes c.in-Unit.ensures.true_answer)
     c.in_err-take_command-in-Client.ensures.misses)
 

@@ -1,7 +1,7 @@
 use Rattle.std.proofs.Common.{rules, map, ◌≡◌, ◌++◌, ◌∷◌, [], refl, subst, sym, ap, ◌∙◌, List, length}
-use Rattle.cf_lane.specs.Rates.{used_at}
+use Rattle.cf_lane.specs.Rates.{own_used_at}
 use Rattle.cf_lane.specs.Ring.{RingValue, ring_rate}
-use Rattle.cf_lane.specs.Rings.{AreNoted, KnowRings}
+use Rattle.cf_lane.specs.Rings.{AreNoted, KnowOwnRings}
 use Rattle.cf_lane.proofs.Rated.{rings_go_on, rates_go_on, whole_written}
 use Rattle.cf_lane.proofs.rules.Rules.note.Goals as goal
 
@@ -16,6 +16,6 @@ returns c =
     record {
       index = refl;
       rings = ap (map ring_rate) whole ∙ rates_go_on used c.args.moment old new noted;
-      know = λ past earlier j f at know. subst (λ rings. KnowRings rings (used_at past (earlier ++ j ∷ []))) (sym whole)
+      know = λ past earlier j f at know. subst (λ rings. KnowOwnRings rings (own_used_at past (earlier ++ j ∷ []))) (sym whole)
           (rings_go_on c.args.admission.now c.args.moment old new noted past earlier j f at know);
     }

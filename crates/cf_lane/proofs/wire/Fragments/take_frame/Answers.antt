@@ -7,7 +7,8 @@ use Rattle.cf_outside.specs.Desk.{DeskValue}
 use Rattle.cf_lane.proofs.Dnp3Frames.{misses_data, misses_stray, none_by, takes_data, takes_stray, takes_status}
 use Rattle.cf_lane.proofs.Dnp3Growth.{data_grows, data_room, still_fragments}
 use Rattle.cf_lane.proofs.Failing.{on_err}
-use Rattle.cf_lane.specs.Fragments.{owed_by, parts}
+use Rattle.cf_lane.specs.Fragments.{parts}
+use Rattle.cf_lane.specs.Kept.{owed_by}
 use Rattle.cf_lane.specs.Handled.{Grows, HasRoom}
 use Rattle.cf_lane.specs.History.{is_side}
 use Rattle.cf_view.specs.declared.Side.TheVariants as side

@@ -23,7 +23,7 @@ returns-then-is_closed-clause-goes g c = (
 
 pub turns-smaller : goal.turns-smaller
 turns-smaller g c =
-    goes_nearer c.args.asset.now c.args.most (relaying_value c.turns.self) (relaying_value c.turn.new.self) c.in_ok-turn.ensures.sound c.in_ok-turn.ensures.moves
+    goes_nearer c.args.site.now c.args.most (relaying_value c.turns.self) (relaying_value c.turn.new.self) c.in_ok-turn.ensures.sound c.in_ok-turn.ensures.moves
     (λ closed. not_both c.is_closed.result c.if-is_closed.false (c.is_closed.ensures.1 closed))
 
 pub turns-preserved : goal.turns-preserved

@@ -11,11 +11,11 @@ abbrev pub invariant-turns : goal.invariant-turns
 invariant-turns g l =
     record {
       count : ℕ;
-      goes : DoesBetween l.fn.asset l.most (turns both.Together count)
+      goes : DoesBetween l.fn.site l.most (turns both.Together count)
           (scene (relaying_value l.fn.self) (link_value g.L.Links l.fn.session l.fn.links) (g.D.Desk.value l.fn.desk))
           (scene (relaying_value l.self) (link_value g.L.Links l.fn.session l.links) (g.D.Desk.value l.desk));
       place : g.L.Links.place l.links ≡ g.L.Links.place l.fn.links;
-      sound : IsSound l.fn.asset l.most (relaying_value l.self);
+      sound : IsSound l.fn.site l.most (relaying_value l.self);
       still : AreClosed (relaying_value l.self) → ⊥;
       whole : (g.D.Desk.value l.desk).whole ≡ true;
       buffer : length l.buf ≡ MOST_BYTES;

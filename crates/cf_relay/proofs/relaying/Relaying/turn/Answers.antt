@@ -8,60 +8,60 @@ use Rattle.cf_relay.proofs.relaying.Relaying.turn.Goals as goal
 pub returns-in_err-tell-clause-stops : goal.returns-in_err-tell-clause-stops
 returns-in_err-tell-clause-stops g c =
     handed_on c.from_residual.result c.in_err-tell.field-0.0 _ c.from_residual.ensures.1
-    (stops_more _ (c.in_err-tell.ensures.stops c.args.asset.now c.args.most (g.D.Desk.value c.args.desk.now) c.requires.sound.few))
+    (stops_more _ (c.in_err-tell.ensures.stops c.args.site.now c.args.most (g.D.Desk.value c.args.desk.now) c.requires.sound.few))
 
 pub take-requires-clause-sound : goal.take-requires-clause-sound
-take-requires-clause-sound g c = c.tell.ensures.sound c.args.asset.now c.args.most c.requires.sound
+take-requires-clause-sound g c = c.tell.ensures.sound c.args.site.now c.args.most c.requires.sound
 
 pub returns-in_err-take-clause-stops : goal.returns-in_err-take-clause-stops
 returns-in_err-take-clause-stops g c =
     handed_on c.from_residual-in_err-take.result c.in_err-take.field-0.0 _ c.from_residual-in_err-take.ensures.1
-    (goes_stops (c.in_ok-tell.ensures.goes c.args.asset.now c.args.most (g.D.Desk.value c.args.desk.now) c.requires.sound.few)
+    (goes_stops (c.in_ok-tell.ensures.goes c.args.site.now c.args.most (g.D.Desk.value c.args.desk.now) c.requires.sound.few)
     (stops_more _ c.in_err-take.ensures.stops))
 
 pub returns-in_err-take-2-clause-stops : goal.returns-in_err-take-2-clause-stops
 returns-in_err-take-2-clause-stops g c =
     handed_on c.from_residual-in_err-take-2.result c.in_err-take-2.field-0.0 _ c.from_residual-in_err-take-2.ensures.1
-    (goes_stops (c.in_ok-tell.ensures.goes c.args.asset.now c.args.most (g.D.Desk.value c.args.desk.now) c.requires.sound.few)
+    (goes_stops (c.in_ok-tell.ensures.goes c.args.site.now c.args.most (g.D.Desk.value c.args.desk.now) c.requires.sound.few)
     (goes_stops c.in_ok-take.ensures.goes (stops_more _ c.in_err-take-2.ensures.stops)))
 
 pub returns-in_err-serve-clause-stops : goal.returns-in_err-serve-clause-stops
 returns-in_err-serve-clause-stops g c =
     handed_on c.from_residual-in_err-serve.result c.in_err-serve.field-0.0 _ c.from_residual-in_err-serve.ensures.1
-    (goes_stops (c.in_ok-tell.ensures.goes c.args.asset.now c.args.most (g.D.Desk.value c.args.desk.now) c.requires.sound.few)
+    (goes_stops (c.in_ok-tell.ensures.goes c.args.site.now c.args.most (g.D.Desk.value c.args.desk.now) c.requires.sound.few)
     (goes_stops c.in_ok-take.ensures.goes
     (goes_stops c.in_ok-take-2.ensures.goes
-    (stops_more _ (c.in_err-serve.ensures.stops c.args.asset.now (g.D.Desk.value c.take-2.new.desk))))))
+    (stops_more _ (c.in_err-serve.ensures.stops c.args.site.now (g.D.Desk.value c.take-2.new.desk))))))
 
 pub returns-clause-goes : goal.returns-clause-goes
 returns-clause-goes g c =
     on_ok c.serve-2.result _ _
-    (λ last. goes_then (c.in_ok-tell.ensures.goes c.args.asset.now c.args.most (g.D.Desk.value c.args.desk.now) c.requires.sound.few)
+    (λ last. goes_then (c.in_ok-tell.ensures.goes c.args.site.now c.args.most (g.D.Desk.value c.args.desk.now) c.requires.sound.few)
     (goes_then c.in_ok-take.ensures.goes (goes_then c.in_ok-take-2.ensures.goes
-    (goes_then (c.in_ok-serve.ensures.goes c.args.asset.now (g.D.Desk.value c.take-2.new.desk))
-    (last c.args.asset.now (g.D.Desk.value c.take-2.new.desk))))))
+    (goes_then (c.in_ok-serve.ensures.goes c.args.site.now (g.D.Desk.value c.take-2.new.desk))
+    (last c.args.site.now (g.D.Desk.value c.take-2.new.desk))))))
     c.serve-2.ensures.goes
 
 pub returns-clause-stops : goal.returns-clause-stops
 returns-clause-stops g c =
     if_err c.serve-2.result _ _
-    (λ why last. goes_stops (c.in_ok-tell.ensures.goes c.args.asset.now c.args.most (g.D.Desk.value c.args.desk.now) c.requires.sound.few)
+    (λ why last. goes_stops (c.in_ok-tell.ensures.goes c.args.site.now c.args.most (g.D.Desk.value c.args.desk.now) c.requires.sound.few)
     (goes_stops c.in_ok-take.ensures.goes (goes_stops c.in_ok-take-2.ensures.goes
-    (goes_stops (c.in_ok-serve.ensures.goes c.args.asset.now (g.D.Desk.value c.take-2.new.desk))
-    (last c.args.asset.now (g.D.Desk.value c.take-2.new.desk))))))
+    (goes_stops (c.in_ok-serve.ensures.goes c.args.site.now (g.D.Desk.value c.take-2.new.desk))
+    (last c.args.site.now (g.D.Desk.value c.take-2.new.desk))))))
     c.serve-2.ensures.stops
 
 pub returns-clause-moves : goal.returns-clause-moves
 returns-clause-moves g c =
     on_ok c.serve-2.result _ _
-    (turn_moves c.args.directions c.args.most _ (relaying_value c.tell.new.self) (relaying_value c.take.new.self) (relaying_value c.take-2.new.self) (relaying_value c.serve.new.self) _ c.tell.ensures.unmoved c.in_ok-take.ensures.moves c.in_ok-take-2.ensures.moves
+    (turn_moves c.args.directions c.args.site.now c.requires.within c.args.most _ (relaying_value c.tell.new.self) (relaying_value c.take.new.self) (relaying_value c.take-2.new.self) (relaying_value c.serve.new.self) _ c.tell.ensures.unmoved c.in_ok-take.ensures.moves c.in_ok-take-2.ensures.moves
     c.in_ok-serve.ensures.moves)
     c.serve-2.ensures.moves
 
 pub returns-in_err-tell-clause-lane : goal.returns-in_err-tell-clause-lane
 returns-in_err-tell-clause-lane g c =
     handed_on c.from_residual.result c.in_err-tell.field-0.0 _ c.from_residual.ensures.1
-    (keeps_any c.args.asset.now _ _ _ c.tell.ensures.lane c.requires.sound.of_asset)
+    (keeps_any c.args.site.now _ _ _ c.tell.ensures.lane c.requires.sound.of_site)
 
 pub returns-in_err-take-clause-lane : goal.returns-in_err-take-clause-lane
 returns-in_err-take-clause-lane g c =
@@ -74,8 +74,8 @@ returns-in_err-take-2-clause-lane g c =
 pub returns-in_err-serve-clause-lane : goal.returns-in_err-serve-clause-lane
 returns-in_err-serve-clause-lane g c =
     handed_on c.from_residual-in_err-serve.result c.in_err-serve.field-0.0 _ c.from_residual-in_err-serve.ensures.1
-    (keeps_any c.args.asset.now _ _ _ c.serve.ensures.lane c.in_ok-take-2.ensures.sound.of_asset)
+    (keeps_any c.args.site.now _ _ _ c.serve.ensures.lane c.in_ok-take-2.ensures.sound.of_site)
 
 pub returns-clause-lane : goal.returns-clause-lane
 returns-clause-lane g c =
-    keeps_each c.args.asset.now _ _ (c.serve-2.ensures.lane ∙ c.serve.ensures.lane) c.in_ok-take-2.ensures.sound.of_asset c.serve-2.result
+    keeps_each c.args.site.now _ _ (c.serve-2.ensures.lane ∙ c.serve.ensures.lane) c.in_ok-take-2.ensures.sound.of_site c.serve-2.result

@@ -24,7 +24,7 @@ returns-in_err-log_line-clause-breaks g c = on_err c.from_residual-in_err-log_li
     c.args.self.now.debt c.turn-answer.result c.is_closed.result c.in-Some.end c.turn-answer.ensures.goes
     c.turn-answer.ensures.sound c.turn-answer.ensures.stops c.is_closed.ensures (sym c.in_ok-end.ensures.end ∙ c.in-Some.is))
     (subst (λ l. MayHaveMore (l ∷ []) (g.D.Desk.value c.turn-answer.new.desk).lines (g.D.Desk.value c.log_line.new.desk).lines (g.D.Desk.value c.log_line.new.desk).line_part)
-    (said c.args.terms.now.asset.now c.args.self.now.met _ _ _ c.in-Some.end _ _ _ _ c.moment.ensures c.last_what-what.ensures c.admitted.ensures c.refused-2.ensures)
+    (said c.args.terms.now.site.now c.args.self.now.met _ _ _ c.in-Some.end _ _ _ _ c.moment.ensures c.last_what-what.ensures c.admitted.ensures c.refused-2.ensures)
     c.in_err-log_line.ensures.fails) _ refl)
 
 pub returns-in_err-log_line-clause-log : goal.returns-in_err-log_line-clause-log
@@ -37,7 +37,7 @@ returns-clause-does g c = λ left client.
     c.args.self.now.debt c.turn-answer.result c.is_closed.result c.in-Some.end c.turn-answer.ensures.goes
     c.turn-answer.ensures.sound c.turn-answer.ensures.stops c.is_closed.ensures (sym c.in_ok-end.ensures.end ∙ c.in-Some.is)) left
     (subst (λ l. (g.D.Desk.value c.log_line.new.desk).lines ≡ with_lines (g.D.Desk.value c.turn-answer.new.desk).lines (l ∷ []))
-    (said c.args.terms.now.asset.now c.args.self.now.met _ _ _ c.in-Some.end _ _ _ _ c.moment.ensures c.last_what-what.ensures c.admitted.ensures c.refused-2.ensures)
+    (said c.args.terms.now.site.now c.args.self.now.met _ _ _ c.in-Some.end _ _ _ _ c.moment.ensures c.last_what-what.ensures c.admitted.ensures c.refused-2.ensures)
     c.in_ok-log_line.ensures.lines)
 
 pub returns-clause-log : goal.returns-clause-log
@@ -45,4 +45,4 @@ returns-clause-log g c =
     writes_both _ _ _ (turn_writes _ _ _ _ _ _ _ _ c.turn-answer.result c.turn-answer.ensures.goes c.turn-answer.ensures.stops) c.in_ok-log_line.ensures.log
 
 pub returns-clause-lane : goal.returns-clause-lane
-returns-clause-lane g c = lane_by c.args.terms.now.asset.now c.args.terms.now.most c.args.self.now.met c.args.self.now.debt _ c.turn-answer.result c.in_ok-end.ensures.fine c.turn-answer.ensures.sound c.turn-answer.ensures.lane
+returns-clause-lane g c = lane_by c.args.terms.now.site.now c.args.terms.now.most c.args.self.now.met c.args.self.now.debt _ c.turn-answer.result c.in_ok-end.ensures.fine c.turn-answer.ensures.sound c.turn-answer.ensures.lane

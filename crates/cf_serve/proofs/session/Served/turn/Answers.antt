@@ -11,7 +11,7 @@ pub returns-in-Ended-clause-does : goal.returns-in-Ended-clause-does
 returns-in-Ended-clause-does g c =
     ended_turn (listening_of c.args.terms.now) c.args.terms.now.most c.args.self.now.client c.args.self.now.number (g.L.Links.told c.args.links.now)
     (told_of g.L.Links c.args.self.now.number c.reach.new.links) (g.D.Desk.value c.args.desk.now).lines (g.D.Desk.value c.reach.new.desk).lines
-    (rings_for c.args.terms.now.asset.now c.args.keeping.now c.args.terms.now.place c.args.self.now.client.address)
+    (rings_for c.args.terms.now.site.now c.args.keeping.now c.args.terms.now.place c.args.self.now.client.address)
     (option_map linked_value c.args.self.now.linked) c.in_ok-reach-in-None.field-0 c.in-Ended.end (ap (option_map linked_value) c.in-None.is) c.in-Ended.is
     c.in_ok-reach-in-None.ensures.does
 
@@ -26,6 +26,6 @@ pub returns-in-Begun-clause-does : goal.returns-in-Begun-clause-does
 returns-in-Begun-clause-does g c =
     begun_turn (listening_of c.args.terms.now) c.args.terms.now.most c.args.self.now.client c.args.self.now.number (g.L.Links.told c.args.links.now)
     (told_of g.L.Links c.args.self.now.number c.reach.new.links) (g.D.Desk.value c.args.desk.now).lines (g.D.Desk.value c.reach.new.desk).lines
-    (rings_for c.args.terms.now.asset.now c.args.keeping.now c.args.terms.now.place c.args.self.now.client.address)
+    (rings_for c.args.terms.now.site.now c.args.keeping.now c.args.terms.now.place c.args.self.now.client.address)
     (option_map linked_value c.args.self.now.linked) _ c.in_ok-reach-in-None.field-0 c.in-Begun.linked (ap (option_map linked_value) c.in-None.is) c.in-Begun.is refl
     c.in_ok-reach-in-None.ensures.does

@@ -51,7 +51,7 @@ pub returns-in-None-clause-does : goal.returns-in-None-clause-does
 returns-in-None-clause-does g c = λ most.
     let f = c.args.self.now.lobby in
     let why = c.in-Some.closing in
-    closed_quiet _ most c.args.moment c.args.place f _ _ _ c.in-Came.client _ _ _ (listening_at c.place_of-at.result) c.place_of-at.ensures.place
+    closed_quiet _ most c.args.moment c.args.place f _ _ _ c.in-Came.client _ _ _ (listening_at c.place_of-at.result.now) c.place_of-at.ensures.place
     why (sym c.in-Some.is ∙ c.closing.ensures) _ c.in-Came.ensures.entry c.leave.ensures.entry c.close.ensures.lobby refl
     (not_due (has_line why f c.args.place c.args.moment c.in-Came.client.address) (came_by why f c.args.place) c.close.result c.close.ensures.says c.in-None.is)
 
@@ -62,7 +62,7 @@ returns-in-Some-close-clause-does g c =
     let d = due (has_line why f c.args.place c.args.moment c.in-Came.client.address) (came_by why f c.args.place) c.in-Some-close.came c.close.result
     c.close.ensures.says c.in-Some-close.is in
     for_all _ c.log_line.result (λ most.
-    closed_said _ most c.args.moment c.args.place f _ _ _ c.in-Came.client _ _ _ (listening_at c.place_of-at.result) c.place_of-at.ensures.place
+    closed_said _ most c.args.moment c.args.place f _ _ _ c.in-Came.client _ _ _ (listening_at c.place_of-at.result.now) c.place_of-at.ensures.place
     why (sym c.in-Some.is ∙ c.closing.ensures) _ c.in-Came.ensures.entry c.leave.ensures.entry c.close.ensures.lobby d.0
     c.log_line.result (rw (c.line.ensures.value, d.1) at c.log_line.ensures.lines))
 
@@ -73,7 +73,7 @@ returns-in-Some-close-clause-breaks g c =
     let d = due (has_line why f c.args.place c.args.moment c.in-Came.client.address) (came_by why f c.args.place) c.in-Some-close.came c.close.result
     c.close.ensures.says c.in-Some-close.is in
     err_for_all _ _ c.log_line.result (λ most.
-    closed_missed _ most c.args.moment c.args.place f _ _ _ c.in-Came.client _ _ _ (listening_at c.place_of-at.result) c.place_of-at.ensures.place
+    closed_missed _ most c.args.moment c.args.place f _ _ _ c.in-Came.client _ _ _ (listening_at c.place_of-at.result.now) c.place_of-at.ensures.place
     why (sym c.in-Some.is ∙ c.closing.ensures) _ c.in-Came.ensures.entry c.leave.ensures.entry c.close.ensures.lobby d.0
     _) (rw (c.line.ensures.value, d.1) at c.log_line.ensures.fails)
 
@@ -85,9 +85,9 @@ returns-in_default-clause-table g c = λ most. rw c.take_in.ensures.keeping (λ 
 
 pub returns-in_default-clause-does : goal.returns-in_default-clause-does
 returns-in_default-clause-does g c = λ most.
-    came_in _ most c.args.moment c.args.place c.args.self.now.lobby _ _ _ c.in-Came.client _ _ _ (listening_at c.place_of-at.result)
+    came_in _ most c.args.moment c.args.place c.args.self.now.lobby _ _ _ c.in-Came.client _ _ _ (listening_at c.place_of-at.result.now)
     c.place_of-at.ensures.place _ c.in-Came.ensures.entry (sym c.in_default.is ∙ c.closing.ensures) c.take_in.ensures.items c.take_in.ensures.lobby refl
 
 pub returns-in_default-clause-calm : goal.returns-in_default-clause-calm
 returns-in_default-clause-calm g c =
-    calm_taken (listenings c.args.places.now) (listening_at c.place_of-at.result) _ _ _ _ _ _ _ c.place_of-at.ensures.place c.take_in.ensures.items c.take_in.ensures.has_new
+    calm_taken (listenings c.args.places.now) (listening_at c.place_of-at.result.now) _ _ _ _ _ _ _ c.place_of-at.ensures.place c.take_in.ensures.items c.take_in.ensures.has_new

@@ -24,4 +24,4 @@ returns c = λ served is.
     let x = c.index-served.result.now in
     let there = slice_at xs c.args.index x c.requires.index c.index-served.ensures in
     subst (λ (z : Served). c.came_again.result ≡ must_end (listenings c.args.places.now) (seats_of (map phase_of xs)) (phase_of z).seat) (same_Some x served (sym there ∙ is))
-    (c.came_again.ensures ∙ came_is (listenings c.args.places.now) xs c.args.index x c.args.self.now.has_new (listening_at c.place_of-place.result) there c.place_of-place.ensures.place c.requires.calm)
+    (c.came_again.ensures ∙ came_is (listenings c.args.places.now) xs c.args.index x c.args.self.now.has_new (listening_at c.place_of-place.result.now) there c.place_of-place.ensures.place c.requires.calm)

@@ -13,9 +13,9 @@ pub loop-number-preserved : goal.loop-number-preserved
 loop-number-preserved g c =
     let i = c.loop-number.invariant in
     record {
-      does = says_then _ _ _ _ c.loop-number.number _ _ i.does c.place_of-place.result c.place_of-place.ensures.is _
+      does = says_then _ _ _ _ c.loop-number.number _ _ i.does c.place_of-place.result.now c.place_of-place.ensures.is _
           (subst (λ l. (g.D.Desk.value c.log_line.new.desk).lines ≡ with_lines (g.D.Desk.value c.loop-number.desk).lines (l ∷ []))
-          (said_as c.place_of-place.result _ _ _ _ c.args.moment c.count_at.ensures c.tally_at-tally.ensures) c.in_ok-log_line.ensures.lines);
+          (said_as c.place_of-place.result.now _ _ _ _ c.args.moment c.count_at.ensures c.tally_at-tally.ensures) c.in_ok-log_line.ensures.lines);
       whole = c.in_ok-log_line.ensures.whole;
       log = writes_both _ _ _ i.log c.log_line.ensures.log;
       later = omega (arith, i.later, c.log_line.ensures.cause.later);
@@ -28,6 +28,6 @@ pub returns-in_err-log_line-clause-breaks : goal.returns-in_err-log_line-clause-
 returns-in_err-log_line-clause-breaks g c =
     let i = c.loop-number.invariant in
     on_err c.from_residual.result _
-    (says_missed _ _ _ _ c.loop-number.number _ _ i.does c.place_of-place.result c.place_of-place.ensures.is _ _
+    (says_missed _ _ _ _ c.loop-number.number _ _ i.does c.place_of-place.result.now c.place_of-place.ensures.is _ _
     (subst (λ l. MayHaveMore (l ∷ []) (g.D.Desk.value c.loop-number.desk).lines (g.D.Desk.value c.log_line.new.desk).lines (g.D.Desk.value c.log_line.new.desk).line_part)
-    (said_as c.place_of-place.result _ _ _ _ c.args.moment c.count_at.ensures c.tally_at-tally.ensures) c.in_err-log_line.ensures.fails))
+    (said_as c.place_of-place.result.now _ _ _ _ c.args.moment c.count_at.ensures c.tally_at-tally.ensures) c.in_err-log_line.ensures.fails))

@@ -23,12 +23,12 @@ turn_one-requires-clause-serves g c = (may_go (phases_at _ _ _ c.requires.index 
 
 pub turn_one-requires-clause-may : goal.turn_one-requires-clause-may
 turn_one-requires-clause-may g c =
-    (may_go (phases_at _ _ _ c.requires.index c.index_mut-served.ensures.value) c.requires.table).may (listening_at c.place_of-place.result) c.place_of-place.ensures.place
+    (may_go (phases_at _ _ _ c.requires.index c.index_mut-served.ensures.value) c.requires.table).may (listening_at c.place_of-place.result.now) c.place_of-place.ensures.place
 
 pub turn_one-requires-clause-fits : goal.turn_one-requires-clause-fits
 turn_one-requires-clause-fits g c =
     fits_for (listenings c.args.places.now) c.args.self.now.keeping c.requires.table.fits c.index_mut-served.result.now.place c.index_mut-served.result.now.client.address
-    (listening_at c.place_of-place.result) c.place_of-place.ensures.place
+    (listening_at c.place_of-place.result.now) c.place_of-place.ensures.place
 
 pub add-requires : goal.add-requires
 add-requires g c =
@@ -39,12 +39,12 @@ pub keep_rings-requires-clause-lent : goal.keep_rings-requires-clause-lent
 keep_rings-requires-clause-lent g c =
     let s = phases_at _ _ _ c.requires.index c.index_mut-served.ensures.value in
     let gone = removed_is _ _ c.turn_one.new.served _ c.requires.index c.remove-served.ensures.value ∙ c.turn_one.ensures.same in
-    subst (λ (z : Served). HasLent c.place_of-place.result.asset.now c.turn_one.new.keeping (phase_of z).seat (phase_of z).linked) (sym gone)
+    subst (λ (z : Served). HasLent c.place_of-place.result.now.site c.turn_one.new.keeping (phase_of z).seat (phase_of z).linked) (sym gone)
     (its_lent s c.requires.table c.place_of-place.ensures.place c.turn_one.new.served c.in_ok-stays.ensures.keeps)
 
 pub keep_rings-requires-clause-lane : goal.keep_rings-requires-clause-lane
 keep_rings-requires-clause-lane g c =
-    subst (λ (z : Served). HasLane c.place_of-place.result.asset.now (phase_of z).linked) (sym (removed_is _ _ c.turn_one.new.served _ c.requires.index c.remove-served.ensures.value))
+    subst (λ (z : Served). HasLane c.place_of-place.result.now.site (phase_of z).linked) (sym (removed_is _ _ c.turn_one.new.served _ c.requires.index c.remove-served.ensures.value))
     c.in_ok-stays.ensures.keeps.lane
 
 pub returns-else-not-stays-clause-table : goal.returns-else-not-stays-clause-table
@@ -55,7 +55,7 @@ returns-else-not-stays-clause-table g c =
     let at = c.place_of-place.ensures.place in
     table_stays s c.requires.table y c.turn_one.ensures.same (g.L.Links.place c.args.links.now) (g.L.Links.place c.turn_one.new.links) c.in_ok-stays.stays refl
     c.if-not-stays.false c.in_ok-stays.ensures.place
-    (at_place (listenings c.args.places.now) c.index_mut-served.result.now.place (listening_at c.place_of-place.result) at (λ (o : Listening). MayTurn o c.args.most (phase_of y).linked)
+    (at_place (listenings c.args.places.now) c.index_mut-served.result.now.place (listening_at c.place_of-place.result.now) at (λ (o : Listening). MayTurn o c.args.most (phase_of y).linked)
     (c.in_ok-stays.ensures.may c.if-not-stays.false))
     c.turn_one.new.keeping (fits_now s c.requires.table at y k) (lasts_now s c.requires.table at y k) (its_lent_at s c.requires.table at y k)
 

@@ -24,7 +24,7 @@ returns-clause-begins g c = λ f is number made.
     let first = first_said c.events_begin.ensures (controller_ends f) f.syn.seq (c.args.moment - 1) d0 d1 d2 later refl m.controller m.controller_list
     (subst (λ n. Greeted c.args.moment n c.self.inside.controller c.greet.new.self d0 d1 false) (sym number) c.in_ok-greet.ensures.greeted) c.in_ok-speak.ensures.spoken c.in_ok-greet.ensures.ends c.in_ok-speak.ensures.ends c.greet.ensures.frame.lines c.speak.ensures.frame.lines in
     let text = line_is f Begun is m.source later in
-    let put = told_lines d2 (g.D.Desk.value c.log_line.new.desk) (line_about c.args.asset.now c.self.inside.source c.args.moment Begun ∷ []) c.log_line.ensures.frame.packets c.in_ok-log_line.ensures.lines
+    let put = told_lines d2 (g.D.Desk.value c.log_line.new.desk) (line_about c.args.site.now.first c.self.inside.source c.args.moment Begun ∷ []) c.log_line.ensures.frame.packets c.in_ok-log_line.ensures.lines
     ∙ ap (λ (l : List _). with_both (told d2) [] (l ∷ [])) text in
     begins_of c.events_begin.ensures f (c.args.moment - 1) _ m _ _ _ _ _ first.stands (still_pending c.self.inside.controller.ends.role c.self.inside.controller.window c.greet.new.self.window c.speak.new.self.window c.in_ok-greet.ensures.window c.in_ok-speak.ensures.window) (c.speak.ensures.stands _ m.controller_list) first.told put
 

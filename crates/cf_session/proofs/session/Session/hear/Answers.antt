@@ -21,7 +21,7 @@ returns-in_ok-heard-in-Client-clause-hears g c = λ flow es t is half at stands.
     let t0 = told (g.D.Desk.value c.args.desk.now) in
     let t1 = told (g.D.Desk.value c.hear.new.desk) in
     subst (λ s. HeardBy flow es t s (packet_value c.args.packet.now) new c.in_ok-heard-in-Client.heard.answer c.in_ok-heard-in-Client.heard.cut t0 t1) (sym c.in-Client.is)
-    (client_at flow es t half (packet_value c.args.packet.now) old h new c.in_ok-heard-in-Client.heard.answer c.in_ok-heard-in-Client.heard.cut t0 t1 c.args.asset.now is c.args.moment at x refl c.in_ok-heard-in-Client.ensures.room.other_pushed)
+    (client_at flow es t half (packet_value c.args.packet.now) old h new c.in_ok-heard-in-Client.heard.answer c.in_ok-heard-in-Client.heard.cut t0 t1 c.args.site.now is c.args.moment at x refl c.in_ok-heard-in-Client.ensures.room.other_pushed)
 
 pub returns-in_ok-heard-in-Controller-clause-hears : goal.returns-in_ok-heard-in-Controller-clause-hears
 returns-in_ok-heard-in-Controller-clause-hears g c = λ flow es t is half at stands.
@@ -34,7 +34,7 @@ returns-in_ok-heard-in-Controller-clause-hears g c = λ flow es t is half at sta
     let t0 = told (g.D.Desk.value c.args.desk.now) in
     let t1 = told (g.D.Desk.value c.hear-in-Controller.new.desk) in
     subst (λ s. HeardBy flow es t s (packet_value c.args.packet.now) new c.in_ok-heard-in-Controller.heard.answer c.in_ok-heard-in-Controller.heard.cut t0 t1) (sym c.in-Controller.is)
-    (controller_at flow es t half (packet_value c.args.packet.now) old h new c.in_ok-heard-in-Controller.heard.answer c.in_ok-heard-in-Controller.heard.cut t0 t1 c.args.asset.now is c.args.moment at x refl c.in_ok-heard-in-Controller.ensures.room.other_pushed)
+    (controller_at flow es t half (packet_value c.args.packet.now) old h new c.in_ok-heard-in-Controller.heard.answer c.in_ok-heard-in-Controller.heard.cut t0 t1 c.args.site.now is c.args.moment at x refl c.in_ok-heard-in-Controller.ensures.room.other_pushed)
 
 pub returns-in_err-heard-in-Client-clause-broken : goal.returns-in_err-heard-in-Client-clause-broken
 returns-in_err-heard-in-Client-clause-broken g c =
@@ -47,7 +47,7 @@ returns-in_err-heard-in-Client-clause-broken g c =
     let d0 = g.D.Desk.value c.args.desk.now in
     let d1 = g.D.Desk.value c.hear.new.desk in
     subst (λ s. HeardAmid flow es t s (packet_value c.args.packet.now) d0 d1) (sym c.in-Client.is)
-    (heard_amid flow es t half (packet_value c.args.packet.now) old h d0 d1 c.args.asset.now is c.args.moment at side.Client x))
+    (heard_amid flow es t half (packet_value c.args.packet.now) old h d0 d1 c.args.site.now is c.args.moment at side.Client x))
 
 pub returns-in_err-heard-in-Controller-clause-broken : goal.returns-in_err-heard-in-Controller-clause-broken
 returns-in_err-heard-in-Controller-clause-broken g c =
@@ -60,4 +60,4 @@ returns-in_err-heard-in-Controller-clause-broken g c =
     let d0 = g.D.Desk.value c.args.desk.now in
     let d1 = g.D.Desk.value c.hear-in-Controller.new.desk in
     subst (λ s. HeardAmid flow es t s (packet_value c.args.packet.now) d0 d1) (sym c.in-Controller.is)
-    (heard_amid flow es t half (packet_value c.args.packet.now) old h d0 d1 c.args.asset.now is c.args.moment at side.Controller x))
+    (heard_amid flow es t half (packet_value c.args.packet.now) old h d0 d1 c.args.site.now is c.args.moment at side.Controller x))

@@ -40,8 +40,8 @@ returns-clause-hears g c = λ flow es t is stands tick at.
     let qc = c.in_ok-speak.ensures.client_stands heard.by.work.to_client heard.by.parts.to_client in
     let qk = c.in_ok-speak.ensures.controller_stands heard.by.work.to_controller heard.by.parts.to_controller in
     let only = c.in_ok-speak.ensures.only in
-    let done = hears_live heard because uncut s2 s3 t2 t3 says only qc qk c.close.ensures.same c.in_ok-close.ensures.closed c.args.asset.now is c.in_ok-close.ensures.told in
-    let stay = lives_three heard because uncut s2 s3 t2 t3 says only qc qk c.close.ensures.same c.in_ok-close.ensures.closed c.args.asset.now is c.in_ok-close.ensures.told in
+    let done = hears_live heard because uncut s2 s3 t2 t3 says only qc qk c.close.ensures.same c.in_ok-close.ensures.closed c.args.site.now is c.in_ok-close.ensures.told in
+    let stay = lives_three heard because uncut s2 s3 t2 t3 says only qc qk c.close.ensures.same c.in_ok-close.ensures.closed c.args.site.now is c.in_ok-close.ensures.told in
     let p = packet_value c.args.packet.now in
     subst (HearsBy flow s0.limit es t c.args.side p s3 t0 t3) (sym c.life_of.ensures.value)
     (hears_by flow s0.limit es t c.args.side p s3 t0 t3 c.self-2.inside.closed _ done stay (ap (λ (s : SessionValue). s.closed) c.self-2.view_is ∙ stay.closed))
@@ -50,7 +50,7 @@ pub returns-clause-sound : goal.returns-clause-sound
 returns-clause-sound g c = λ life.
     let because = reason_is c.args.side c.in_ok-heard.heard.answer c.in_ok-heard.heard.cut c.self.view_is c.is_some.ensures c.is_reset.ensures c.full-full.ensures (sym c.in_default.is ∙ c.why.ensures) in
     let short = is_short c.args.side c.in_ok-heard.heard.answer c.in_ok-heard.heard.cut c.hear.new.self c.in_ok-heard.ensures.steady because in
-    sound_after c.args.asset.now c.hear.new.self c.speak.new.self c.close.new.self c.args.moment c.requires.sound.within c.in_ok-heard.ensures.serves c.in_ok-speak.ensures.only c.in_ok-speak.ensures.steady short c.close.ensures.same c.in_ok-close.ensures.closed
+    sound_after c.args.site.now c.hear.new.self c.speak.new.self c.close.new.self c.args.moment c.requires.sound.within c.in_ok-heard.ensures.serves c.in_ok-speak.ensures.only c.in_ok-speak.ensures.steady short c.close.ensures.same c.in_ok-close.ensures.closed
 
 pub returns-in_err-heard-clause-broken : goal.returns-in_err-heard-clause-broken
 returns-in_err-heard-clause-broken g c =
@@ -93,7 +93,7 @@ returns-in_err-close-clause-broken g c =
     let says = says_here heard s2 (told d2) c.greeting_number.ensures c.in_ok-speak.ensures.says in
     let qc = c.in_ok-speak.ensures.client_stands heard.by.work.to_client heard.by.parts.to_client in
     let qk = c.in_ok-speak.ensures.controller_stands heard.by.work.to_controller heard.by.parts.to_controller in
-    close_failed d0 d1 heard c.in_ok-heard.ensures.frame because uncut s2 d2 d3 says c.in_ok-speak.ensures.only qc qk c.args.asset.now is c.in_ok-speak.ensures.frame c.in_err-close.ensures.broken)
+    close_failed d0 d1 heard c.in_ok-heard.ensures.frame because uncut s2 d2 d3 says c.in_ok-speak.ensures.only qc qk c.args.site.now is c.in_ok-speak.ensures.frame c.in_err-close.ensures.broken)
 
 pub returns-in_err-close-clause-frame : goal.returns-in_err-close-clause-frame
 returns-in_err-close-clause-frame g c =

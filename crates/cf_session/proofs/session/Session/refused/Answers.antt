@@ -7,4 +7,4 @@ use Rattle.cf_session.proofs.session.Session.refused.Goals as goal
 pub returns-clause-counts : goal.returns-clause-counts
 returns-clause-counts c = λ flow es e stands.
     let s = subst (IsSessionOf flow es e) (sym c.self.view_is) stands in
-    c.refused.ensures ∙ refused_is flow.asset (client_of flow) c.self.inside.lane _ _ e.work c.self.inside.to_client c.self.inside.to_controller s.parts.lane s.parts.to_client s.parts.to_controller
+    c.refused.ensures ∙ refused_is flow.site (client_of flow) c.self.inside.lane _ _ e.work c.self.inside.to_client c.self.inside.to_controller s.parts.lane s.parts.to_client s.parts.to_controller

@@ -13,5 +13,5 @@ returns-clause-misses g c =
     let files = c.log_desk-desk.ensures.files in
     let log = c.log_desk-desk.ensures.log in
     let same : g.F.Files.content c.log_desk-desk.result.files.now c.log_desk-desk.result.log.now ≡ g.F.Files.content c.args.files.now c.args.log.now = cc in
-    misses _ (λ (s : State) (l : Content). MissesEnd c.args.asset.now 0 side.Client c.args.self.now.heard.rest.items s (file_lines l) (file_part l))
+    misses _ (λ (s : State) (l : Content). MissesEnd c.args.site.now 0 side.Client c.args.self.now.heard.rest.items s (file_lines l) (file_part l))
     _ _ _ _ (ap (state_of c.args.self.now) same) (search rules) c.end.ensures.misses
