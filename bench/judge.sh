@@ -1,17 +1,18 @@
 #!/usr/bin/env bash
-# The processor time of `cmdwall judge` and `cmdwall review` on captures of Modbus round trips and of DNP3 polls, beside that of
-# `tcpdump -n -r` and of `tshark` with a display filter that finds the same function codes, on the same file in the same run (each left
-# out where it is missing), and the memory of `judge` beside the text that the flows carry. Ratios, and no promise. Words: the numbers of
-# round trips (300,000) and of polls (200,000). CMDWALL in the environment: the program (the one that is built).
+# The processor time of `cmdwall judge`, `review` and `draft` on captures of Modbus round trips, of reads of 125 registers, ten of them over
+# and over, and of DNP3 polls, beside that of `tcpdump -n -r` and of `tshark` with a display filter that finds the same function codes, on
+# the same file in the same run (each left out where it is missing), and the memory of `judge` beside the text that the flows carry.
+# Ratios, and no promise. Words: the numbers of round trips (300,000), of polls of DNP3 (200,000) and of reads (200,000). CMDWALL in the
+# environment: the program (the one that is built).
 set -eu
 top=$(cd "$(dirname "$0")/.." && pwd)
 work=$(mktemp -d)
 trap 'rm -rf "$work"' EXIT
 [ -n "${CMDWALL:-}" ] || "$top/cmdwall" --version > /dev/null
-PYTHONDONTWRITEBYTECODE=1 python3 - "$top" "$work" "${1:-300000}" "${2:-200000}" <<'PY'
+PYTHONDONTWRITEBYTECODE=1 python3 - "$top" "$work" "${1:-300000}" "${2:-200000}" "${3:-200000}" <<'PY'
 import os, shutil, statistics, struct, subprocess, sys
 
-top, work, trips, polls = sys.argv[1], sys.argv[2], int(sys.argv[3]), int(sys.argv[4])
+top, work, trips, polls, reads = sys.argv[1], sys.argv[2], *map(int, sys.argv[3:6])
 sys.path.insert(0, os.path.join(top, "examples"))
 from make import ACK, PSH, SYN, adu, dnp3_request, frame, link_frame
 
@@ -21,6 +22,7 @@ policy = os.path.join(work, "policy.toml")
 with open(policy, "w") as file:
     file.write('version = 1\n[[asset]]\nname = "pump"\naddress = "10.0.0.9"\nport = 502\nprotocol = "modbus"\nstation = 1\n'
                '[[asset.rule]]\nname = "set"\naction = "allow"\ncodes = [6]\npoints = ["40..49"]\nvalues = ["0..500"]\n'
+               '[[asset.rule]]\nname = "get"\naction = "allow"\ncodes = [3]\n'
                '[[asset]]\nname = "rtu"\naddress = "10.0.0.7"\nport = 20000\nprotocol = "dnp3"\nstation = 10\nmaster = 1\n'
                '[[asset.rule]]\nname = "poll"\naction = "allow"\ncodes = [1]\n')
 
@@ -55,7 +57,13 @@ def writes():
         yield write, write
 
 
-def reads():
+def registers():
+    answer = bytes([3, 250]) + bytes(range(250))
+    for read in range(reads):
+        yield adu(read % 65536, 1, struct.pack(">BHH", 3, 125 * (read % 10), 125)), adu(read % 65536, 1, answer)
+
+
+def dnp3_polls():
     for poll in range(polls):
         request = bytes([0xC0 + poll % 64]) + dnp3_request(poll % 16, 1, bytes([60, 2, 6, 60, 3, 6, 60, 4, 6]))
         answer = bytes([0xC0 + poll % 64, 0xC0 + poll % 16, 0x81, 0, 0])
@@ -83,10 +91,13 @@ def memory(words):
 
 
 for what, count, codes, (path, sent) in [("round trips of Modbus", trips, "modbus.func_code == 6", capture("modbus", pump, writes())),
-                                         ("polls of DNP3", polls, "dnp3.al.func == 1", capture("dnp3", outstation, reads()))]:
+                                         ("reads of 125 registers", reads, "modbus.func_code == 3", capture("reads", pump, registers())),
+                                         ("polls of DNP3", polls, "dnp3.al.func == 1", capture("dnp3", outstation, dnp3_polls()))]:
     words = [program, "judge", policy, path]
     reviewed, spread = took([program, "review", policy, path, os.path.join(work, "log")])
     print(f"review   {reviewed:.3f} s (spread {spread:.3f})")
+    drafted, spread = took([program, "draft", policy, os.path.join(work, "draft.toml"), path])
+    print(f"draft    {drafted:.3f} s (spread {spread:.3f})")
     ours, spread = took(words)
     with open(os.path.join(work, "printed")) as printed:
         said = printed.read()
@@ -98,7 +109,8 @@ for what, count, codes, (path, sent) in [("round trips of Modbus", trips, "modbu
         print(f"memory   {held:,} octets, {held / sent:.1f} times the {sent:,} octets that the client sent")
     if shutil.which("tcpdump"):
         other, spread = took(["tcpdump", "-n", "-r", path])
-        print(f"tcpdump  {other:.3f} s (spread {spread:.3f}): judge takes {ours / other:.2f} times as much, review {reviewed / other:.2f}")
+        print(f"tcpdump  {other:.3f} s (spread {spread:.3f}): judge takes {ours / other:.2f} times as much, review "
+              f"{reviewed / other:.2f}, draft {drafted / other:.2f}")
     else:
         print("tcpdump is missing here, and was left out")
     if shutil.which("tshark"):

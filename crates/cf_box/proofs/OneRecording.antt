@@ -1,6 +1,6 @@
 -- The captures of a command, read one behind the other.
-use Rattle.std.proofs.Common.{◌≡◌, ◌≤◌, ℕ, List, [], ◌∷◌, ◌++◌, map, length, Result, Ok, Err, refl, sym, ap, subst, ◌∙◌, inl, inr, arith, append_assoc}
-use Rattle.std.proofs.lemmas.List.{append-nil}
+use Rattle.std.proofs.Common.{◌≡◌, ◌≤◌, ℕ, List, [], ◌∷◌, ◌++◌, map, length, reverse, Result, Ok, Err, refl, sym, ap, subst, ◌∙◌, inl, inr, arith, append_assoc}
+use Rattle.std.proofs.lemmas.List.{append-nil, reverse-append, reverse-reverse}
 use Rattle.std.specs.Prelude.{IfErr, OnOk}
 use Rattle.cf_outside.specs.Faults.{HasCauseIn, Rose}
 use Rattle.cf_outside.specs.Files.{Content}
@@ -9,8 +9,9 @@ use Rattle.cf_records.specs.Capture.{AtPlace, Cut, Large, Record, Refused, TooLo
 use Rattle.cf_view.specs.declared.LinkSet.TheVariants as set
 use Rattle.cf_watch.specs.FlowValue.{FlowValue, StretchValue}
 use Rattle.cf_watch.specs.Recorded.{HasRecording, HaveRecords, IsCaptureOf, IsReadTo, IsRecordingOf, IsWhole, UnreadAs}
-use Rattle.cf_watch.specs.Recorder.{HasRecorded, IsRecorderOf}
+use Rattle.cf_watch.specs.Recorder.{IsRecorderFor, IsRecorderOf}
 use Rattle.cf_watch.specs.declared.Recorder.{Recorder}
+use Rattle.cf_watch.specs.declared.Scope.TheVariants as scope
 use Rattle.cf_watch.specs.declared.WatchFault.{WatchFault}
 use Rattle.cf_watch.specs.declared.WatchFault.TheVariants as fault
 use Rattle.cf_watch.specs.declared.WatchRefusal.TheVariants as watch
@@ -81,44 +82,57 @@ module _ (name : List ℕ) (names : List (List ℕ)) (before middle : FilesValue
     stops_later whole stop.NoMemory c = tt
     stops_later whole s c = absurd c
 
--- records that were taken behind others
-abbrev pub TakesBehind : List Asset → (old new : Recorder) → List Record → Type 0
-TakesBehind assets old new records = (earlier : List Record) → IsRecorderOf assets earlier old → IsRecorderOf assets (earlier ++ records) new
+-- by who takes records, of whom it is said which it took, the newest first
+module _ {H : Type 0} (has : List Record → H → Type 0) where
+  -- records that were taken behind others
+  abbrev pub TakesBehind : (old new : H) → List Record → Type 0
+  TakesBehind old new records = (earlier : List Record) → has earlier old → has (reverse records ++ earlier) new
 
--- of captures of these names
-abbrev pub TakesAll : List Asset → (content : List ℕ → Content) → (captures : List (List ℕ)) → (old new : Recorder) → Type 0
-TakesAll assets content captures old new = (records : List Record) × HaveRecords content captures records × TakesBehind assets old new records
+  -- of captures of these names
+  abbrev pub TakesAll : (content : List ℕ → Content) → (captures : List (List ℕ)) → (old new : H) → Type 0
+  TakesAll content captures old new = (records : List Record) × HaveRecords content captures records × TakesBehind old new records
 
--- of a capture
-abbrev pub TakesOne : List Asset → Content → (old new : Recorder) → Type 0
-TakesOne assets file old new = (records : List Record) × IsCaptureOf file records × TakesBehind assets old new records
+  -- of a capture
+  abbrev pub TakesOne : Content → (old new : H) → Type 0
+  TakesOne file old new = (records : List Record) × IsCaptureOf file records × TakesBehind old new records
 
--- so some were taken
-pub recorded_behind : (assets : List Asset) (file : Content) (old new : Recorder) → HasRecorded assets old → TakesOne assets file old new → HasRecorded assets new
-recorded_behind assets file old new before taken = (before.0 ++ taken.0, taken.2 before.0 before.1)
+  -- the same, with the newest first
+  abbrev pub TakesNewest : Content → (old new : H) → Type 0
+  TakesNewest file old new = (newest : List Record) × IsCaptureOf file (reverse newest) × ((earlier : List Record) → has earlier old → has (newest ++ earlier) new)
 
-pub recorded_where : (assets : List Asset) (file : Content) (old new : Recorder) {T E : Type 0} (r : Result T E) → HasRecorded assets old
-    → OnOk r (TakesOne assets file old new) → OnOk r (HasRecorded assets new)
-recorded_where assets file old new (Ok done) before taken = recorded_behind assets file old new before taken
-recorded_where assets file old new (Err fault) before taken = tt
+  pub one_taken : {T E : Type 0} (r : Result T E) (file : Content) (old new : H) → OnOk r (TakesNewest file old new) → OnOk r (TakesOne file old new)
+  one_taken (Ok done) file old new taken = (reverse taken.0, taken.1, λ earlier is. subst (λ rs. has (rs ++ earlier) new) (sym (reverse-reverse taken.0)) (taken.2 earlier is))
+  one_taken (Err fault) file old new taken = tt
 
-takes_none : (assets : List Asset) (content : List ℕ → Content) (old : Recorder) → TakesAll assets content [] old old
-takes_none assets content old = ([], refl, λ earlier is. subst (λ rs. IsRecorderOf assets rs old) (sym (append-nil earlier)) is)
+  -- so some were taken
+  pub heard_where : {T E : Type 0} (r : Result T E) (file : Content) (old new : H) → ((newest : List Record) × has newest old) → OnOk r (TakesNewest file old new) →
+      OnOk r ((newest : List Record) × has newest new)
+  heard_where (Ok done) file old new before taken = (taken.0 ++ before.0, taken.2 before.0 before.1)
+  heard_where (Err fault) file old new before taken = tt
 
-pub takes_then : (assets : List Asset) (content : List ℕ → Content) (name : List ℕ) (names : List (List ℕ)) (old mid new : Recorder) → TakesOne assets (content name) old mid →
-    TakesAll assets content names mid new → TakesAll assets content (name ∷ names) old new
-takes_then assets content name names old mid new first later = (
-  first.0 ++ later.0,
-  (first.0, later.0, first.1, later.1, refl),
-  λ earlier is. subst (λ rs. IsRecorderOf assets rs new) (append_assoc earlier first.0 later.0) (later.2 (earlier ++ first.0) (first.2 earlier is)),
-)
+  takes_none : (content : List ℕ → Content) (old : H) → TakesAll content [] old old
+  takes_none content old = ([], refl, λ earlier is. is)
+
+  takes_then : (content : List ℕ → Content) (name : List ℕ) (names : List (List ℕ)) (old mid new : H) → TakesOne (content name) old mid → TakesAll content names mid new →
+      TakesAll content (name ∷ names) old new
+  takes_then content name names old mid new first later =
+      let both : reverse (first.0 ++ later.0) ≡ reverse later.0 ++ reverse first.0 = reverse-append first.0 later.0 in (
+        first.0 ++ later.0,
+        (first.0, later.0, first.1, later.1, refl),
+        λ earlier is.
+            subst (λ rs. has rs new) (sym (append_assoc (reverse later.0) (reverse first.0) earlier) ∙ ap (λ rs. rs ++ earlier) (sym both))
+            (later.2 (reverse first.0 ++ earlier) (first.2 earlier is)),
+      )
+
+  pub word_none : {W : Type 0} (bytes : W → List ℕ) (words : List W) → length words ≡ 0 → (content : List ℕ → Content) (old : H) → TakesAll content (map bytes words) old old
+  word_none bytes [] is content old = takes_none content old
+  word_none bytes (word ∷ words) is content old = absurd (omega (arith, is))
+
+  -- all that were taken by who took none before, the newest first
+  pub all_taken : (content : List ℕ → Content) (captures : List (List ℕ)) (old new : H) → has [] old → (takes : TakesAll content captures old new) → has (reverse takes.0) new
+  all_taken content captures old new none takes = subst (λ rs. has rs new) (append-nil (reverse takes.0)) (takes.2 [] none)
 
 -- ---- words that name them
-
-pub word_none : {W : Type 0} (bytes : W → List ℕ) (words : List W) → length words ≡ 0 → (assets : List Asset) (content : List ℕ → Content) (old : Recorder) →
-    TakesAll assets content (map bytes words) old old
-word_none bytes [] is assets content old = takes_none assets content old
-word_none bytes (word ∷ words) is assets content old = absurd (omega (arith, is))
 
 -- the first of the words names the file that was read, and the others the rest
 module _ {W : Type 0} (bytes : W → List ℕ) (words rest : List W) (word : W) (is : words ≡ word ∷ rest) (name : List ℕ) (same : name ≡ bytes word) (before middle : FilesValue)
@@ -142,16 +156,16 @@ module _ {W : Type 0} (bytes : W → List ℕ) (words rest : List W) (word : W) 
     word_stops (Ok v) whole stops = stops
     word_stops (Err s) whole stops = subst (λ ns. StopsReading ns before after s) front (stops_later name (map bytes rest) before middle first after second whole s stops)
 
-  pub word_takes : {T : Type 0} (r : Result T Stop) (assets : List Asset) (old mid new : Recorder) → TakesOne assets (before.content name) old mid →
-      OnOk r (TakesAll assets middle.content (map bytes rest) mid new) → OnOk r (TakesAll assets before.content (map bytes words) old new)
-  word_takes (Ok v) assets old mid new read later =
-      subst (λ ns. TakesAll assets before.content ns old new) front
-      (takes_then assets before.content name (map bytes rest) old mid new read (subst (λ f. TakesAll assets f (map bytes rest) mid new) first.content later))
-  word_takes (Err s) assets old mid new read later = later
+  pub word_takes : {H T : Type 0} (has : List Record → H → Type 0) (r : Result T Stop) (old mid new : H) → TakesOne has (before.content name) old mid →
+      OnOk r (TakesAll has middle.content (map bytes rest) mid new) → OnOk r (TakesAll has before.content (map bytes words) old new)
+  word_takes has (Ok v) old mid new read later =
+      subst (λ ns. TakesAll has before.content ns old new) front
+      (takes_then has before.content name (map bytes rest) old mid new read (subst (λ f. TakesAll has f (map bytes rest) mid new) first.content later))
+  word_takes has (Err s) old mid new read later = later
 
 -- what all that was taken shows
 pub is_recording : (assets : List Asset) (content : List ℕ → Content) (captures : List (List ℕ)) (old new : Recorder) (flows : List FlowValue) (stretches : List StretchValue) (stamps : List ℕ) →
-    IsRecorderOf assets [] old → TakesAll assets content captures old new →
+    IsRecorderOf assets [] old → TakesAll (IsRecorderFor scope.Recording assets) content captures old new →
     ((records : List Record) → IsRecorderOf assets records new → IsRecordingOf assets records flows stretches stamps) → HasRecording assets content captures flows stretches stamps
 is_recording assets content captures old new flows stretches stamps none takes shows =
-    record { records = takes.0; have = takes.1; shows = shows takes.0 (takes.2 [] none) }
+    record { records = takes.0; have = takes.1; shows = shows takes.0 (all_taken (IsRecorderFor scope.Recording assets) content captures old new none takes) }

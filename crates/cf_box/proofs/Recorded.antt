@@ -1,16 +1,21 @@
 -- The answers of the reading of a recording, of its review and of its writing, as the answer of the command.
-use Rattle.std.proofs.Common.{◌≡◌, ℕ, List, [], ◌∷◌, Result, Ok, Err, refl, ap, subst, ◌∙◌, inl, inr}
+use Rattle.std.proofs.Common.{◌≡◌, ℕ, List, [], ◌∷◌, Result, Ok, Err, reverse, refl, ap, subst, ◌∙◌, inl, inr}
 use Rattle.cf_outside.specs.Faults.{Rose}
-use Rattle.cf_outside.specs.Files.{IsPartly, content_after_write}
+use Rattle.std.proofs.lemmas.List.{reverse-reverse}
+use Rattle.cf_outside.specs.Files.{Content, IsPartly, content_after_write}
 use Rattle.cf_outside.specs.Frames.{KeepsOtherFiles}
+use Rattle.cf_policy.specs.declared.Asset.{Asset}
 use Rattle.cf_policy.specs.declared.Policy.{Policy}
+use Rattle.cf_records.specs.Capture.{Record}
 use Rattle.cf_review.specs.Counted.{counts_of}
 use Rattle.cf_review.specs.Lines.{review_text}
 use Rattle.cf_review.specs.Review.{IsReviewOf}
+use Rattle.cf_review.specs.Reviewer.{IsReviewed}
 use Rattle.cf_review.specs.declared.Counts.{Counts}
 use Rattle.cf_review.specs.declared.Reviewed.{Reviewed}
+use Rattle.cf_review.specs.declared.stamps.Stamp.{Stamp}
 use Rattle.cf_watch.specs.FlowValue.{FlowValue, StretchValue}
-use Rattle.cf_watch.specs.Recorded.{HasRecording}
+use Rattle.cf_watch.specs.Recorded.{HasRecording, HaveRecords}
 use Rattle.cf_words.specs.Command.{Review}
 use Rattle.cf_box.specs.Ends.{Meets, PassesPolicy}
 use Rattle.cf_ending.specs.Outside.{Outside, ReadsOnly}
@@ -24,6 +29,15 @@ use Rattle.cf_ending.specs.declared.Stop.{Stop}
 use Rattle.cf_ending.specs.declared.Stop.TheVariants as stop
 use Rattle.cf_box.proofs.OneRecording.{rose_since}
 use Rattle.cf_box.proofs.Passing.{policy_passes}
+
+-- the records, the oldest first
+pub reviewed_records : {r : Reviewed} {s : List Stamp} (assets : List Asset) (records : List Record) → IsReviewed assets (reverse (reverse records)) r s → IsReviewed assets records r s
+reviewed_records {r} {s} assets records is = subst (λ rs. IsReviewed assets rs r s) (reverse-reverse records) is
+
+-- they are those of captures
+pub recording_of : {r : Reviewed} {s : List Stamp} (assets : List Asset) (content : List ℕ → Content) (captures : List (List ℕ)) →
+    (h : (records : List Record) × HaveRecords content captures records × IsReviewed assets records r s) → HasRecording assets content captures h.2.flows h.2.stretches h.2.stamps
+recording_of assets content captures h = record { records = h.0; have = h.1; shows = h.2.shows }
 
 module _ (policy : List ℕ) (captures : List (List ℕ)) (log : List ℕ) (before : Outside) (p : Policy) (has : HasPolicy (before.files.content policy) p) where
   passes : PassesPolicy (Review policy captures log) before

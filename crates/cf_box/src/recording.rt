@@ -1,21 +1,19 @@
 //! The captures of a command as one recording.
-ghost use Rattle.std.specs.Prelude.{◌≡◌, ◌++◌, ◌∷◌, ◌<◌, ◌^◌, [], All, IfErr, IfOk, IsErrOf, List, OnOk, length, map, string_bytes};
+ghost use Rattle.std.specs.Prelude.{◌++◌, All, IfErr, IfOk, IsErrOf, List, OnOk, map, reverse, string_bytes};
 ghost use Rattle.cf_box.specs.Recording.{StopsReading};
 ghost use Rattle.cf_ending.specs.Outside.{ReadsOnly, files_value};
 ghost use Rattle.cf_outside.specs.Frames.{OnlyReads};
 ghost use Rattle.cf_policy.specs.Within.{IsWithin};
-ghost use Rattle.cf_policy.specs.declared.Asset.{Asset};
 ghost use Rattle.cf_records.specs.Capture.{Record};
 ghost use Rattle.cf_watch.specs.FlowValue.{AreStretchesFor, IsForAsset, flow_value, stretch_value};
 ghost use Rattle.cf_watch.specs.Recorded.{HasRecording, HaveRecords, IsCaptureOf, UnreadAs};
-ghost use Rattle.cf_watch.specs.Recorder.{HasRecorded, IsRecorderOf};
 
 use crate::watching::fault_stop;
 use cf_ending::Stop;
 use cf_outside::Files;
 use cf_policy::Policy;
 use cf_view::NoMemory;
-use cf_watch::{Recorder, Recording, WatchFault};
+use cf_watch::{Hearer, Recorder, Recording, Scope, WatchFault, hear_capture};
 use std::alloc::Global;
 
 /// What captures show, read one behind the other. Changes no file.
@@ -44,19 +42,19 @@ pub(crate) fn read_recording<F: Files>(
     }
 }
 
-/// Takes the records of captures behind those before.
-fn read_each<F: Files>(
+/// Gives the records of captures, one behind the other, to who takes them. Changes no file.
+pub(crate) fn read_each<H: Hearer, F: Files>(
     alloc: Global,
     policy: &Policy,
     captures: &[String],
-    recorder: &mut Recorder,
+    hearer: &mut H,
     files: &mut F,
 ) -> Result<(), Stop>
     requires within { IsWithin policy.now }
-    requires recorded { HasRecorded policy.now.assets recorder.old }
+    requires heard { (newest : List Record) × H.has_heard Scope.Recording policy.now.assets newest hearer.old }
     ensures more { OnOk result ((records : List Record) × HaveRecords (F.content files.old) (map string_bytes captures.now) records
-        × ((earlier : List Record) → IsRecorderOf policy.now.assets earlier recorder.old
-        → IsRecorderOf policy.now.assets (earlier ++ records) recorder.new)) }
+        × ((earlier : List Record) → H.has_heard Scope.Recording policy.now.assets earlier hearer.old
+        → H.has_heard Scope.Recording policy.now.assets (reverse records ++ earlier) hearer.new)) }
     ensures stop { IfErr result (λ s. StopsReading (map string_bytes captures.now) (files_value F.Files files.old)
         (files_value F.Files files.new) s) }
     ensures only { ReadsOnly (map string_bytes captures.now) (files_value F.Files files.old) (files_value F.Files files.new) }
@@ -64,28 +62,35 @@ fn read_each<F: Files>(
     let Some((capture, rest)) = captures.split_first() else {
         return Ok(());
     };
-    match read_next(alloc, policy, capture.as_str(), recorder, files) {
-        Ok(()) => read_each(alloc, policy, rest, recorder, files),
+    match read_next(alloc, policy, capture.as_str(), hearer, files) {
+        Ok(()) => read_each(alloc, policy, rest, hearer, files),
         Err(fault) => Err(fault_stop(fault)),
     }
 }
 
-/// Takes the records of a capture behind those before.
-fn read_next<F: Files>(
+/// Gives the records of a capture to who takes them, behind those before.
+fn read_next<H: Hearer, F: Files>(
     alloc: Global,
     policy: &Policy,
     capture: &str,
-    recorder: &mut Recorder,
+    hearer: &mut H,
     files: &mut F,
 ) -> Result<(), WatchFault>
     requires within { IsWithin policy.now }
-    requires recorded { HasRecorded policy.now.assets recorder.old }
-    ensures recorded { OnOk result (HasRecorded policy.now.assets recorder.new) }
+    requires heard { (newest : List Record) × H.has_heard Scope.Recording policy.now.assets newest hearer.old }
+    ensures heard { OnOk result ((newest : List Record) × H.has_heard Scope.Recording policy.now.assets newest hearer.new) }
     ensures more { OnOk result ((records : List Record) × IsCaptureOf (F.content files.old capture.now) records
-        × ((earlier : List Record) → IsRecorderOf policy.now.assets earlier recorder.old
-        → IsRecorderOf policy.now.assets (earlier ++ records) recorder.new)) }
+        × ((earlier : List Record) → H.has_heard Scope.Recording policy.now.assets earlier hearer.old
+        → H.has_heard Scope.Recording policy.now.assets (reverse records ++ earlier) hearer.new)) }
     ensures fault { IfErr result (λ fault. UnreadAs (F.content files.old capture.now) fault) }
     ensures reads { OnlyReads capture.now F.content F.read_faults F.write_faults files.old files.new (IsErrOf result WatchFault.Read) }
 {
-    recorder.read_capture(alloc, policy, capture, files)
+    hear_capture(
+        alloc,
+        Scope::Recording,
+        policy.assets.as_slice(),
+        capture,
+        hearer,
+        files,
+    )
 }

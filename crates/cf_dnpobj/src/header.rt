@@ -1,5 +1,5 @@
 //! Object headers, read from the front.
-ghost use Rattle.std.specs.Prelude.{◌≡◌, ◌+◌, ◌≤◌, length, slice_index, IfOk, IfErr, Err, true};
+ghost use Rattle.std.specs.Prelude.{◌≡◌, ◌+◌, ◌≤◌, length, slice_index, is_some, IfOk, IfErr, IfSome, Err};
 ghost use Rattle.cf_dnpobj.specs.Headers.{number_at, count_of, size_of, is_whole, header_size, headers_in, BeginsWithHeader};
 ghost use Rattle.cf_dnpobj.specs.Fragment.{counted};
 ghost use Rattle.cf_dnpobj.specs.Objects.{width, range_size, objects_size};
@@ -47,41 +47,38 @@ fn header_size(code: u8, octets: &View<'_>) -> Result<usize, FragmentRefusal>
     let Some(layout) = layout_of(code, octets.at(0), octets.at(1)) else {
         return Err(FragmentRefusal::Object);
     };
-    if !is_whole(layout, octets) {
-        return Err(FragmentRefusal::Parameter);
+    match whole_size(layout, octets) {
+        Some(size) => Ok(size),
+        None => Err(FragmentRefusal::Parameter),
     }
-    Ok(size_of(layout, octets))
 }
 
-/// Whether the qualifier is taken, the range is whole and tells objects, and these are whole.
-fn is_whole(layout: Layout, octets: &View<'_>) -> bool
+/// The size of the first header with its objects, where the qualifier is taken, the range is whole and tells objects, and these are whole.
+fn whole_size(layout: Layout, octets: &View<'_>) -> Option<usize>
     requires head { 3 ≤ length octets.now.bytes }
     requires layout { objects_size layout 0 1 ≤ 11 }
-    ensures value { result ≡ is_whole layout octets.now.bytes }
-    ensures fits { result ≡ true → size_of layout octets.now.bytes ≤ length octets.now.bytes }
+    ensures whole { is_whole layout octets.now.bytes ≡ is_some result }
+    ensures size { IfSome result (λ n. n ≡ size_of layout octets.now.bytes) }
+    ensures inside { IfSome result (λ n. (3 ≤ n) × (n ≤ length octets.now.bytes)) }
+    ensures range { IfSome result (λ n. 3 + range_size (slice_index octets.now.bytes 2) ≤ n) }
 {
     let qualifier = octets.at(2);
     if !takes(layout, qualifier) {
-        return false;
+        return None;
     }
-    if HEAD + range_size(qualifier) > octets.len() {
-        return false;
+    let behind = HEAD + range_size(qualifier);
+    if behind > octets.len() {
+        return None;
     }
-    if !is_all(qualifier) && count_of(octets) == 0 {
-        return false;
+    let count = count_of(octets);
+    if count == 0 && !is_all(qualifier) {
+        return None;
     }
-    size_of(layout, octets) <= octets.len()
-}
-
-/// The size of the first header with its objects.
-fn size_of(layout: Layout, octets: &View<'_>) -> usize
-    requires head { 3 ≤ length octets.now.bytes }
-    requires range { 3 + range_size (slice_index octets.now.bytes 2) ≤ length octets.now.bytes }
-    requires layout { objects_size layout 0 1 ≤ 11 }
-    ensures { result ≡ size_of layout octets.now.bytes }
-{
-    let qualifier = octets.at(2);
-    HEAD + range_size(qualifier) + objects_size(layout, qualifier, count_of(octets))
+    let size = behind + objects_size(layout, qualifier, count);
+    if size > octets.len() {
+        return None;
+    }
+    Some(size)
 }
 
 /// How many objects the range tells; 0 where its start is above its stop.

@@ -9,6 +9,7 @@ mod merging;
 mod notes;
 mod parts;
 mod proposal;
+mod repeats;
 mod shown;
 mod spans;
 mod spelling;

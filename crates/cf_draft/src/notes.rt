@@ -2,6 +2,7 @@
 
 use crate::cover::Cover;
 use crate::parts::{Moment, Parts};
+use crate::repeats::Repeats;
 use arrayvec::ArrayVec;
 use cf_dnptrans::Assembly;
 use cf_learn::{Seen, push_front};
@@ -90,27 +91,59 @@ fn note_flow(
     let bytes = flow.bytes.as_slice();
     let client = flow.client.address;
     let mut seen = Vec::new(alloc);
+    let mut repeats = Repeats::new(alloc, asset.protocol)?;
     let mut number = before;
     let mut at: usize = 0;
     for _ in 0..bytes.len() {
-        let rest = View::one(rest_of(bytes, at));
-        let Some(used) = push_front(&mut seen, &mut assembly, asset, client, &rest)? else {
+        let rest = rest_of(bytes, at);
+        if let (false, Some(repeat)) = (assembly.unfinished(), repeats.find(rest)) {
+            let used = repeat.used();
+            number = number.saturating_add(1);
+            let command = command_at(number, client, moments, at, used, rest);
+            if let Some(note) = notes.get_mut(repeat.note) {
+                note_at(&command, note);
+            }
+            at = at.saturating_add(used);
+            continue;
+        }
+        let view = View::one(rest);
+        let Some(used) = push_front(&mut seen, &mut assembly, asset, client, &view)? else {
             return Ok(number);
         };
         if !seen.is_empty() {
             number = number.saturating_add(1);
-            let command = Command {
-                number,
-                client,
-                stamp: stamp_at(moments, at.saturating_add(used)),
-                octets: rest.sub(0, used.min(rest.len())),
-            };
-            note_command(&command, seen.as_slice(), covers, notes);
+            let command = command_at(number, client, moments, at, used, rest);
+            let only = note_command(&command, seen.as_slice(), covers, notes);
+            if let Some(note) = only {
+                repeats.put(first_of(rest, used), note);
+            }
             seen.clear();
         }
         at = at.saturating_add(used);
     }
     Ok(number)
+}
+
+/// The command of these octets at a place.
+fn command_at<'a>(
+    number: u64,
+    client: u32,
+    moments: &[Moment],
+    at: usize,
+    used: usize,
+    rest: &'a [u8],
+) -> Command<'a> {
+    Command {
+        number,
+        client,
+        stamp: stamp_at(moments, at.saturating_add(used)),
+        octets: View::one(first_of(rest, used)),
+    }
+}
+
+/// The first bytes, so many or all.
+fn first_of(bytes: &[u8], count: usize) -> &[u8] {
+    &bytes[..count.min(bytes.len())]
 }
 
 /// The bytes from a place on, or none.
@@ -127,8 +160,15 @@ fn stamp_at(moments: &[Moment], end: usize) -> u64 {
     }
 }
 
-/// Notes a command with these acts: at each rule that has one, once.
-fn note_command(command: &Command<'_>, seen: &[Seen], covers: &[Cover], notes: &mut Vec<Note>) {
+/// Notes a command with these acts: at each rule that has one, once. Answers the place of the note, if it is one for all of them.
+fn note_command(
+    command: &Command<'_>,
+    seen: &[Seen],
+    covers: &[Cover],
+    notes: &mut Vec<Note>,
+) -> Option<usize> {
+    let mut only = None;
+    let mut is_one = true;
     for one in seen {
         let act = Act {
             code: one.kind.code,
@@ -144,7 +184,10 @@ fn note_command(command: &Command<'_>, seen: &[Seen], covers: &[Cover], notes: &
                 note_at(command, note);
             }
         }
+        is_one = is_one && (only.is_none() || only == found);
+        only = found;
     }
+    if is_one { only } else { None }
 }
 
 fn note_at(command: &Command<'_>, note: &mut Note) {

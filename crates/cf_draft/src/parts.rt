@@ -1,5 +1,5 @@
 //! What is read of a recording: each flow, and each other stretch of one, from its first unit on.
-ghost use Rattle.std.specs.Prelude.{◌≡◌, ◌≤◌, ◌++◌, ◌∷◌, [], All, IfOk, OnOk, drop, length, map};
+ghost use Rattle.std.specs.Prelude.{◌≡◌, ◌<◌, ◌≤◌, ◌++◌, ◌∷◌, [], All, IfOk, OnOk, drop, length, map};
 ghost use Rattle.cf_policy.specs.declared.Protocol.{Protocol};
 ghost use Rattle.cf_review.specs.FirstUnit.{IsReadPart, from_place};
 ghost use Rattle.cf_watch.specs.FlowValue.{AreStretchesFor, IsForAsset, flow_value, stretch_value};
@@ -167,22 +167,50 @@ fn moments_of(
 ) -> Result<Vec<Moment>, NoMemory>
     requires born { length flow.now.born ≡ length flow.now.bytes.items }
 {
+    let len = flow.bytes.len();
     let mut moments = Vec::new(alloc);
-    let mut last = 0;
-    for place in start..flow.bytes.len() {
-        let number = flow.record_at(place);
-        if number != last {
-            last = number;
-            let moment = Moment {
-                place: place - start,
-                stamp: stamp_of(stamps, number),
-            };
-            if moments.push(moment).is_err() {
-                return Err(NoMemory);
-            }
+    let mut place = start;
+    let mut run = 0;
+    while place < len {
+        let moment = Moment {
+            place: place - start,
+            stamp: stamp_of(stamps, flow.record_at(place)),
+        };
+        if moments.push(moment).is_err() {
+            return Err(NoMemory);
         }
+        let end = run_end(flow, place, run);
+        run = end - place - 1;
+        place = end;
     }
     Ok(moments)
+}
+
+/// Where the bytes end that came with the record of the one at a place. No later byte came with an earlier record, and so they are looked
+/// for by halves: first the one that is `run` behind it, and then each time twice as many as before.
+fn run_end(flow: &Flow, place: usize, run: usize) -> usize
+    requires born { length flow.now.born ≡ length flow.now.bytes.items }
+    requires place { place < length flow.now.bytes.items }
+    ensures behind { place < result }
+    ensures inside { result ≤ length flow.now.bytes.items }
+{
+    let number = flow.record_at(place);
+    let mut high = flow.bytes.len();
+    let mut low = place + 1;
+    if run < high - place && flow.record_at(place + run) == number {
+        low = place + run + 1;
+    }
+    let mut step: usize = 0;
+    while low < high {
+        let probe = low + step.min((high - low) / 2);
+        if flow.record_at(probe) == number {
+            low = probe + 1;
+            step = step.saturating_mul(2).saturating_add(1);
+        } else {
+            high = probe;
+        }
+    }
+    low
 }
 
 /// The stamp of the record of a number, counted from 1, or 0.

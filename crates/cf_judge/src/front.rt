@@ -84,6 +84,8 @@ impl Reader {
         ensures for_site { IsReaderFor site.now self.new }
         ensures front { (client : ℕ) (earlier : List Judged) → IsReaderOf site.now client earlier self.old
             → IsFrontOf site.now client earlier bytes.now.bytes self.new result }
+        ensures rest { result ≡ Front.Rest → (client : ℕ) (earlier : List Judged) → IsReaderOf site.now client earlier self.old
+            → IsReaderOf site.now client earlier self.new }
     {
         match site.first().protocol {
             Protocol::Modbus => next_of_modbus(site, self.own.as_slice(), bytes),
@@ -219,6 +221,7 @@ fn next_of_dnp3(site: &Site<'_>, own: &mut Vec<OwnReader>, bytes: &View<'_>) -> 
     requires dnp3 { site.now.first.protocol ≡ Protocol.Dnp3 }
     requires one_each { length own.old.items ≡ length (assets_of site.now) }
     ensures one_each { length own.new.items ≡ length own.old.items }
+    ensures rest { result ≡ Front.Rest → own.new.items ≡ own.old.items }
     ensures front { (client : ℕ) (earlier : List Judged) (r new : Reader) → IsReaderOf site.now client earlier r
         → r.own.items ≡ own.old.items → new.own.items ≡ own.new.items → IsFrontOf site.now client earlier bytes.now.bytes new result }
 {

@@ -8,8 +8,9 @@ ghost use Rattle.cf_policy.specs.Index.{IsIndexOf};
 ghost use Rattle.cf_policy.specs.Verdict.{verdict_of};
 ghost use Rattle.cf_judge.specs.Ruling.{HasAduRuling, ruling_of};
 
-use crate::ruling::{Ruling, judge_acts, refused};
-use cf_modbus::{Adu, Request, act_at, act_count, read_request};
+use crate::ruling::{Ruling, refused};
+use cf_lane::refusal_of;
+use cf_modbus::{Adu, Request, read_request};
 use cf_policy::{Asset, CodeIndex, Decider};
 use cf_view::Reason;
 
@@ -30,10 +31,14 @@ pub(crate) fn judge_adu(asset: &Asset, index: &CodeIndex, adu: &Adu<'_>) -> Ruli
     }
 }
 
+/// What a request counts for: its acts are judged by runs of points, as a lane judges them.
 fn judge_request(asset: &Asset, index: &CodeIndex, request: &Request<'_>) -> Ruling
     requires read { IsRead (request_value request.now) }
     ensures ruling { (client : ℕ) → IsIndexOf asset.now client index.now
         → result ≡ ruling_of (fate_of_acts asset.now (verdict_of asset.now client) (acts (request_value request.now))) }
 {
-    judge_acts(asset, index, act_count(request), |i| act_at(request, i))
+    match refusal_of(asset, index, request) {
+        Some(refusal) => Ruling::Refused(refusal),
+        None => Ruling::Allowed,
+    }
 }

@@ -122,3 +122,8 @@ takes_same asset says client moment s t a b f old new side value takes =
 pub grows_apdu : (f : Fate) (len n : ℕ) → len ≡ n → (p q : Queue) → Grows (unless_cut f len) 0 0 p q → Grows (2 * letters_in (step_by (fate_cut f) n)) 0 0 p q
 grows_apdu f len n size p q g =
     grows_more (unless_cut f len) (2 * letters_in (step_by (fate_cut f) n)) 0 0 p q (omega (arith, letters_by (fate_cut f) n, ap (unless_cut_by (fate_cut f)) size)) g
+
+-- what is said of a side and an APDU is said of those that they are
+module _ (s t : Side) (a b : ApduValue) (side : t ≡ s) (value : b ≡ a) where
+  pub of_both : (P : Side → ApduValue → Type 0) → P s a → P t b
+  of_both P p = subst (λ (u : Side). P u b) (sym side) (subst (P s) (sym value) p)

@@ -2,7 +2,11 @@
 use Rattle.cf_lane.specs.Rates.{Says, said, unless_spent}
 use Rattle.cf_lane.specs.declared.fate.Admission.{Admission}
 use Rattle.cf_lane.specs.Acts.{admission, by_refusal, fate_of_acts, first_refusal, refusal_or}
-use Rattle.cf_lane.specs.Dnp3.{IsOfFragment}
+use Rattle.cf_dnpobj.specs.Fragment.{read_octets}
+use Rattle.cf_dnpobj.specs.declared.fragment.FragmentRefusal.{FragmentRefusal}
+use Rattle.cf_lane.specs.Dnp3.{IsOfFragment, fate_of_fragment, fate_of_read, form_reason}
+use Rattle.cf_lane.specs.Judgement.{fate_of_judgement}
+use Rattle.cf_lane.specs.declared.fate.Judgement.{Judgement}
 use Rattle.cf_policy.specs.Verdict.{by_rule, decided, default_reason, first_rule, has_function, has_point, is_allow, is_empty, rule_reason, verdict_of}
 use Rattle.cf_policy.specs.declared.Action.{Action}
 use Rattle.cf_policy.specs.declared.Asset.{Asset}
@@ -11,12 +15,15 @@ use Rattle.cf_policy.specs.declared.Rule.{Rule}
 use Rattle.cf_policy.specs.declared.Verdict.{Verdict}
 use Rattle.cf_view.specs.declared.Act.{Act}
 use Rattle.cf_view.specs.declared.Reason.{Reason}
-use Rattle.std.proofs.Common.{Bool, List, None, Option, Some, [], false, not, refl, true, ℕ, ◌&&◌, ◌∷◌, ◌≡◌}
+use Rattle.std.proofs.Common.{Bool, Err, List, None, Option, Some, [], ap, false, not, refl, slice_index, true, ℕ, ◌&&◌, ◌∷◌, ◌≡◌}
 use Rattle.std.specs.List.{list_any}
 use Rattle.std.specs.Prelude.{if◌then◌else◌, ◌≢◌}
 use Rattle.cf_policy.specs.declared.Action.TheVariants as action
 use Rattle.cf_view.specs.declared.Reason.TheVariants as reason
+use Rattle.cf_lane.specs.declared.fate.Judgement.TheVariants as judgement
+use Rattle.cf_policy.specs.declared.Decider.TheVariants as decider
 use Rattle.cf_policy.specs.declared.Verdict.TheVariants as verdict
+use Rattle.cf_view.specs.declared.Side.TheVariants as side
 
 not_station : (a b : Bool) (x y z : Reason) → x ≢ reason.Station → y ≢ reason.Station → z ≢ reason.Station → (if a then x else (if b then y else z)) ≢ reason.Station
 not_station true b x y z p q r = p
@@ -69,3 +76,11 @@ module _ (asset : Asset) (client : ℕ) (spent : ℕ → Bool) where
 
   pub never_station_of : (acts : List Act) → IsOfFragment (fate_of_acts asset (λ act. said spent (verdict_of asset client act)) acts)
   never_station_of acts = by_first (admission asset says acts) acts
+
+-- the fate of a fragment whose form was refused
+pub fate_of_form : (asset : Asset) (says : Says) (octets : List ℕ) (refusal : FragmentRefusal) (why : Reason) (code : ℕ) (j : Judgement) → Err refusal ≡ read_octets octets → why ≡ form_reason refusal →
+    code ≡ slice_index octets 1 →
+    j ≡ judgement.Refused (record { decider = decider.Form; reason = why; act = record { code = code; group = 0; point = 0; value = None } }) →
+    fate_of_judgement j ≡ fate_of_fragment asset says side.Client octets
+fate_of_form asset says octets refusal why code j read told code_is is =
+    rw (is, told, code_is) (ap (fate_of_read asset says (slice_index octets 1)) read)

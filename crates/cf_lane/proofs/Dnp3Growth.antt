@@ -14,7 +14,9 @@ use Rattle.cf_lane.specs.Unit.{frame_spelling}
 use Rattle.cf_lane.specs.declared.wire.Fragments.{Fragments}
 use Rattle.cf_outq.specs.SendQueue.{Queue}
 use Rattle.cf_view.specs.declared.Side.{Side}
-use Rattle.std.proofs.Common.{List, ap, arith, length, refl, subst, sym, ℕ, ◌*◌, ◌+◌, ◌<◌, ◌∙◌, ◌∷◌, ◌≡◌, ◌≤◌}
+use Rattle.std.proofs.Common.{List, ap, arith, get_or, length, refl, set, subst, sym, ℕ, ◌*◌, ◌+◌, ◌<◌, ◌∙◌, ◌∷◌, ◌≡◌, ◌≤◌}
+use Rattle.std.proofs.lemmas.List.Sums.{get_or-le-sum_by, sum_by-set}
+use Rattle.std.specs.List.{sum_by}
 use Rattle.cf_dnptrans.specs.declared.assembly.SegmentAnswer.TheVariants as answers
 use Rattle.cf_view.specs.declared.Side.TheVariants as side
 
@@ -86,3 +88,15 @@ still_fragments side.Controller x answer was mid new are adds c k m n = record {
   to_client = m;
   to_controller = n;
 }
+
+-- what all may still put out, where the fragments of one place go on
+module _ (all : List Fragments) (place : ℕ) (d : Fragments) (inside : place < length all) where
+  pub room_at : (n : ℕ) (q : Queue) → HasRoom (sum_by owed_by all + n) q → HasRoom (owed_by (get_or all place d) + n) q
+  room_at n q r = room_less _ _ q (omega (arith, get_or-le-sum_by owed_by all place d inside)) r
+
+  pub grows_at : (now : Fragments) (n : ℕ) (p q : Queue) → Grows n (owed_by (get_or all place d)) (owed_by now) p q → Grows n (sum_by owed_by all) (sum_by owed_by (set all place now)) p q
+  grows_at now n p q g = record {
+    kept = omega (arith, g.kept, sum_by-set owed_by all place now d inside);
+    pushed = omega (arith, g.pushed, sum_by-set owed_by all place now d inside);
+    rest = g.rest;
+  }

@@ -9,12 +9,12 @@ use Rattle.cf_dnpobj.specs.Fragment.{wants_reply}
 use Rattle.cf_dnpobj.specs.Reply.{reply}
 use Rattle.cf_dnptrans.specs.Segments.{count_of}
 use Rattle.cf_dnptrans.specs.declared.assembly.SegmentAnswer.{SegmentAnswer}
-use Rattle.cf_lane.proofs.Handling.{push-nothing}
+use Rattle.cf_lane.proofs.Handling.{push-nothing, with_lines-nothing}
 use Rattle.cf_lane.proofs.Recutting.{frames_most, frames_some}
 use Rattle.cf_lane.proofs.ReplySizes.{reply_sizes}
 use Rattle.cf_lane.proofs.Taking.{grows_push, room_less}
 use Rattle.cf_lane.specs.Dnp3.{drop_why, fate_of_fragment, fate_of_segment, fragment_reply, frame_fragment, frames_at}
-use Rattle.cf_lane.specs.Fragments.{MissesSegment, Parts, Sends, TakesSegment, counted, data_lines, frames_exist, completed_by, parts, recut_most}
+use Rattle.cf_lane.specs.Fragments.{MissesSegment, Parts, Sends, TakesSegment, counted, data_lines, frames_exist, completed_by, parts, recut_most, sent_most}
 use Rattle.cf_lane.specs.Handled.{Grows, HasRoom, MayHaveMore}
 use Rattle.cf_lane.specs.Log.{admission_lines, is_some_bytes, line_about, refusal_line, with_lines}
 use Rattle.cf_lane.specs.declared.fate.Fate.{Fate}
@@ -103,26 +103,36 @@ module _ (asset : Asset) (says : Says) (client : Endpoint) (moment : ℕ) (octet
   abbrev after_reply : Fragments
   after_reply = record { client = old.fragments.client; controller = old.fragments.controller; to_client = sequence; to_controller = old.fragments.to_controller }
 
-  pub misses_reply : (replied : Bool) (log : Option (List (List ℕ))) (part : List ℕ) →
-      replied ≡ frames_exist asset side.Client old.fragments.to_client (fragment_reply old.to_client.ended (fate.Refused r) (octets ∷ [])) →
-      MayHaveMore (line_about asset client moment (refusal_line asset r replied octets) ∷ []) old.lines log part →
+  -- whether it was put is told
+  abbrev IsTold : Bool → Type 0
+  IsTold replied = replied ≡ frames_exist asset side.Client old.fragments.to_client (fragment_reply old.to_client.ended (fate.Refused r) (octets ∷ []))
+
+  abbrev reply_line : Bool → List (List ℕ)
+  reply_line replied = line_about asset client moment (refusal_line asset r replied octets) ∷ []
+
+  told_lines : (replied : Bool) → IsTold replied → reply_line replied ≡ data_lines asset client moment side.Client (fate.Refused r) (octets ∷ []) old.fragments.to_client old.to_client
+  told_lines replied told =
+      ap reply_line told
+      ∙ ap (λ xs. line_about asset client moment (refusal_line asset r (frames_exist asset side.Client old.fragments.to_client (fragment_reply old.to_client.ended (fate.Refused r) (octets ∷ []))) xs) ∷ []) (sym (append-nil octets))
+
+  pub takes_reply : (replied : Bool) (lines : Option (List (List ℕ))) → IsTold replied → lines ≡ with_lines old.lines (reply_line replied) →
+      TakesSegment asset says client moment side.Client answers.Whole (octets ∷ []) (fate.Refused r) old (parts after_reply queue old.to_controller lines)
+  takes_reply replied lines told text = record {
+    fate = is;
+    client_part = refl;
+    controller_part = refl;
+    to_client = sends;
+    to_controller = sends_nothing asset side.Controller _ old.fragments.to_controller old.to_controller to_controller refl;
+    lines = text ∙ ap (with_lines old.lines) (told_lines replied told);
+  }
+
+  pub misses_reply : (replied : Bool) (log : Option (List (List ℕ))) (part : List ℕ) → IsTold replied → MayHaveMore (reply_line replied) old.lines log part →
       MissesSegment asset says client moment side.Client answers.Whole (octets ∷ []) old log part
   misses_reply replied log part told line = record {
     fate = fate.Refused r;
-    new = parts after_reply queue old.to_controller
-        (with_lines old.lines (data_lines asset client moment side.Client (fate.Refused r) (octets ∷ []) old.fragments.to_client old.to_client));
-    takes = record {
-      fate = is;
-      client_part = refl;
-      controller_part = refl;
-      to_client = sends;
-      to_controller = sends_nothing asset side.Controller _ old.fragments.to_controller old.to_controller to_controller refl;
-      lines = refl;
-    };
-    line = subst (λ m. MayHaveMore m old.lines log part)
-        (ap (λ b. line_about asset client moment (refusal_line asset r b octets) ∷ []) told
-        ∙ ap (λ xs. line_about asset client moment (refusal_line asset r (frames_exist asset side.Client old.fragments.to_client (fragment_reply old.to_client.ended (fate.Refused r) (octets ∷ []))) xs) ∷ []) (sym (append-nil octets)))
-        line;
+    new = parts after_reply queue old.to_controller (with_lines old.lines (reply_line replied));
+    takes = takes_reply replied _ told refl;
+    line = subst (λ m. MayHaveMore m old.lines log part) (told_lines replied told) line;
   }
 
 -- one fragment goes into a stream
@@ -171,6 +181,56 @@ module _ (asset : Asset) (says : Says) (client : Endpoint) (moment : ℕ) (octet
     line = subst (λ m. MayHaveMore m old.lines log part) lines_same line;
   }
 
+-- one that is no command goes on without a line
+module _ (asset : Asset) (says : Says) (client : Endpoint) (moment : ℕ) (octets : List ℕ) (old : Parts) (sequence : ℕ) (queue : Queue) where
+  carried_back : (b : Bool) → frame_fragment side.Client b side.Client fate.Carried (octets ∷ []) ≡ []
+  carried_back true = refl
+  carried_back false = refl
+
+  pub takes_carried : fate.Carried ≡ fate_of_segment asset says side.Client answers.Whole (octets ∷ []) → old.fragments.to_client < 64 →
+      Sends asset side.Controller (octets ∷ []) old.fragments.to_controller old.to_controller sequence queue →
+      TakesSegment asset says client moment side.Client answers.Whole (octets ∷ []) fate.Carried old (parts
+      (record { client = old.fragments.client; controller = old.fragments.controller; to_client = old.fragments.to_client; to_controller = sequence }) old.to_client queue old.lines)
+  takes_carried is room sends = record {
+    fate = is;
+    client_part = refl;
+    controller_part = refl;
+    to_client = sends_nothing asset side.Client _ old.fragments.to_client old.to_client room (carried_back old.to_client.ended);
+    to_controller = sends;
+    lines = sym (with_lines-nothing old.lines);
+  }
+
+-- a fragment of the controller goes on
+pub takes_back : (asset : Asset) (says : Says) (client : Endpoint) (moment : ℕ) (octets : List ℕ) (old : Parts) (sequence : ℕ) (queue : Queue) → 2 ≤ length octets → old.fragments.to_controller < 64 →
+    Sends asset side.Client (octets ∷ []) old.fragments.to_client old.to_client sequence queue →
+    TakesSegment asset says client moment side.Controller answers.Whole (octets ∷ []) fate.Carried old (parts
+    (record { client = old.fragments.client; controller = old.fragments.controller; to_client = sequence; to_controller = old.fragments.to_controller }) queue old.to_controller old.lines)
+takes_back asset says client moment octets old sequence queue long room sends = record {
+  fate = fate_long asset says side.Controller octets long;
+  client_part = refl;
+  controller_part = refl;
+  to_client = sends;
+  to_controller = sends_nothing asset side.Controller _ old.fragments.to_controller old.to_controller room refl;
+  lines = sym (with_lines-nothing old.lines);
+}
+
+-- a segment that lengthens a fragment
+pub takes_more : (asset : Asset) (says : Says) (client : Endpoint) (moment : ℕ) (s : Side) (answer : SegmentAnswer) (v : AssemblyValue) (old : Parts) →
+    old.fragments.to_client < 64 → old.fragments.to_controller < 64 → answer ≡ answers.More →
+    TakesSegment asset says client moment s answer (completed_by answer v) fate.Lengthens old (parts old.fragments old.to_client old.to_controller old.lines)
+takes_more asset says client moment s answer v old m n is =
+    subst (λ a. TakesSegment asset says client moment s a (completed_by a v) fate.Lengthens old (parts old.fragments old.to_client old.to_controller old.lines)) (sym is)
+    (takes_quietly asset says client moment s answers.More [] fate.Lengthens old refl (λ to. more_fragment to s old.to_client.ended []) m n old.lines (sym (with_lines-nothing old.lines)))
+
+-- one that is dropped
+pub takes_dropped : (asset : Asset) (says : Says) (client : Endpoint) (moment : ℕ) (s : Side) (answer : SegmentAnswer) (because : DropReason) (v : AssemblyValue) (old : Parts) →
+    old.fragments.to_client < 64 → old.fragments.to_controller < 64 → answer ≡ answers.Dropped because → (lines : Option (List (List ℕ))) (told : Why) → told ≡ drop_why because →
+    lines ≡ with_lines old.lines (line_about asset client moment (Stray s told) ∷ []) →
+    TakesSegment asset says client moment s answer (completed_by answer v) (fate.Stray told) old (parts old.fragments old.to_client old.to_controller lines)
+takes_dropped asset says client moment s answer because v old m n is lines told why_is text =
+    subst (λ a. TakesSegment asset says client moment s a (completed_by a v) (fate.Stray told) old (parts old.fragments old.to_client old.to_controller lines)) (sym is)
+    (takes_quietly asset says client moment s (answers.Dropped because) [] (fate.Stray told) old (ap fate.Stray why_is) (λ to. stray_fragment to s old.to_client.ended told []) m n lines text)
+
 -- a segment that is dropped, but for its line
 pub misses_dropped : (asset : Asset) (says : Says) (client : Endpoint) (moment : ℕ) (s : Side) (answer : SegmentAnswer) (because : DropReason) (v : AssemblyValue) (old : Parts) →
     old.fragments.to_client < 64 → old.fragments.to_controller < 64 → answer ≡ answers.Dropped because → (log : Option (List (List ℕ))) (part : List ℕ) (told : Why) → told ≡ drop_why because →
@@ -180,9 +240,20 @@ misses_dropped asset says client moment s answer because v old m n is log part t
     (misses_quietly asset says client moment s (answers.Dropped because) [] (fate.Stray (drop_why because)) old refl (λ to. stray_fragment to s old.to_client.ended (drop_why because) []) m n log part
     (subst (λ w. MayHaveMore (line_about asset client moment (Stray s w) ∷ []) old.lines log part) why_is line))
 
--- what was said of the controller's fragment, of the side that it is
-pub takes_of_controller : (asset : Asset) (says : Says) (client : Endpoint) (moment : ℕ) (s : Side) (answer : SegmentAnswer) (f : Fate) (was : Fragments) (old new : Parts) → s ≡ side.Controller → answer ≡ answers.Whole →
-    TakesSegment asset says client moment side.Controller answers.Whole (was.controller.octets ∷ []) f old new → TakesSegment asset says client moment s answer (completed_by answer (of_side s was)) f old new
-takes_of_controller asset says client moment s answer f was old new is whole t =
-    subst (λ s. TakesSegment asset says client moment s answer (completed_by answer (of_side s was)) f old new) (sym is)
-    (subst (λ a. TakesSegment asset says client moment side.Controller a (completed_by a was.controller) f old new) (sym whole) t)
+-- what was said of the fragment of a side, of the side that it is
+module _ (asset : Asset) (says : Says) (client : Endpoint) (moment : ℕ) (s t : Side) (answer : SegmentAnswer) (was : Fragments) (is : s ≡ t) (whole : answer ≡ answers.Whole) where
+  pub takes_of : (f : Fate) (old new : Parts) → TakesSegment asset says client moment t answers.Whole ((of_side t was).octets ∷ []) f old new →
+      TakesSegment asset says client moment s answer (completed_by answer (of_side s was)) f old new
+  takes_of f old new taken =
+      subst (λ s. TakesSegment asset says client moment s answer (completed_by answer (of_side s was)) f old new) (sym is)
+      (subst (λ a. TakesSegment asset says client moment t a (completed_by a (of_side t was)) f old new) (sym whole) taken)
+
+  pub misses_of : (old : Parts) (log : Option (List (List ℕ))) (part : List ℕ) → MissesSegment asset says client moment t answers.Whole ((of_side t was).octets ∷ []) old log part →
+      MissesSegment asset says client moment s answer (completed_by answer (of_side s was)) old log part
+  misses_of old log part missed =
+      subst (λ s. MissesSegment asset says client moment s answer (completed_by answer (of_side s was)) old log part) (sym is)
+      (subst (λ a. MissesSegment asset says client moment t a (completed_by a (of_side t was)) old log part) (sym whole) missed)
+
+-- what goes out for a fragment that is whole, of the side that it is
+pub most_of : (s t : Side) (answer : SegmentAnswer) (was : Fragments) → s ≡ t → answer ≡ answers.Whole → sent_most answer (of_side s was) ≡ recut_most (length (of_side t was).octets + 2)
+most_of s t answer was is whole = ap (λ a. sent_most a (of_side s was)) whole ∙ ap (λ s. recut_most (length (of_side s was).octets + 2)) is

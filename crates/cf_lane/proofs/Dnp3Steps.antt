@@ -1,6 +1,7 @@
 -- What a step of a lane of DNP3 leads to.
 use Rattle.cf_lane.specs.declared.rules.Rules.{Rules}
 use Rattle.cf_lane.proofs.Saying.{says_same}
+use Rattle.cf_lane.proofs.Starting.{whole_back}
 use Rattle.cf_lane.specs.Rates.{Says}
 use Rattle.cf_lane.specs.Caller.{caller_at}
 use Rattle.cf_lane.specs.Fate.{HasFateBy}
@@ -16,10 +17,14 @@ use Rattle.cf_lane.proofs.Recutting.{length-spelling}
 use Rattle.cf_lane.proofs.Units.{begins_by, frames}
 use Rattle.cf_lane.specs.Dnp3.{fate_of_frame, stray_of}
 use Rattle.cf_lane.specs.Fragments.{MissesFrame, MissesFrameAt, TakesFrameAt, parts}
-use Rattle.cf_lane.specs.Handled.{FrontsOf, Handled, MissesOf, Outlets, State, judged, lane_at, outlets, state}
+use Rattle.cf_audit.specs.declared.line.CutReason.{CutReason}
+use Rattle.cf_lane.proofs.Taking.{grows_more}
+use Rattle.cf_lane.specs.Handled.{FrontsOf, Grows, Handled, MissesOf, Outlets, State, judged, lane_at, letters_in, outlets, state, step_by}
+use Rattle.cf_outq.specs.SendQueue.{Queue}
+use Rattle.std.specs.List.{sum_by}
 use Rattle.cf_lane.specs.Item.{Took, placed}
 use Rattle.cf_lane.specs.Judged.{Judged, is_admitted, is_refused, one_if}
-use Rattle.cf_lane.specs.Kept.{AreAllFragments, AreFragments, KnowAllFragments, KnowsFragments, KnowsWire}
+use Rattle.cf_lane.specs.Kept.{AreAllFragments, AreFragments, KnowAllFragments, KnowsFragments, KnowsWire, owed_by}
 use Rattle.cf_lane.specs.Log.{item_lines, lines_by, with_lines}
 use Rattle.cf_lane.specs.Unit.{Frame, frame_spelling}
 use Rattle.cf_lane.specs.declared.fate.Fate.{Fate}
@@ -29,8 +34,7 @@ use Rattle.cf_policy.specs.declared.Asset.{Asset}
 use Rattle.cf_view.specs.Framing.{Begins}
 use Rattle.cf_view.specs.declared.Endpoint.{Endpoint}
 use Rattle.cf_view.specs.declared.Side.{Side}
-use Rattle.std.proofs.Common.{Bool, List, Option, Some, [], ap, arith, drop, false, length, nat_eq, refl, set, slice_get, subst, sym, take, true, ℕ, ◌++◌, ◌+◌, ◌<◌, ◌∙◌, ◌∷◌, ◌≡◌, ◌≤◌}
-use Rattle.std.proofs.Math.Seq.{take-append_seam}
+use Rattle.std.proofs.Common.{Bool, List, None, Option, Some, [], ap, arith, drop, false, length, nat_eq, refl, set, slice_get, subst, sym, take, true, ℕ, ◌*◌, ◌++◌, ◌+◌, ◌<◌, ◌∙◌, ◌∷◌, ◌≡◌, ◌≤◌}
 use Rattle.std.proofs.lemmas.Bool.{eqb-false, eqb-true}
 use Rattle.std.proofs.lemmas.List.{append-nil, length-set, length-take}
 use Rattle.cf_dnplink.specs.LinkFrame as link
@@ -62,6 +66,25 @@ pub misses_at : (asset : Asset) (says : Says) (client : Endpoint) (moment : ℕ)
     MissesFrame asset says client moment s x (parts was old.to_client old.to_controller old.lines) log part_ → MissesFrameAt asset says client moment s x place before old log part_
 misses_at asset says client moment s x place before old log part_ was at m = record { was = was; at = at; misses = m }
 
+-- fragments that were lent and gone on with are written back whole
+module _ (lent items view new : List Fragments) (lent_is : lent ≡ items) (view_is : items ≡ view) (size : ℕ) (all : size ≡ length items) (long : length new ≡ length lent) where
+  pub written_back : new ≡ take size (new ++ drop (length new) items)
+  written_back = sym (whole_back size new items all (long ∙ ap length lent_is))
+
+  pub are_back : (n : ℕ) → AreAllFragments n view → AreAllFragments (length lent) new → AreAllFragments n (take size (new ++ drop (length new) items))
+  are_back n are own = subst (AreAllFragments n) written_back (subst (λ m. AreAllFragments m new) (ap length (lent_is ∙ view_is) ∙ are.one_each) own)
+
+  pub grows_back : (cut : Option CutReason) → cut ≡ None → (m n : ℕ) → m ≤ n → (q r : Queue) → Grows (2 * m) (sum_by owed_by lent) (sum_by owed_by new) q r →
+      Grows (2 * letters_in (step_by cut n)) (sum_by owed_by view) (sum_by owed_by (take size (new ++ drop (length new) items))) q r
+  grows_back cut uncut m n most q r g =
+      let letters : letters_in (step_by cut n) ≡ n = ap (λ (c : Option CutReason). letters_in (step_by c n)) uncut in
+      subst (λ e. Grows (2 * letters_in (step_by cut n)) (sum_by owed_by view) e q r) (ap (sum_by owed_by) written_back)
+      (subst (λ d. Grows (2 * letters_in (step_by cut n)) d (sum_by owed_by new) q r) (ap (sum_by owed_by) (lent_is ∙ view_is))
+      (grows_more (2 * m) (2 * letters_in (step_by cut n)) _ _ q r (omega (arith, letters, most)) g))
+
+pub are_lent : (lent view : List Fragments) (n : ℕ) → lent ≡ view → AreAllFragments n view → AreAllFragments (length lent) lent
+are_lent lent view n is are = subst (λ xs. AreAllFragments (length xs) xs) (sym is) (subst (λ m. AreAllFragments m view) (sym are.one_each) are)
+
 -- what is said of the fragments as they are lent and written back is said of those of the site
 module _ (a b : Asset) (is : a ≡ b) (address : ℕ) (own : Rules) (client : Endpoint) (moment : ℕ) (s : Side) (x : FrameValue) (place : ℕ) (lent items view : List Fragments)
     (lent_is : lent ≡ items) (view_is : items ≡ view) (old : Outlets) where
@@ -69,9 +92,8 @@ module _ (a b : Asset) (is : a ≡ b) (address : ℕ) (own : Rules) (client : En
       TakesFrameAt a (says_by a address own moment) client moment s x f place lent new old out →
       TakesFrameAt b (says_by b address own moment) client moment s x f place view (take size (new ++ drop (length new) items)) old out
   taken_back f new size out all t =
-      let long : size ≡ length new = all ∙ ap length (sym lent_is) ∙ sym (length-set lent place t.now) ∙ ap length (sym t.set_is) in
       let written : new ≡ take size (new ++ drop (length new) items) =
-      sym (ap (λ n. take n (new ++ drop (length new) items)) long ∙ take-append_seam new (drop (length new) items)) in
+      sym (whole_back size new items all (ap length t.set_is ∙ length-set lent place t.now ∙ ap length lent_is)) in
       subst (λ ns. TakesFrameAt b (says_by b address own moment) client moment s x f place view ns old out) written
       (subst (λ bs. TakesFrameAt b (says_by b address own moment) client moment s x f place bs new old out) (lent_is ∙ view_is)
       (subst (λ (y : Asset). TakesFrameAt y (says_by y address own moment) client moment s x f place lent new old out) is t))

@@ -1,7 +1,7 @@
 -- What stands at the front of a side's bytes, once the lane has counted it: `steps_counted` and `misses_front`.
 use Rattle.cf_audit.specs.declared.line.CutReason.{CutReason}
 use Rattle.cf_lane.proofs.Saying.{lane_on}
-use Rattle.cf_lane.specs.Handled.{Counts, CountsBy, CountsFront, Fronts, FrontsOf, Grows, IsLaneOf, LaneValue, Outlets, State, Steps, TakesUncounted, TakesUnit, debt, lane_at, letters_in, most_counted, state, step_at, step_by, taken_in}
+use Rattle.cf_lane.specs.Handled.{Counts, CountsBy, CountsFront, Fronts, FrontsOf, Grows, HasRoom, IsLaneOf, LaneValue, Misses, MissesOf, Outlets, State, Steps, TakesUncounted, TakesUnit, debt, lane_at, letters_in, most_counted, state, step_at, step_by, taken_in}
 use Rattle.cf_lane.specs.Judged.{fate_cut, is_admitted, is_refused, one_if}
 use Rattle.cf_lane.specs.Kept.{AreAllFragments, IsWireOf, wire_debt}
 use Rattle.cf_lane.specs.Rings.{AreRulesOf, HasFewAt}
@@ -112,9 +112,17 @@ pub is_dnp3 : (p : Protocol) (n : ℕ) (all : List Fragments) → IsWireOf p n (
 is_dnp3 protocol.Dnp3 n all is = refl
 is_dnp3 p n all is = absurd is
 
+pub is_modbus : (p : Protocol) (n : ℕ) → IsWireOf p n wire.Modbus → p ≡ protocol.Modbus
+is_modbus protocol.Modbus n is = refl
+is_modbus p n is = absurd is
+
 pub is_iec104 : (p : Protocol) (n : ℕ) (numbers : NumbersValue) → IsWireOf p n (wire.Iec104 numbers) → p ≡ protocol.Iec104
 is_iec104 protocol.Iec104 n numbers is = refl
 is_iec104 p n numbers is = absurd is
+
+pub is_idle : (p : Protocol) (n : ℕ) (numbers : NumbersValue) → IsWireOf p n (wire.Iec104 numbers) → numbers.owed ≡ None
+is_idle protocol.Iec104 n numbers is = is
+is_idle p n numbers is = absurd is
 
 pub dnp3_wire : (p : Protocol) (n : ℕ) (all : List Fragments) → p ≡ protocol.Dnp3 → AreAllFragments n all → IsWireOf p n (wire.Dnp3 all)
 dnp3_wire p n all is are = subst (λ q. IsWireOf q n (wire.Dnp3 all)) (sym is) are
@@ -142,7 +150,20 @@ module _ (site : SiteValue) (client : Endpoint) (admitted refused : ℕ) (rules 
   pub grows_in : (m d : ℕ) (p q : Queue) → Grows m (wire_debt before) d p q → Grows m (debt lane) d p q
   grows_in m d p q g = subst (λ e. Grows m e d p q) (sym (ap wire_debt same) ∙ ap debt is) g
 
+  pub room_in : (n : ℕ) (q : Queue) → HasRoom (debt lane + n) q → HasRoom (wire_debt before + n) q
+  room_in n q r = subst (λ e. HasRoom (e + n) q) (sym (sym (ap wire_debt same) ∙ ap debt is)) r
+
+  pub rules_in : (given : List Rules) → given ≡ rules → IsLaneOf site lane → AreRulesOf site client.address given
+  rules_in given given_is of = subst (AreRulesOf site client.address) (sym given_is) (subst (λ (l : LaneValue). AreRulesOf site l.client.address l.rules) (sym is) of.rules)
+
   module _ (moment : ℕ) (s : Side) (bytes : List ℕ) (old : Outlets) where
+    pub misses_in : (log : Option (List (List ℕ))) (part : List ℕ) (given : List Rules) → given ≡ rules → MissesOf site client given moment s bytes before old log part →
+        Misses site moment s bytes (state lane old.to_client old.to_controller old.lines) log part
+    misses_in log part given given_is m =
+        let f = subst (λ rs. MissesOf site client rs moment s bytes before old log part) given_is m in
+        subst (λ (l : LaneValue). Misses site moment s bytes (state l old.to_client old.to_controller old.lines) log part) is
+        (subst (λ (w : Wire). Misses site moment s bytes (lane_at client rules w admitted refused old) log part) (sym same) (f admitted refused))
+
     pub fronts_in : (after : Wire) (new : Outlets) (answer : Framed Decided) (given : List Rules) → given ≡ rules → FrontsOf site client given moment s bytes before after old new answer →
         Fronts site moment s bytes (state lane old.to_client old.to_controller old.lines)
         (state (lane_of client admitted refused rules after) new.to_client new.to_controller new.lines) answer

@@ -23,6 +23,7 @@ mod Holding
 pub mod Judgements
 mod Lasting
 mod LineFeeds
+mod Logging
 mod Moments
 pub mod Parting
 mod Pieces

@@ -1,11 +1,12 @@
 -- What becomes of a client's I frame whose numbers are right.
 use Rattle.cf_lane.specs.Rates.{Says}
 use Rattle.cf_apci.specs.Apdu.{Info}
-use Rattle.cf_lane.proofs.Handling.{push-nothing}
-use Rattle.cf_lane.specs.Iec104.{ack_octets, apdu_octets, apdu_output, fate_of_apdu, fate_of_asdu, stamped}
+use Rattle.cf_audit.specs.declared.line.CutReason.{CutReason}
+use Rattle.cf_lane.proofs.Handling.{push-nothing, with_lines-nothing}
+use Rattle.cf_lane.specs.Iec104.{ack_octets, apdu_octets, apdu_output, fate_of_apdu, fate_of_asdu, or_cut, stamped}
 use Rattle.cf_lane.specs.Judged.{Judged, has_ended}
 use Rattle.cf_lane.specs.Log.{admission_lines, is_some_bytes, line_about, refusal_line, unit_lines, with_lines}
-use Rattle.cf_lane.specs.Numbers.{events_of, has_mirror}
+use Rattle.cf_lane.specs.Numbers.{events_of, has_mirror, info_cut, number_cut}
 use Rattle.cf_lane.specs.Renumbered.{DoesApdu, Numbered, mirror_octets, numbered}
 use Rattle.cf_lane.specs.Unit.{apdu_spelling}
 use Rattle.cf_lane.specs.declared.fate.Admission.{Admission}
@@ -16,12 +17,14 @@ use Rattle.cf_outq.specs.SendQueue.{Queue, after_push}
 use Rattle.cf_policy.specs.declared.Asset.{Asset}
 use Rattle.cf_renumber.specs.Counts.{Admitted, Refused, admitted_stamp, client_refusal, may_send, mirror_stamp, refused_stamp}
 use Rattle.cf_renumber.specs.Numbers.{IsNumbersOf, NumbersValue}
+use Rattle.cf_renumber.specs.declared.answer.NumberRefusal.{NumberRefusal}
 use Rattle.cf_renumber.specs.declared.answer.RefusedStamp.{RefusedStamp}
 use Rattle.cf_renumber.specs.declared.answer.Stamp.{Stamp}
 use Rattle.cf_view.specs.declared.Endpoint.{Endpoint}
 use Rattle.std.proofs.Common.{Bool, List, None, Option, Some, [], ap, arith, drop, false, length, nat_lt, ltb-true, refl, subst, sym, take, true, ℕ, ◌+◌, ◌<◌, ◌∙◌, ◌∷◌, ◌≡◌, ◌≤◌}
 use Rattle.std.proofs.lemmas.List.{length-append, length-drop, length-take}
 use Rattle.std.specs.Prelude.{IsSome, IsTrue, if◌then◌else◌, slice_index, ◌↔◌}
+use Rattle.cf_audit.specs.declared.line.CutReason.TheVariants as cut
 use Rattle.cf_lane.specs.declared.fate.Fate.TheVariants as fate
 use Rattle.cf_view.specs.declared.Side.TheVariants as side
 
@@ -29,6 +32,29 @@ use Rattle.cf_view.specs.declared.Side.TheVariants as side
 pub record AreRight (send receive : ℕ) (earlier : List Judged) : Type 0 where
   pub may : may_send side.Client (events_of earlier) ≡ true
   pub none : client_refusal (events_of earlier) send receive ≡ None
+
+-- a client's frame cuts before the client has started, and by its numbers
+pub cut_unstarted : (earlier : List Judged) (send receive : ℕ) → may_send side.Client (events_of earlier) ≡ false → info_cut side.Client earlier send receive ≡ Some (cut.NotStarted side.Client)
+cut_unstarted earlier send receive unstarted =
+    ap (λ (b : Bool). if b then number_cut side.Client (client_refusal (events_of earlier) send receive) else Some (cut.NotStarted side.Client)) unstarted
+
+pub cut_numbers : (earlier : List Judged) (send receive : ℕ) (refusal : NumberRefusal) (reason : CutReason) → may_send side.Client (events_of earlier) ≡ true →
+    client_refusal (events_of earlier) send receive ≡ Some refusal → number_cut side.Client (Some refusal) ≡ Some reason → info_cut side.Client earlier send receive ≡ Some reason
+cut_numbers earlier send receive refusal reason may refused is = rw (may, refused) is
+
+-- one that cuts leaves nothing
+pub does_cut : (asset : Asset) (says : Says) (client : Endpoint) (moment send receive : ℕ) (asdu : List ℕ) (old : Numbered) (earlier : List Judged) (reason : CutReason) (numbers : NumbersValue) →
+    info_cut side.Client earlier send receive ≡ Some reason →
+    DoesApdu asset says client moment side.Client (Info send receive asdu) (fate.Cuts reason) old (numbered numbers old.to_client old.to_controller old.lines) earlier
+does_cut asset says client moment send receive asdu old earlier reason numbers is = record {
+  fate = sym (ap (λ (c : Option CutReason). or_cut c (fate_of_asdu asset says asdu)) is);
+  numbers = λ e. cc e;
+  of_client = sym (push-nothing old.to_client);
+  of_controller = sym (push-nothing old.to_controller);
+  of_lines = sym (with_lines-nothing old.lines);
+  client_quiet = λ e. refl;
+  controller_quiet = λ e. refl;
+}
 
 module _ (asset : Asset) (says : Says) (client : Endpoint) (moment send receive : ℕ) (asdu : List ℕ) (old : Numbered) (earlier : List Judged) (right : AreRight send receive earlier) where
   is_fate : (f : Fate) → f ≡ fate_of_asdu asset says asdu → f ≡ fate_of_apdu asset says side.Client earlier (Info send receive asdu)

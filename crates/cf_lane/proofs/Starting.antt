@@ -167,7 +167,7 @@ unused_known site before all none unused =
     subst (IsRingOf r.rate.most r.moments) (sym (append-nil (none_before k place))) (unused k rules at place r there))
 
 -- the whole of what was written back
-pub whole_back : (size : ℕ) (new old : List Rules) → size ≡ length old → length new ≡ length old → take size (new ++ drop (length new) old) ≡ new
+pub whole_back : {A : Type 0} (size : ℕ) (new old : List A) → size ≡ length old → length new ≡ length old → take size (new ++ drop (length new) old) ≡ new
 whole_back size new old is same = ap (λ n. take n (new ++ drop (length new) old)) (is ∙ sym same) ∙ take-append_seam new (drop (length new) old)
 
 -- ---- new fragments owe nothing

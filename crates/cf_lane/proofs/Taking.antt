@@ -23,8 +23,9 @@ use Rattle.cf_outq.specs.SendQueue.{Queue, after_push}
 use Rattle.cf_policy.specs.Site.{SiteValue, asset_of}
 use Rattle.cf_view.specs.Framing.{Begins}
 use Rattle.cf_view.specs.declared.Side.{Side}
-use Rattle.std.proofs.Common.{Bool, List, None, Some, [], ap, arith, false, length, refl, slice_get, subst, sym, true, ℕ, ◌+◌, ◌∙◌, ◌∷◌, ◌≡◌, ◌≤◌}
+use Rattle.std.proofs.Common.{Bool, List, None, Some, [], ap, arith, false, length, refl, slice_get, subst, sym, true, ℕ, ◌*◌, ◌+◌, ◌∙◌, ◌∷◌, ◌≡◌, ◌≤◌}
 use Rattle.std.proofs.lemmas.List.{length-append, length-take}
+use Rattle.std.specs.Prelude.{if◌then◌else◌}
 use Rattle.cf_lane.specs.declared.fate.Fate.TheVariants as fate
 use Rattle.cf_policy.specs.declared.Protocol.TheVariants as protocol
 use Rattle.cf_view.specs.declared.Side.TheVariants as side
@@ -80,8 +81,22 @@ module _ (site : SiteValue) (place moment : ℕ) (a : AduValue) (here : place �
 pub grows_more : (m n d e : ℕ) (p q : Queue) → m ≤ n → Grows m d e p q → Grows n d e p q
 grows_more m n d e p q l g = record { kept = omega (arith, g.kept, l); pushed = omega (arith, g.pushed, l); rest = g.rest }
 
+-- a queue that stays as it was
+pub grows_same : (n d : ℕ) (q : Queue) → Grows n d d q q
+grows_same n d q = record { kept = omega arith; pushed = omega arith; rest = refl }
+
+-- one of both queues has the octets, or neither of them
+pub grows_passed : (b : Bool) (d : ℕ) (q r : Queue) (xs : List ℕ) → r ≡ after_push q (if b then [] else xs) → Grows (2 * length xs) d d q r
+grows_passed b d q r xs is = subst (Grows (2 * length xs) d d q) (sym is) (by b) where
+  by : (b : Bool) → Grows (2 * length xs) d d q (after_push q (if b then [] else xs))
+  by true = record { kept = omega (arith, length-append q.kept []); pushed = omega arith; rest = refl }
+  by false = record { kept = omega (arith, length-append q.kept xs); pushed = omega arith; rest = refl }
+
 pub grows_push : (n : ℕ) (q : Queue) (xs : List ℕ) → length xs ≤ n → Grows n 0 0 q (after_push q xs)
 grows_push n q xs l = record { kept = omega (arith, length-append q.kept xs, l); pushed = omega (arith, l); rest = refl }
+
+pub grows_pushed : (q r : Queue) (xs ys : List ℕ) → r ≡ after_push q xs → xs ≡ ys → Grows (length ys) 0 0 q r
+grows_pushed q r xs ys is same = subst (λ (p : Queue). Grows (length ys) 0 0 q p) (sym (is ∙ ap (after_push q) same)) (grows_push (length ys) q ys (omega arith))
 
 pub grows_both : (m n c d e : ℕ) (p q r : Queue) → Grows m c d p q → Grows n d e q r → Grows (m + n) c e p r
 grows_both m n c d e p q r a b = record {

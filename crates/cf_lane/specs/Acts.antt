@@ -58,6 +58,10 @@ admission asset says acts = record { used = used_by (rated asset.rules) says act
 abbrev pub unrated : List Rule → Says → List Act → Admission
 unrated rules says acts = record { used = replicate most_rated false; shown = first_shown rules says acts }
 
+-- the admission of a command that used no rule with a rate or a log
+abbrev pub nothing_shown : Admission
+nothing_shown = record { used = replicate most_rated false; shown = None }
+
 -- a command without a refusal is admitted
 abbrev pub by_refusal : Admission → Option Refusal → Fate
 by_refusal admitted None = fate.Admitted admitted

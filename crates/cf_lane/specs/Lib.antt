@@ -14,6 +14,7 @@ pub mod Kept
 pub mod Laws
 pub mod Limit
 pub mod Log
+pub mod Logging
 pub mod Modbus
 pub mod Numbers
 pub mod Output

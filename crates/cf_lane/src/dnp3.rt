@@ -1,16 +1,17 @@
 //! DNP3 in the lane: what becomes of a frame, and of the fragment that it completes.
-ghost use Rattle.std.specs.Prelude.{◌≡◌, ◌+◌, ◌*◌, ◌<◌, true, IfOk, OnOk, OnErr, IsErr, length};
+ghost use Rattle.std.specs.Prelude.{◌≡◌, ◌+◌, ◌*◌, ◌<◌, true, IfOk, OnOk, OnErr, length};
 ghost use Rattle.std.specs.List.{sum_by};
+ghost use Rattle.std.specs.Result.{is_err};
 ghost use Rattle.cf_dnplink.specs.LinkFrame.{IsFrame, frame_value};
-ghost use Rattle.cf_outside.specs.Faults.{HasCause};
 ghost use Rattle.cf_outside.specs.Desk.{DeskValue};
 ghost use Rattle.cf_policy.specs.Site.{IsSiteWithin, assets_of};
 ghost use Rattle.cf_policy.specs.Within.{IsAssetWithin};
 ghost use Rattle.cf_lane.specs.Fragments.{MissesFrameAt, TakesFrameAt};
-ghost use Rattle.cf_lane.specs.Handled.{FewAtFront, FrontsOf, Grows, HasRoom, IsOpen, MissesOf, WritesLog, outlets, taken_in};
+ghost use Rattle.cf_lane.specs.Handled.{FewAtFront, FrontsOf, Grows, HasRoom, IsOpen, MissesOf, outlets, taken_in};
 ghost use Rattle.cf_lane.specs.Kept.{AreAllFragments, owed_by};
 ghost use Rattle.cf_lane.specs.Rings.{AreRulesOf, IsRulesOf, says_by};
 ghost use Rattle.cf_lane.specs.Unit.{frame_spelling};
+ghost use Rattle.cf_lane.specs.Logging.{LogsLines};
 
 mod fragments;
 mod frames;
@@ -69,9 +70,7 @@ impl AllFragments {
             to_client.new) }
         ensures controller_grows { IfOk result (λ a. Grows (2 * taken_in a) (sum_by owed_by self.old) (sum_by owed_by self.new)
             to_controller.old to_controller.new) }
-        ensures whole { OnOk result (DeskValue.whole (D.value desk.new) ≡ true) }
-        ensures log { WritesLog (D.value desk.old) (D.value desk.new) }
-        ensures cause { HasCause (DeskValue.faults (D.value desk.old)) (DeskValue.faults (D.value desk.new)) (IsErr result) }
+        ensures desk { LogsLines (D.value desk.old) (D.value desk.new) (is_err result) }
     {
         match next_frame(after(bytes, 0)) {
             Framed::More => Ok(Framed::More),
@@ -140,9 +139,7 @@ fn take_frame_at<D: Desk>(
         to_client.new) }
     ensures controller_grows { OnOk result (Grows (2 * length octets.now.bytes) (sum_by owed_by all.old) (sum_by owed_by all.new)
         to_controller.old to_controller.new) }
-    ensures whole { OnOk result (DeskValue.whole (D.value desk.new) ≡ true) }
-    ensures log { WritesLog (D.value desk.old) (D.value desk.new) }
-    ensures cause { HasCause (DeskValue.faults (D.value desk.old)) (DeskValue.faults (D.value desk.new)) (IsErr result) }
+    ensures desk { LogsLines (D.value desk.old) (D.value desk.new) (is_err result) }
 {
     let fate = all[place].take_frame(
         asset,

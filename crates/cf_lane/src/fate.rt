@@ -1,14 +1,15 @@
 //! What becomes of a command, and of an item of a stream.
-ghost use Rattle.std.specs.Prelude.{◌≡◌, ◌<◌, ◌≤◌, List, ℕ, false, length, replicate};
+ghost use Rattle.std.specs.Prelude.{◌≡◌, ◌<◌, ◌≤◌, List, ℕ, false, length, replicate, true};
 ghost use Rattle.std.specs.Option.{option_or};
 ghost use Rattle.cf_modbus.specs.Acts.{acts};
 ghost use Rattle.cf_modbus.specs.Adu.{adu_value};
 ghost use Rattle.cf_modbus.specs.Request.{IsRead, request_value};
 ghost use Rattle.cf_policy.specs.Index.{IsIndexOf};
+ghost use Rattle.cf_policy.specs.Logged.{is_logged};
 ghost use Rattle.cf_policy.specs.Verdict.{verdict_of};
 ghost use Rattle.cf_policy.specs.Within.{most_rated};
 ghost use Rattle.cf_lane.specs.Rings.{IsRulesOf, says_by};
-ghost use Rattle.cf_lane.specs.Acts.{GivesActs, by_refusal, fate_of_acts, first_refusal, shown_by, unrated};
+ghost use Rattle.cf_lane.specs.Acts.{GivesActs, by_refusal, fate_of_acts, first_refusal, nothing_shown, shown_by, unrated};
 ghost use Rattle.cf_lane.specs.Fate.{HasOwnDecider};
 ghost use Rattle.cf_lane.specs.Judgement.{fate_of_judgement};
 ghost use Rattle.cf_lane.specs.Modbus.{HasCommandFate, station_refusal};
@@ -21,7 +22,7 @@ use cf_policy::{Asset, CodeIndex, Decider, MOST_RATED, Verdict, is_logged};
 use cf_view::{Act, Reason};
 
 /// Why a command is refused.
-#[derive(Clone, Copy, PartialEq, Eq, Debug)]
+#[derive(Clone, Copy)]
 pub struct Refusal {
     /// The rule that decided, or what else did.
     pub decider: Decider,
@@ -31,7 +32,7 @@ pub struct Refusal {
 }
 
 /// The act that the log shows of an admitted command.
-#[derive(Clone, Copy, PartialEq, Eq, Debug)]
+#[derive(Clone, Copy)]
 pub struct Shown {
     /// The rule that allowed it, counted from 0, which has a log.
     pub rule: usize,
@@ -39,7 +40,7 @@ pub struct Shown {
 }
 
 /// What is known of an admitted command.
-#[derive(Clone, Copy, PartialEq, Eq, Debug)]
+#[derive(Clone, Copy)]
 pub struct Admission {
     /// For each rule with a rate, in their order: whether it decided one of the command's acts.
     pub used: [bool; MOST_RATED],
@@ -48,7 +49,7 @@ pub struct Admission {
 }
 
 /// What becomes of an item of a stream.
-#[derive(Clone, Copy, PartialEq, Eq, Debug)]
+#[derive(Clone, Copy)]
 pub enum Fate {
     /// It goes on unjudged.
     Carried,
@@ -102,6 +103,37 @@ pub(crate) fn judge(asset: &Asset, rules: &Rules, moment: u64, adu: &Adu<'_>) ->
         };
     }
     judge_form(asset, rules, moment, adu)
+}
+
+/// Whether an ADU is a request of one point that is admitted with nothing to put aside: no rule of its asset has a rate, and the rule
+/// that allows it has no log. Then `judge` answers that it is admitted; else it has to be asked. It is what plants write most.
+#[inline(always)]
+pub(crate) fn is_plain(asset: &Asset, rules: &Rules, adu: &Adu<'_>) -> bool
+    requires at_least { 1 ≤ length adu.now.pdu.bytes }
+    requires at_most { length adu.now.pdu.bytes ≤ 253 }
+    ensures fate { result ≡ true → (client moment : ℕ) → IsRulesOf asset.now client rules.now
+        → HasCommandFate asset.now (says_by asset.now client rules.now moment) (adu_value adu.now) (Fate.Admitted nothing_shown) }
+    ensures unrated { result ≡ true → length rules.now.rings.items ≡ 0 }
+{
+    if u16::from(adu.unit) != asset.station || !rules.rings.is_empty() {
+        return false;
+    }
+    match single_write(adu) {
+        Some(act) => is_allowed_unlogged(asset, &rules.index, &act),
+        None => false,
+    }
+}
+
+/// Whether an act is allowed by a rule that has no log.
+#[inline(always)]
+fn is_allowed_unlogged(asset: &Asset, index: &CodeIndex, act: &Act) -> bool
+    ensures { result ≡ true → (client : ℕ) → IsIndexOf asset.now client index.now
+        → (number : ℕ) × (verdict_of asset.now client act.now ≡ Verdict.Allow number) × (is_logged asset.now.rules number ≡ false) }
+{
+    match index.verdict(asset, act) {
+        Verdict::Allow(number) => !is_logged(asset.rules.as_slice(), number),
+        Verdict::Refuse(_, _) => false,
+    }
 }
 
 /// What is known of a command of one act where no rule has a rate. Without a log nothing is put aside.

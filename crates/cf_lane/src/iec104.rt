@@ -1,13 +1,14 @@
 //! IEC 60870-5-104 in the lane: what becomes of an APDU.
-ghost use Rattle.std.specs.Prelude.{◌≡◌, ◌*◌, None, true, IfOk, OnOk, OnErr, IsErr, length};
+ghost use Rattle.std.specs.Prelude.{◌≡◌, ◌*◌, None, true, IfOk, OnOk, OnErr, length};
+ghost use Rattle.std.specs.Result.{is_err};
 ghost use Rattle.cf_apci.specs.Apdu.{Fits, apdu_value, spelling};
-ghost use Rattle.cf_outside.specs.Faults.{HasCause};
 ghost use Rattle.cf_outside.specs.Desk.{DeskValue};
 ghost use Rattle.cf_lane.specs.Rings.{AreRulesOf, IsRulesOf, says_by};
 ghost use Rattle.cf_policy.specs.Site.{IsSiteWithin};
 ghost use Rattle.cf_policy.specs.Within.{IsAssetWithin};
-ghost use Rattle.cf_lane.specs.Handled.{FewAtFront, FrontsOf, Grows, HasRoom, IsOpen, MissesOf, WritesLog, outlets, taken_in};
+ghost use Rattle.cf_lane.specs.Handled.{FewAtFront, FrontsOf, Grows, HasRoom, IsOpen, MissesOf, outlets, taken_in};
 ghost use Rattle.cf_lane.specs.Renumbered.{MissesApdu, TakesApdu, numbered, unless_cut};
+ghost use Rattle.cf_lane.specs.Logging.{LogsLines};
 
 mod carry;
 mod command;
@@ -65,9 +66,7 @@ fn take_apdu<D: Desk>(
         to_client.new) }
     ensures controller_grows { IfOk result (λ f. Grows (unless_cut f (length (spelling (apdu_value apdu.now)))) 0 0 to_controller.old
         to_controller.new) }
-    ensures whole { OnOk result (DeskValue.whole (D.value desk.new) ≡ true) }
-    ensures log { WritesLog (D.value desk.old) (D.value desk.new) }
-    ensures cause { HasCause (DeskValue.faults (D.value desk.old)) (DeskValue.faults (D.value desk.new)) (IsErr result) }
+    ensures desk { LogsLines (D.value desk.old) (D.value desk.new) (is_err result) }
 {
     match apdu {
         Apdu::Control(octet) => {
@@ -138,9 +137,7 @@ pub(crate) fn take_apdu_at_front<D: Desk>(
     ensures idle { OnOk result (numbers.new.owed ≡ None) }
     ensures client_grows { IfOk result (λ a. Grows (2 * taken_in a) 0 0 to_client.old to_client.new) }
     ensures controller_grows { IfOk result (λ a. Grows (2 * taken_in a) 0 0 to_controller.old to_controller.new) }
-    ensures whole { OnOk result (DeskValue.whole (D.value desk.new) ≡ true) }
-    ensures log { WritesLog (D.value desk.old) (D.value desk.new) }
-    ensures cause { HasCause (DeskValue.faults (D.value desk.old)) (DeskValue.faults (D.value desk.new)) (IsErr result) }
+    ensures desk { LogsLines (D.value desk.old) (D.value desk.new) (is_err result) }
 {
     match next_apdu(after(bytes, 0)) {
         Framed::More => Ok(Framed::More),

@@ -4,6 +4,7 @@
 //! first lines of a history that ends with its unit.
 ghost use Rattle.std.specs.Prelude.{◌≡◌, ◌≢◌, ℕ, ◌+◌, ◌*◌, ◌^◌, ◌<◌, ◌≤◌, ◌++◌, [], ◌∷◌, Bool, false, true, None, Option, IfOk, OnOk, OnErr};
 ghost use Rattle.std.specs.Prelude.{IfSome, IsErr, List, length, drop};
+ghost use Rattle.std.specs.Result.{is_err};
 ghost use Rattle.cf_outq.specs.SendQueue.{Queue, IsQueueOf, after_push};
 ghost use Rattle.cf_outside.specs.Faults.{HasCause};
 ghost use Rattle.cf_outside.specs.Desk.{DeskValue};
@@ -24,6 +25,7 @@ ghost use Rattle.cf_lane.specs.SiteRates.{used_at};
 ghost use Rattle.cf_lane.specs.declared.lane.Decided.{Decided};
 ghost use Rattle.cf_lane.specs.Kept.{KnowsWire};
 ghost use Rattle.cf_lane.specs.Log.{has_unfinished};
+ghost use Rattle.cf_lane.specs.Logging.{LogsLines};
 
 use crate::fate::{Admission, Fate};
 use crate::iec104::take_apdu_at_front;
@@ -314,9 +316,7 @@ impl Lane {
             to_controller.new) }
         ensures counts { IfOk result (λ s. CountsBy (letters_in s) self.old self.new) }
         ensures inside { IfOk result (λ s. letters_in s ≤ length bytes.now.bytes) }
-        ensures whole { OnOk result (DeskValue.whole (D.value desk.new) ≡ true) }
-        ensures log { WritesLog (D.value desk.old) (D.value desk.new) }
-        ensures cause { HasCause (DeskValue.faults (D.value desk.old)) (DeskValue.faults (D.value desk.new)) (IsErr result) }
+        ensures desk { LogsLines (D.value desk.old) (D.value desk.new) (is_err result) }
     {
         match &self.wire {
             Wire::Modbus => {
@@ -360,9 +360,7 @@ impl Lane {
             to_controller.new) }
         ensures counts { IfOk result (λ s. CountsBy (letters_in s) self.old self.new) }
         ensures inside { IfOk result (λ s. letters_in s ≤ length bytes.now.bytes) }
-        ensures whole { OnOk result (DeskValue.whole (D.value desk.new) ≡ true) }
-        ensures log { WritesLog (D.value desk.old) (D.value desk.new) }
-        ensures cause { HasCause (DeskValue.faults (D.value desk.old)) (DeskValue.faults (D.value desk.new)) (IsErr result) }
+        ensures desk { LogsLines (D.value desk.old) (D.value desk.new) (is_err result) }
     {
         match &mut self.wire {
             Wire::Modbus => unreachable!(),
@@ -445,6 +443,14 @@ impl Lane {
     {
         self.admitted += 1;
         note_at(self.rules.as_mut_slice(), place, admission, moment);
+    }
+
+    /// Counts an admitted command that used no rule with a rate.
+    pub(crate) fn admit_plain(&mut self)
+        requires counts { self.old.admitted + 1 < 2 ^ 64 }
+        ensures { self.new ≡ record self.old { admitted = self.old.admitted + 1 } }
+    {
+        self.admitted += 1;
     }
 
     /// Counts a refused command.

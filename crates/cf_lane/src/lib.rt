@@ -29,4 +29,5 @@ pub use limit::{LETTER_LIMIT, Lengths, limit_cut};
 pub use log::put_line;
 pub use rings::Rings;
 pub use rows::rows_hold;
+pub use run::refusal_of;
 pub use site::{place_for_adu, place_for_apdu, place_for_frame};

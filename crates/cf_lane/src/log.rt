@@ -1,5 +1,6 @@
 //! The lines that a session writes.
 ghost use Rattle.std.specs.Prelude.{◌≡◌, ◌≤◌, ◌∷◌, [], true, length, OnOk, OnErr, IsErr};
+ghost use Rattle.std.specs.Result.{is_err};
 ghost use Rattle.cf_audit.specs.Line.{HasShortNames, Stray, line_value};
 ghost use Rattle.cf_audit.specs.Text.{line_text};
 ghost use Rattle.cf_outside.specs.Faults.{HasCause};
@@ -9,6 +10,7 @@ ghost use Rattle.cf_policy.specs.Verdict.{IsOneOf};
 ghost use Rattle.cf_policy.specs.Within.{IsAssetWithin};
 ghost use Rattle.cf_lane.specs.Handled.{HasAdded, MayHaveAdded, WritesLog};
 ghost use Rattle.cf_lane.specs.Log.{HasPlainNames, admission_line, admission_lines, line_about, refusal_line, end_lines};
+ghost use Rattle.cf_lane.specs.Logging.{LogsLines};
 
 use crate::fate::{Admission, Refusal, Shown};
 use arrayvec::ArrayString;
@@ -55,9 +57,7 @@ pub(crate) fn log_refusal<D: Desk>(
     ensures fails { OnErr result (MayHaveAdded
         (line_about asset.now client.now moment (refusal_line asset.now refusal.now replied octets.entry.bytes) ∷ []) (D.value desk.old)
         (D.value desk.new)) }
-    ensures whole { OnOk result (DeskValue.whole (D.value desk.new) ≡ true) }
-    ensures log { WritesLog (D.value desk.old) (D.value desk.new) }
-    ensures cause { HasCause (DeskValue.faults (D.value desk.old)) (DeskValue.faults (D.value desk.new)) (IsErr result) }
+    ensures desk { LogsLines (D.value desk.old) (D.value desk.new) (is_err result) }
 {
     let line = Line {
         moment,
@@ -90,9 +90,7 @@ pub(crate) fn log_admission<D: Desk>(
         (D.value desk.new)) }
     ensures fails { OnErr result (MayHaveAdded (admission_lines asset.now client.now moment octets.entry.bytes admission.now)
         (D.value desk.old) (D.value desk.new)) }
-    ensures whole { OnOk result (DeskValue.whole (D.value desk.new) ≡ true) }
-    ensures log { WritesLog (D.value desk.old) (D.value desk.new) }
-    ensures cause { HasCause (DeskValue.faults (D.value desk.old)) (DeskValue.faults (D.value desk.new)) (IsErr result) }
+    ensures desk { LogsLines (D.value desk.old) (D.value desk.new) (is_err result) }
 {
     match admission.shown {
         Some(shown) => log_shown(asset, client, moment, &shown, octets, desk),
@@ -118,9 +116,7 @@ fn log_shown<D: Desk>(
     ensures fails { OnErr result (MayHaveAdded
         (line_about asset.now client.now moment (admission_line asset.now shown.now octets.entry.bytes) ∷ []) (D.value desk.old)
         (D.value desk.new)) }
-    ensures whole { OnOk result (DeskValue.whole (D.value desk.new) ≡ true) }
-    ensures log { WritesLog (D.value desk.old) (D.value desk.new) }
-    ensures cause { HasCause (DeskValue.faults (D.value desk.old)) (DeskValue.faults (D.value desk.new)) (IsErr result) }
+    ensures desk { LogsLines (D.value desk.old) (D.value desk.new) (is_err result) }
 {
     let line = Line {
         moment,
@@ -162,9 +158,7 @@ pub(crate) fn log_stray<D: Desk>(
         (D.value desk.new)) }
     ensures fails { OnErr result (MayHaveAdded (line_about asset.now client.now moment (Stray side why) ∷ []) (D.value desk.old)
         (D.value desk.new)) }
-    ensures whole { OnOk result (DeskValue.whole (D.value desk.new) ≡ true) }
-    ensures log { WritesLog (D.value desk.old) (D.value desk.new) }
-    ensures cause { HasCause (DeskValue.faults (D.value desk.old)) (DeskValue.faults (D.value desk.new)) (IsErr result) }
+    ensures desk { LogsLines (D.value desk.old) (D.value desk.new) (is_err result) }
 {
     let line = Line {
         moment,
@@ -191,9 +185,7 @@ pub(crate) fn log_end<D: Desk>(
         (D.value desk.new)) }
     ensures fails { OnErr result (MayHaveAdded (end_lines asset.now client.now moment side unfinished rest) (D.value desk.old)
         (D.value desk.new)) }
-    ensures whole { OnOk result (DeskValue.whole (D.value desk.new) ≡ true) }
-    ensures log { WritesLog (D.value desk.old) (D.value desk.new) }
-    ensures cause { HasCause (DeskValue.faults (D.value desk.old)) (DeskValue.faults (D.value desk.new)) (IsErr result) }
+    ensures desk { LogsLines (D.value desk.old) (D.value desk.new) (is_err result) }
 {
     if rest == 0 && !unfinished {
         return Ok(());

@@ -1,16 +1,17 @@
 //! Modbus in the lane: what becomes of an ADU.
-ghost use Rattle.std.specs.Prelude.{◌≡◌, ◌+◌, ◌*◌, ◌^◌, ◌<◌, ◌≤◌, false, true, IfOk, OnOk, OnErr, IsErr, drop, length};
+ghost use Rattle.std.specs.Prelude.{◌≡◌, ◌+◌, ◌*◌, ◌^◌, ◌<◌, ◌≤◌, false, true, IfOk, OnOk, OnErr, drop, length};
+ghost use Rattle.std.specs.Result.{is_err};
 ghost use Rattle.cf_modbus.specs.Adu.{adu_value, spelling};
 ghost use Rattle.cf_outq.specs.SendQueue.{after_push};
-ghost use Rattle.cf_outside.specs.Faults.{HasCause};
 ghost use Rattle.cf_outside.specs.Desk.{DeskValue};
 ghost use Rattle.cf_policy.specs.Site.{IsSiteWithin};
-ghost use Rattle.cf_lane.specs.Handled.{IsLaneOf, Steps, Misses, TakesCommand, MissesCommand, Grows, CountsBy, HasRoom, IsOpen, WritesLog};
+ghost use Rattle.cf_lane.specs.Handled.{IsLaneOf, Steps, Misses, TakesCommand, MissesCommand, Grows, CountsBy, HasRoom, IsOpen};
 ghost use Rattle.cf_lane.specs.Handled.{debt, letters_in, state};
 ghost use Rattle.cf_lane.specs.Log.{is_some_bytes};
 ghost use Rattle.cf_lane.specs.Modbus.{adu_reply};
+ghost use Rattle.cf_lane.specs.Logging.{LogsLines};
 
-use crate::fate::{Fate, Judgement, Refusal, judge};
+use crate::fate::{Fate, Judgement, Refusal, is_plain, judge};
 use crate::lane::{Lane, Step, push_octets};
 use crate::log::{log_admission, log_refusal};
 use crate::rules::rules_at;
@@ -55,9 +56,7 @@ impl Lane {
             to_controller.new) }
         ensures counts { IfOk result (λ s. CountsBy (letters_in s) self.old self.new) }
         ensures inside { IfOk result (λ s. letters_in s ≤ length bytes.now.bytes) }
-        ensures whole { OnOk result (DeskValue.whole (D.value desk.new) ≡ true) }
-        ensures log { WritesLog (D.value desk.old) (D.value desk.new) }
-        ensures cause { HasCause (DeskValue.faults (D.value desk.old)) (DeskValue.faults (D.value desk.new)) (IsErr result) }
+        ensures desk { LogsLines (D.value desk.old) (D.value desk.new) (is_err result) }
     {
         match next_adu(all_of(bytes)) {
             Framed::More => Ok(Step::More),
@@ -108,9 +107,51 @@ impl Lane {
         ensures client_grows { OnOk result (Grows 9 0 0 to_client.old to_client.new) }
         ensures controller_grows { OnOk result (Grows (length (spelling (adu_value adu.now))) 0 0 to_controller.old to_controller.new) }
         ensures counts { OnOk result (CountsBy 1 self.old self.new) }
-        ensures whole { OnOk result (DeskValue.whole (D.value desk.new) ≡ true) }
-        ensures log { WritesLog (D.value desk.old) (D.value desk.new) }
-        ensures cause { HasCause (DeskValue.faults (D.value desk.old)) (DeskValue.faults (D.value desk.new)) (IsErr result) }
+        ensures desk { LogsLines (D.value desk.old) (D.value desk.new) (is_err result) }
+    {
+        let place = place_for_adu(site, Side::Client, adu);
+        let rules = rules_at(self.rules.as_slice(), place);
+        if is_plain(site.asset(place), rules, adu) {
+            push_octets(&octets, to_controller);
+            self.admit_plain();
+            return Ok(());
+        }
+        self.take_judged(site, moment, adu, octets, to_client, to_controller, desk)
+    }
+
+    /// Takes a client's command, which has these octets, as it is judged: it goes on, or it is answered. Its line is written, if it has one.
+    #[inline(always)]
+    fn take_judged<D: Desk>(
+        &mut self,
+        site: &Site<'_>,
+        moment: u64,
+        adu: &Adu<'_>,
+        octets: View<'_>,
+        to_client: &mut Outq,
+        to_controller: &mut Outq,
+        desk: &mut D,
+    ) -> Result<(), WriteFault>
+        requires of_site { IsLaneOf site.now self.old }
+        requires within { IsSiteWithin site.now }
+        requires whole { DeskValue.whole (D.value desk.old) ≡ true }
+        requires at_least { 1 ≤ length adu.now.pdu.bytes }
+        requires at_most { length adu.now.pdu.bytes ≤ 253 }
+        requires octets { octets.bytes ≡ spelling (adu_value adu.now) }
+        requires open { to_controller.old.ended ≡ false }
+        requires client_room { HasRoom (length (spelling (adu_value adu.now)) + 8) to_client.old }
+        requires controller_room { HasRoom (length (spelling (adu_value adu.now))) to_controller.old }
+        requires counts { self.old.admitted + self.old.refused + 1 < 2 ^ 64 }
+        ensures takes { OnOk result (TakesCommand site.now moment (adu_value adu.now)
+            (state self.old to_client.old to_controller.old (DeskValue.lines (D.value desk.old)))
+            (state self.new to_client.new to_controller.new (DeskValue.lines (D.value desk.new)))) }
+        ensures misses { OnErr result (MissesCommand site.now moment (adu_value adu.now)
+            (state self.old to_client.old to_controller.old (DeskValue.lines (D.value desk.old)))
+            (DeskValue.lines (D.value desk.new)) (DeskValue.line_part (D.value desk.new))) }
+        ensures of_site { OnOk result (IsLaneOf site.now self.new) }
+        ensures client_grows { OnOk result (Grows 9 0 0 to_client.old to_client.new) }
+        ensures controller_grows { OnOk result (Grows (length (spelling (adu_value adu.now))) 0 0 to_controller.old to_controller.new) }
+        ensures counts { OnOk result (CountsBy 1 self.old self.new) }
+        ensures desk { LogsLines (D.value desk.old) (D.value desk.new) (is_err result) }
     {
         let place = place_for_adu(site, Side::Client, adu);
         let asset = site.asset(place);

@@ -18,6 +18,22 @@ use cf_modbus::{Request, act_at, act_count};
 use cf_policy::{Asset, CodeIndex, MOST_RATED, Verdict};
 use cf_view::Act;
 
+/// The refusal of a request of the client of the index, if one of its acts is not allowed: the first of them decides. Rates are not
+/// asked. Acts stand in the order of their points, the writes of code 23 before its reads, and those of a run are judged together.
+/// The points are those of MODBUS Application Protocol Specification V1.1b3, section 6; that acts are judged in this order, this
+/// project's own.
+pub fn refusal_of(asset: &Asset, index: &CodeIndex, request: &Request<'_>) -> Option<Refusal>
+    requires read { IsRead (request_value request.now) }
+    ensures refusal { (client : ℕ) → IsIndexOf asset.now client index.now
+        → result ≡ first_refusal (verdict_of asset.now client) (acts (request_value request.now)) }
+{
+    let any_value = takes_any_value(asset, index, request);
+    match judge_unrated_runs(asset, index, request, any_value) {
+        Judgement::Admitted(_) => None,
+        Judgement::Refused(refusal) => Some(refusal),
+    }
+}
+
 /// What becomes of a request of the client of the rules, at a moment in microseconds: its acts are judged in their order, those of a
 /// run together, and the first that is not allowed decides. Whether there are rules with a rate is asked once.
 pub(crate) fn judge_runs(
@@ -43,6 +59,7 @@ pub(crate) fn judge_runs(
 }
 
 /// The same where no rule has a rate.
+#[inline(always)]
 fn judge_unrated_runs(
     asset: &Asset,
     index: &CodeIndex,

@@ -97,7 +97,7 @@ pushed_all client acts i old now past so_far = so_far ∙ ap (λ l. old ++ map (
 value_is : {X E : Type 0} (x y : X) (r : Result X E) → r ≡ Ok x → r ≡ Ok y → x ≡ y
 value_is x y r a b = cc
 
-no_value : {X E : Type 0} (e : E) (x : X) (r : Result X E) → r ≡ Err e → r ≡ Ok x → ⊥
+pub no_value : {X E : Type 0} (e : E) (x : X) (r : Result X E) → r ≡ Err e → r ≡ Ok x → ⊥
 no_value e x r a b = cc
 
 module _ (asset : Asset) (client : ℕ) (old new : List Seen) where

@@ -184,7 +184,7 @@ pub gathered_all : (asset : Asset) (client : ℕ) (bytes : List ℕ) (place : �
 gathered_all asset client bytes place assembly old seen g = record { all = g.0; same = g.1; adds = g.2 }
 
 -- what was taken apart from all others, behind them
-adds_behind : (p : Protocol) (client : ℕ) (P : Act → Type 0) (all fresh : List Seen) → Adds p client P [] fresh → Adds p client P all (all ++ fresh)
+pub adds_behind : (p : Protocol) (client : ℕ) (P : Act → Type 0) (all fresh : List Seen) → Adds p client P [] fresh → Adds p client P all (all ++ fresh)
 adds_behind p client P all fresh a = record { acts = a.acts; appended = ap (λ l. all ++ l) a.appended; exactly = a.exactly; of_commands = a.of_commands }
 
 pub takes_behind : (asset : Asset) (client : ℕ) (earlier : List (List ℕ)) (bytes : List ℕ) (all fresh : List Seen) (assembly : AssemblyValue) (front : Option ℕ)

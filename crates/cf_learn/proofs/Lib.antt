@@ -2,11 +2,13 @@ mod Adding
 mod Elements
 mod Exact
 mod Flows
+mod Fragments
 mod Fronts
 mod Gathered
 mod Greatest
 mod Learned
 mod Numbered
 mod OwnUnits
+mod Polled
 mod Same
 mod Within

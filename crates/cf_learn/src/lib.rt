@@ -6,6 +6,7 @@ mod gathering;
 mod laws;
 mod learning;
 mod limit;
+mod polls;
 mod reading;
 mod runs;
 mod seen;

@@ -2,7 +2,7 @@
 //! An empty segment goes out where no piece was sent and an acknowledgement is owed, or what is to be told differs from what was
 //! told. The End of a piece goes only where the shown edge is past it.
 ghost use Rattle.std.specs.Prelude.{◌≡◌, ◌+◌, ◌-◌, ◌^◌, ◌<◌, ◌≤◌, min, max, not, nat_lt, ◌&&◌, if◌then◌else◌};
-ghost use Rattle.std.specs.Prelude.{true, false, List, ℕ, [], ◌∷◌, length, take, IfOk, OnErr, OnOk, pos, ◌≤ℤ◌};
+ghost use Rattle.std.specs.Prelude.{true, false, List, ℕ, [], ◌∷◌, ◌++◌, drop, length, take, IfOk, OnErr, OnOk, pos, ◌≤ℤ◌};
 ghost use Rattle.cf_outside.specs.Desk.{DeskValue};
 ghost use Rattle.cf_outside.specs.Frames.{OnlyEmits};
 ghost use Rattle.std.specs.Result.{is_err};
@@ -29,6 +29,8 @@ use cf_view::WriteFault;
 const HEADERS: usize = 40;
 /// The most octets of a packet.
 const PACKET: usize = 1_500;
+/// The most octets of a packet that is written in a small room, which costs less to clear. Units of the protocols have at most 292 octets.
+const SHORT: usize = 332;
 
 /// Emits the octets of a packet.
 #[tactic(auto, unfolding(crate::specs::Emitted::spelled))]
@@ -127,16 +129,11 @@ fn place_of(piece: Piece) -> u64
 
 /// Writes the packet with the letters of a piece to the front of a buffer, and answers how many octets it has. The letters are
 /// copied once, into their place in it.
-fn write_piece(
-    way: Way,
-    told: Advertised,
-    piece: Piece,
-    queue: &Outq,
-    out: &mut [u8; PACKET],
-) -> usize
+fn write_piece(way: Way, told: Advertised, piece: Piece, queue: &Outq, out: &mut [u8]) -> usize
     requires told { (told.base ≤ told.edge) × (told.edge - told.base < 65536) × (told.base ≤ 2 ^ 31) }
     requires unacked { IsUnacked queue.now piece }
     requires small { piece.len ≤ 1460 }
+    requires room { 40 + piece.len ≤ length out.old }
     requires place { place_or_zero piece.at ≤ 2 ^ 31 }
     ensures size { result ≡ 40 + piece.len }
     ensures octets { (text : List ℕ) × ((whole : Stream) → IsQueueOf queue.now whole → text ≡ (carried whole piece).bytes)
@@ -147,11 +144,19 @@ fn write_piece(
     queue.copy(piece, &mut out[HEADERS..size]);
     let number = sequence_number(way.own, place_of(piece));
     let headers = headers(&segment(way, told, number, &out[HEADERS..size], piece.end));
-    out[..HEADERS].copy_from_slice(headers.as_slice());
+    put_front(out, headers.as_slice());
     size
 }
 
-/// Sends the letters of a piece.
+/// Replaces the first octets of a buffer.
+fn put_front(out: &mut [u8], octets: &[u8])
+    requires { length octets.now ≤ length out.old }
+    ensures { out.new ≡ octets.now ++ drop (length octets.now) out.old }
+{
+    out[..octets.len()].copy_from_slice(octets);
+}
+
+/// Sends the letters of a piece, by a room as large as it needs.
 pub(crate) fn send_piece<D: Desk>(
     way: Way,
     moment: u64,
@@ -169,8 +174,34 @@ pub(crate) fn send_piece<D: Desk>(
     ensures sends { SendsPiece way told queue.now piece moment (D.value desk.old) (D.value desk.new) (is_err result) }
     ensures frame { OnlyEmits (D.value desk.old) (D.value desk.new) (is_err result) }
 {
-    let mut octets = [0; PACKET];
-    let size = write_piece(way, told, piece, queue, &mut octets);
+    if piece.len + HEADERS <= SHORT {
+        send_piece_by(way, moment, told, piece, queue, &mut [0; SHORT], desk)
+    } else {
+        send_piece_by(way, moment, told, piece, queue, &mut [0; PACKET], desk)
+    }
+}
+
+/// Sends the letters of a piece, whose packet is written to the front of a buffer.
+fn send_piece_by<D: Desk>(
+    way: Way,
+    moment: u64,
+    told: Advertised,
+    piece: Piece,
+    queue: &Outq,
+    octets: &mut [u8],
+    desk: &mut D,
+) -> Result<(), WriteFault>
+    requires told { (told.base ≤ told.edge) × (told.edge - told.base < 65536) × (told.base ≤ 2 ^ 31) }
+    requires unacked { IsUnacked queue.now piece }
+    requires small { piece.len ≤ 1460 }
+    requires room { 40 + piece.len ≤ length octets.old }
+    requires place { place_or_zero piece.at ≤ 2 ^ 31 }
+    requires whole { DeskValue.whole (D.value desk.old) ≡ true }
+    requires moment { moment < moment_limit }
+    ensures sends { SendsPiece way told queue.now piece moment (D.value desk.old) (D.value desk.new) (is_err result) }
+    ensures frame { OnlyEmits (D.value desk.old) (D.value desk.new) (is_err result) }
+{
+    let size = write_piece(way, told, piece, queue, octets);
     emit(moment, &octets[..size], desk)
 }
 

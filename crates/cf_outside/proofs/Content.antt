@@ -3,7 +3,7 @@ use Rattle.std.proofs.Common.{◌≡◌, ◌+◌, ◌-◌, ℕ, List, [], ◌++�
 use Rattle.std.proofs.lemmas.List.{append-nil, length-append, length-take, take-append-le, take-take, take_all}
 use Rattle.std.proofs.lemmas.Bool.{cases_lt}
 use Rattle.std.proofs.Math.Seq.{take-add, take-append-add}
-use Rattle.cf_outside.specs.Files.{Appends, Content, untold, absent, holds, with_appended, HasAt, BeginsWith}
+use Rattle.cf_outside.specs.Files.{Appends, Content, untold, absent, holds, with_appended, HasAt, IsAtEnd, IsWhole, BeginsWith}
 use Rattle.cf_outside.specs.declared.files.WriteAnswer.{WriteAnswer}
 use Rattle.cf_outside.specs.declared.files.WriteAnswer.TheVariants as write
 
@@ -31,6 +31,12 @@ pub begins_more : (c : Content) (xs piece : List ℕ) → BeginsWith c xs → Ha
 begins_more untold xs piece begins here = tt
 begins_more absent xs piece begins here = absurd here
 begins_more (holds all) xs piece begins here = rw (length-append xs piece, take-add (length xs) (length piece) all, begins, here) refl
+
+-- what was read so far is all where the file ends there
+pub begins_all : (c : Content) (xs : List ℕ) (at : ℕ) → at ≡ length xs → BeginsWith c xs → IsAtEnd c at → IsWhole c xs
+begins_all untold xs at is begins end = tt
+begins_all absent xs at is begins end = absurd end
+begins_all (holds all) xs at is begins end = sym begins ∙ take_all (length xs) all (omega (arith, is, end))
 
 -- so many of the first of a list are its first
 take-take_min : (k n : ℕ) (xs : List ℕ) → take k (take n xs) ≡ take (min k n) xs

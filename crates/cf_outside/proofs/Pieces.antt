@@ -1,10 +1,10 @@
 -- A buffer that is filled piece by piece with the octets at a place of a file.
 use Rattle.std.proofs.Common.{◌≡◌, ◌+◌, ◌≤◌, ℕ, List, [], ◌++◌, length, take, drop, refl, sym, ap, ◌∙◌, arith}
-use Rattle.std.proofs.lemmas.List.{take-append-le, drop-drop, length-take-le, length-append, length-take, length-drop}
+use Rattle.std.proofs.lemmas.List.{take-append-le, drop-drop, length-take-le, length-append, length-take, length-drop, take_all}
 use Rattle.std.proofs.Math.Seq.{take-add, drop_at}
 use Rattle.std.proofs.lemmas.Slice.{take-put_mid_below}
 use borrow.Rule.Slice.PartMut.{put_mid}
-use Rattle.cf_outside.specs.Files.{Content, untold, absent, holds, HasAt}
+use Rattle.cf_outside.specs.Files.{Content, untold, absent, holds, HasAt, IsAtEnd}
 use Rattle.cf_outside.specs.Part.{HasRead, IsFilled}
 
 -- the octets in front of the piece, and those of it that were read
@@ -49,6 +49,14 @@ pub read_filled : (file : Content) (place size : ℕ) (xs : List ℕ) → length
 read_filled untold place size xs l f = tt
 read_filled absent place size xs l f = absurd f
 read_filled (holds all) place size xs l f = ap (λ n. take n (drop place all)) l ∙ sym f
+
+-- where a file ends behind what was read of it, it was filled in
+pub filled_end : (file : Content) (place size have : ℕ) (xs : List ℕ) → length xs ≡ have → have ≤ size → HasRead file place xs → IsAtEnd file (place + have) → IsFilled file place size xs
+filled_end untold place size have xs l less h end = tt
+filled_end absent place size have xs l less h end = absurd end
+filled_end (holds all) place size have xs l less h end =
+    let rest : length (drop place all) ≤ length xs = omega (arith, length-drop place all, end, l) in
+    sym h ∙ take_all (length xs) (drop place all) rest ∙ sym (take_all size (drop place all) (omega (arith, rest, less, l)))
 
 pub none_read : (file : Content) (place : ℕ) → HasRead file place []
 none_read untold place = tt

@@ -21,6 +21,8 @@ use Rattle.cf_outside.specs.declared.pair.GiveAnswer.TheVariants as given
 use Rattle.cf_outside.specs.declared.pair.Told.{Told}
 use Rattle.cf_outside.specs.declared.pair.Told.TheVariants as told
 use Rattle.cf_outside.specs.declared.memory_pair.MemoryPair.{MemoryPair}
+use Rattle.cf_outside.specs.declared.memory_pair.Move.{Move}
+use Rattle.cf_outside.specs.declared.memory_pair.Move.TheVariants as move
 
 -- an answer that was kept, with its bytes as a list
 abbrev pub entry_value : Told → Entry
@@ -135,6 +137,16 @@ MemoryFails old new =
 abbrev pub is_idle : MemoryPairValue → Bool
 is_idle pair = names_call pair.idle (counted pair.counts.calls)
 
+-- a take or a give before it moves a byte: it fails or is idle, or it is counted and goes on
+abbrev pub BeginsMove : Side → MemoryPair → MemoryPair → Move → Type 0
+BeginsMove side old new move.Fails = MemoryFails (with_move (memory_pair_value old)) (memory_pair_value new)
+BeginsMove side old new move.Idles =
+    (next_fail (memory_pair_value old).counts ≡ None) × IsTrue (is_idle (memory_pair_value old))
+    × (memory_pair_value new ≡ with_answer (Idle side) (with_idle (with_move (memory_pair_value old))))
+BeginsMove side old new move.Goes =
+    (next_fail (memory_pair_value old).counts ≡ None) × (is_idle (memory_pair_value old) ≡ false)
+    × (new ≡ record old { calls = counted old.calls; moves = counted old.moves })
+
 -- the client is met, whatever the port and the peer
 abbrev pub MemoryMeets : (listen : ℕ) → (peer : Endpoint) → MemoryPairValue → MemoryPairValue → MeetAnswer → Type 0
 MemoryMeets listen peer old new (met.Met client) =
@@ -163,6 +175,20 @@ MemoryTakes side before after old new taken.End =
     (next_fail old.counts ≡ None) × (is_idle old ≡ false) × (left_of old side ≡ []) × (after ≡ before)
     × (new ≡ with_answer (Ended side) (with_move old))
 MemoryTakes side before after old new taken.Failed = (after ≡ before) × MemoryFails (with_move old) new
+
+-- a pair with one answer more, in a call that is counted already
+abbrev pub with_told : Entry → MemoryPairValue → MemoryPairValue
+with_told entry pair = record pair { entries = pair.entries ++ entry ∷ [] }
+
+-- a take in a call that is counted already, and neither fails by the script nor is idle
+abbrev pub TakesLeft : Side → List ℕ → List ℕ → MemoryPairValue → MemoryPairValue → TakeAnswer → Type 0
+TakesLeft side before after old new (taken.Got n) =
+    (1 ≤ n) × (n ≡ min (min (length (left_of old side)) (length before)) (move_limit old.pieces old.moves))
+    × (after ≡ take n (left_of old side) ++ drop n before)
+    × (new ≡ with_told (Got side (take n (left_of old side))) (with_taken side n old))
+TakesLeft side before after old new taken.Idle = ⊥
+TakesLeft side before after old new taken.End = (left_of old side ≡ []) × (after ≡ before) × (new ≡ with_told (Ended side) old)
+TakesLeft side before after old new taken.Failed = (after ≡ before) × (new ≡ with_lack old)
 
 -- the first bytes of what is given go out
 abbrev pub MemoryGives : Side → List ℕ → MemoryPairValue → MemoryPairValue → GiveAnswer → Type 0

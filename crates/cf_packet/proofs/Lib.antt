@@ -1,3 +1,4 @@
+mod Addressed
 mod Mss
 mod PseudoHeader
 mod Sums

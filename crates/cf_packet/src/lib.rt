@@ -2,6 +2,7 @@
 #![tactic(auto)]
 
 mod checksum;
+mod dest;
 mod header;
 mod options;
 mod packet;
@@ -11,6 +12,7 @@ mod segment;
 mod sequence;
 mod write;
 
+pub use dest::destination;
 pub use packet::{ACK, FIN, PSH, Packet, PacketRefusal, RST, SYN, URG};
 pub use read::read_packet;
 pub use recorded::read_recorded;

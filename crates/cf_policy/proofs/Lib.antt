@@ -8,5 +8,6 @@ mod PointTable
 mod ByTable
 mod Runs
 mod Sites
+mod Steps
 pub mod FromPlaces
 pub mod SiteLaws

@@ -8,7 +8,7 @@ ghost use Rattle.cf_policy.specs.Index.{rule_at, has_group, has_group_and_point,
 ghost use Rattle.cf_policy.specs.Verdict.{verdict_of, decided, is_allow, numbered, IsInside};
 ghost use Rattle.cf_policy.specs.Within.{IsAssetWithin, IsRuleWithin};
 
-use crate::judge::{rule_reason, takes, takes_value};
+use crate::judge::{is_allow, rule_reason, takes, takes_value};
 use crate::point_table::{PointCell, reaches_of, sorted_cells};
 use crate::policy::{Action, Asset, Decider, Rule, Verdict};
 use cf_view::{Act, NoMemory, Reason};
@@ -296,7 +296,7 @@ fn allows_group(rules: &[Rule], place: usize, act: &Act) -> bool
     ensures { result ≡ rule_at rules.now place (λ r. is_allow r.action && has_group r act.now) }
 {
     match rules.get(place) {
-        Some(rule) => rule.action == Action::Allow && has_group(rule, act),
+        Some(rule) => is_allow(rule.action) && has_group(rule, act),
         None => false,
     }
 }
@@ -305,7 +305,7 @@ pub(crate) fn allows_point(rules: &[Rule], place: usize, act: &Act) -> bool
     ensures { result ≡ rule_at rules.now place (λ r. is_allow r.action && has_group_and_point r act.now) }
 {
     match rules.get(place) {
-        Some(rule) => rule.action == Action::Allow && has_group_and_point(rule, act),
+        Some(rule) => is_allow(rule.action) && has_group_and_point(rule, act),
         None => false,
     }
 }

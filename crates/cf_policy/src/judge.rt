@@ -72,13 +72,22 @@ fn default_reason(rules: &[Rule], client: u32, act: &Act) -> Reason
 fn some_allows_function(rules: &[Rule], client: u32, act: &Act) -> bool
     ensures { result ≡ list_any (λ r. is_allow r.action && has_function r client act.now) rules.now }
 {
-    rules.iter().any(|rule| rule.action == Action::Allow && has_function(rule, client, act))
+    rules.iter().any(|rule| is_allow(rule.action) && has_function(rule, client, act))
 }
 
 fn some_allows_point(rules: &[Rule], client: u32, act: &Act) -> bool
     ensures { result ≡ list_any (λ r. is_allow r.action && has_point r client act.now) rules.now }
 {
-    rules.iter().any(|rule| rule.action == Action::Allow && has_point(rule, client, act))
+    rules.iter().any(|rule| is_allow(rule.action) && has_point(rule, client, act))
+}
+
+pub(crate) fn is_allow(action: Action) -> bool
+    ensures { result ≡ is_allow action }
+{
+    match action {
+        Action::Allow => true,
+        Action::Refuse => false,
+    }
 }
 
 fn has_act(rule: &Rule, client: u32, act: &Act) -> bool

@@ -9,7 +9,7 @@ use arrayvec::ArrayString;
 use std::marker::Model;
 
 /// A name of an asset or a rule: a text of at most `LONGEST_NAME` bytes. Contracts see its bytes.
-#[derive(Debug, Drop)]
+#[derive(Drop)]
 pub struct Name {
     text: ArrayString<LONGEST_NAME>,
 }
@@ -54,7 +54,7 @@ impl Name {
 
 /// Items in their order: the spans of a list, which has none where the policy states no such list, the rules of an
 /// asset in the order in which they are tried, the assets of a policy. Contracts see a list.
-#[derive(Debug, Drop)]
+#[derive(Drop)]
 pub struct Items<T: Drop> {
     items: Vec<T>,
 }

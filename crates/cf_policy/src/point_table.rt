@@ -4,12 +4,13 @@
 //! follow those of the code below, so that all codes are one sorted list. A rule is alone where no cell before the last that begins at the
 //! point or below reaches it, whatever overlaps elsewhere; where one does, the rules are gone through in their order. So they are for rules
 //! whose points lie among one another, as 1, 3 and 2, 4: a cell for each range would take up to 64 times as much.
-ghost use Rattle.std.specs.Prelude.{◌≡◌, ℕ, ◌+◌, ◌<◌, ◌≤◌, List, length, All, IfOk, get_or, pos};
+ghost use Rattle.std.specs.Prelude.{◌≡◌, ℕ, ◌+◌, ◌<◌, ◌≤◌, List, length, All, IfOk, get_or, pos, true};
 ghost use Rattle.std.specs.List.Sorted.{IsNonDecreasingBy, IsPartitionPoint};
 ghost use Rattle.cf_policy.specs.declared.index.CodePair.{CodePair};
 ghost use Rattle.cf_policy.specs.declared.policy.Rule.{Rule};
 ghost use Rattle.cf_policy.specs.PointTable.{line_place, HasCells, HasReaches, HasTaker, HasTakerAfter, IsAround, IsCellOf, IsTableOf, AreSortedCells, taker_of};
-ghost use Rattle.cf_policy.specs.Within.{AreSpansWithin, IsRuleWithin, highest_point};
+ghost use Rattle.cf_policy.specs.Verdict.{covers};
+ghost use Rattle.cf_policy.specs.Within.{AreSpansWithin, IsRuleWithin, IsSpanWithin, highest_point};
 
 use crate::index::CodePair;
 use crate::policy::{Rule, Span};
@@ -198,8 +199,19 @@ fn ends_of(spans: &[Span]) -> (u32, u32)
     let mut low = u32::MAX;
     let mut high = 0;
     for span in spans {
-        low = low.min(span.low as u32);
-        high = high.max(span.high as u32);
+        let (lower, higher) = ends_with(span, low, high);
+        low = lower;
+        high = higher;
     }
     (low, high)
+}
+
+/// Two points between which those of the span lie, and these two.
+fn ends_with(span: &Span, low: u32, high: u32) -> (u32, u32)
+    requires within { IsSpanWithin (pos 0) highest_point span.now }
+    ensures around { (point : ℕ) → covers span.now (pos point) ≡ true → (result.0 ≤ point) × (point ≤ result.1) }
+    ensures low { result.0 ≤ low }
+    ensures high { high ≤ result.1 }
+{
+    (low.min(span.low as u32), high.max(span.high as u32))
 }

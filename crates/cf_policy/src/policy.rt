@@ -3,7 +3,7 @@ use crate::lists::{Items, Name};
 use cf_view::{Endpoint, Reason};
 
 /// The protocol that a controller speaks.
-#[derive(Clone, Copy, PartialEq, Eq, Debug)]
+#[derive(Clone, Copy, PartialEq, Eq)]
 pub enum Protocol {
     /// Modbus TCP.
     Modbus,
@@ -14,7 +14,7 @@ pub enum Protocol {
 }
 
 /// What a rule does with the acts that it has.
-#[derive(Clone, Copy, PartialEq, Eq, Debug)]
+#[derive(Clone, Copy, PartialEq, Eq)]
 pub enum Action {
     Allow,
     Refuse,
@@ -28,7 +28,7 @@ pub struct Span {
 }
 
 /// How often a rule lets commands of a session through. This project's own.
-#[derive(Clone, Copy, Debug)]
+#[derive(Clone, Copy)]
 pub struct Rate {
     /// The most commands that it lets through in any `seconds` seconds, 1 to `HIGHEST_MOST`.
     pub most: u32,
@@ -38,7 +38,7 @@ pub struct Rate {
 
 /// A rule of an asset. It has an act of a client if each list that it states has the matching number. An empty list
 /// states nothing.
-#[derive(Debug, Drop)]
+#[derive(Drop)]
 pub struct Rule {
     pub name: Name,
     pub action: Action,
@@ -59,7 +59,7 @@ pub struct Rule {
 }
 
 /// A controller, and the rules about commands to it.
-#[derive(Debug, Drop)]
+#[derive(Drop)]
 pub struct Asset {
     pub name: Name,
     pub endpoint: Endpoint,

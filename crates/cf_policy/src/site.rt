@@ -11,7 +11,7 @@ use std::marker::Model;
 
 /// The assets behind one address and port, in the order of the policy: they have one protocol, and their stations differ. It
 /// borrows, and takes no memory. This project's own.
-#[derive(Debug, Drop)]
+#[derive(Drop)]
 pub struct Site<'a> {
     /// The first of them. What belongs to none of them goes by it.
     pub first: &'a Asset,

@@ -41,7 +41,8 @@ use Rattle.cf_policylang.specs.Rates.{rate, rate_number, rate_value, states_rate
 use Rattle.cf_policylang.specs.declared.sets.Edition.{Edition}
 use Rattle.cf_policylang.specs.declared.sets.Edition.TheVariants as edition
 use Rattle.cf_policylang.specs.Lists.{optional_spans, spans}
-use Rattle.cf_policylang.specs.Rules.{rule, rule_keys, rule_name, action, is_rule_taken, client_spans, code_entries, code_spans, group_spans, value_spans, rule_items, rules, rules_from}
+use Rattle.cf_policylang.specs.Rules.{rule, rule_keys, rule_lists, rule_name, action, is_rule_taken, client_spans, code_entries, code_spans, group_spans, value_spans, rule_items, rules, rules_from}
+use Rattle.cf_policylang.specs.declared.rules.RuleLists.{RuleLists}
 use Rattle.cf_policylang.specs.declared.sets.Named.{Named}
 use Rattle.cf_policylang.specs.Sets.{rule_points, sets}
 use Rattle.cf_policylang.proofs.SitesKept.{AreSites, Joins, joins_by, no_sites, none_passes, protocols_by, sites_more, stations_by}
@@ -208,39 +209,55 @@ group_spans_if edition.Second protocol p ms = plain_groups_if p ms
 group_spans_if edition.Third protocol p ms =
     optional_spans_if (IsSpanWithin (pos 0) highest_group) (entries.NamedGroups protocol) key.Groups p (group_entry_if protocol key.Groups p) ms
 
+-- the lists of a rule that were read
+abbrev AreListsRead : RuleLists → Type 0
+AreListsRead l = record {
+  clients : AreSpansRead (IsSpanWithin (pos 0) highest_address) 0 l.clients;
+  codes : AreSpansRead IsCode 1 l.codes;
+  groups : AreGroups l.groups;
+  points : AreSpansRead (IsSpanWithin (pos 0) highest_point) 0 l.points;
+  values : AreSpansRead (IsSpanWithin lowest_value highest_value) 0 l.values;
+}
+
+rule_lists_if : (named : Named) → All IsSetWithin named.sets → (protocol : Protocol) (p : Place) (ms : Members)
+    → IfOk (rule_lists named protocol p ms) AreListsRead
+rule_lists_if named kept protocol p ms =
+    and_then_if (AreSpansRead (IsSpanWithin (pos 0) highest_address) 0) AreListsRead (client_spans p ms) _
+    (optional_spans_if (IsSpanWithin (pos 0) highest_address) entries.Addresses key.Clients p (address_entry_if key.Clients p) ms)
+    (λ own_clients cl. and_then_if (AreSpansRead IsCode 1) AreListsRead (code_spans named.edition protocol p ms) _ (code_spans_if named.edition protocol p ms)
+    (λ own_codes co. and_then_if AreGroups AreListsRead (group_spans named.edition protocol p ms) _ (group_spans_if named.edition protocol p ms)
+    (λ own_groups gr. and_then_if (AreSpansRead (IsSpanWithin (pos 0) highest_point) 0) AreListsRead (rule_points named p ms) _
+    (rule_points_if named kept p ms)
+    (λ own_points po. and_then_if (AreSpansRead (IsSpanWithin lowest_value highest_value) 0) AreListsRead (value_spans p ms) _
+    (optional_spans_if (IsSpanWithin lowest_value highest_value) (entries.Numbers lowest_value highest_value) key.Values p (number_entry_if lowest_value highest_value key.Values p) ms)
+    (λ own_values va. record { clients = cl; codes = co; groups = gr; points = po; values = va })))))
+
 rule_if : (named : Named) → All IsSetWithin named.sets → (protocol : Protocol) (p : Place) (seen : List Rule) (ms : Members)
     → IfOk (rule named protocol p seen ms) (IsNextRule seen)
 rule_if named kept protocol p seen ms =
     unless_if (IsNextRule seen) (has_other (rule_keys named.edition) ms) _ _
     (λ _. and_then_if (IsRuleName seen) (IsNextRule seen) (rule_name p seen ms) _ (rule_name_if p seen ms)
     (λ own_name n. and_then_any (IsNextRule seen) (action p ms) _
-    (λ own_action. and_then_if (AreSpansRead (IsSpanWithin (pos 0) highest_address) 0) (IsNextRule seen) (client_spans p ms) _
-    (optional_spans_if (IsSpanWithin (pos 0) highest_address) entries.Addresses key.Clients p (address_entry_if key.Clients p) ms)
-    (λ own_clients cl. and_then_if (AreSpansRead IsCode 1) (IsNextRule seen) (code_spans named.edition protocol p ms) _ (code_spans_if named.edition protocol p ms)
-    (λ own_codes co. and_then_if AreGroups (IsNextRule seen) (group_spans named.edition protocol p ms) _ (group_spans_if named.edition protocol p ms)
-    (λ own_groups gr. and_then_if (AreSpansRead (IsSpanWithin (pos 0) highest_point) 0) (IsNextRule seen) (rule_points named p ms) _
-    (rule_points_if named kept p ms)
-    (λ own_points po. and_then_if (AreSpansRead (IsSpanWithin lowest_value highest_value) 0) (IsNextRule seen) (value_spans p ms) _
-    (optional_spans_if (IsSpanWithin lowest_value highest_value) (entries.Numbers lowest_value highest_value) key.Values p (number_entry_if lowest_value highest_value key.Values p) ms)
-    (λ own_values va. and_then_if (IsRateRead seen own_action) (IsNextRule seen) (rate p seen own_action ms) _ (rate_if p seen own_action ms)
+    (λ own_action. and_then_if AreListsRead (IsNextRule seen) (rule_lists named protocol p ms) _ (rule_lists_if named kept protocol p ms)
+    (λ lists are. and_then_if (IsRateRead seen own_action) (IsNextRule seen) (rate p seen own_action ms) _ (rate_if p seen own_action ms)
     (λ own_rate ra. and_then_if (HasLogWithin own_action) (IsNextRule seen) (log own_action p ms) _ (log_if own_action p (stated key.Log ms))
     (λ own_log lo. record {
       within = record {
         name = n.form;
         own = n.own;
-        clients = are_within (pos 0) highest_address 0 own_clients cl;
-        codes = record { count = co.count; each = All-weaker IsCode (IsSpanWithin (pos 0) highest_code) (λ s h. h.range) own_codes co.each };
-        single_codes = All-weaker IsCode (λ s. s.low ≡ s.high) (λ s h. h.single) own_codes co.each;
-        some_code = co.some;
-        groups = are_within (pos 0) highest_group 0 own_groups gr;
-        points = are_within (pos 0) highest_point 0 own_points po;
-        values = are_within lowest_value highest_value 0 own_values va;
+        clients = are_within (pos 0) highest_address 0 lists.clients are.clients;
+        codes = record { count = are.codes.count; each = All-weaker IsCode (IsSpanWithin (pos 0) highest_code) (λ s h. h.range) lists.codes are.codes.each };
+        single_codes = All-weaker IsCode (λ s. s.low ≡ s.high) (λ s h. h.single) lists.codes are.codes.each;
+        some_code = are.codes.some;
+        groups = are_within (pos 0) highest_group 0 lists.groups are.groups;
+        points = are_within (pos 0) highest_point 0 lists.points are.points;
+        values = are_within lowest_value highest_value 0 lists.values are.values;
         rate = ra.within;
         log = lo;
       };
       apart = n.apart;
       also = λ few. subst (λ n. n ≤ most_rated) (sym (rated-more seen _)) (ra.few few);
-    }))))))))))
+    }))))))
 
 rule_items_if : (p : Place) (o : Option Data) → IfOk (rule_items p o) (λ ds. count ds ≤ 1024)
 rule_items_if p None = omega arith

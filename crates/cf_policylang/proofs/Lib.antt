@@ -14,6 +14,7 @@ mod PointsBack
 mod Printed
 mod Ranges
 mod ReadBack
+mod Readings
 mod RulesBack
 mod SetsBack
 mod SetsKept

@@ -21,7 +21,7 @@ use Rattle.cf_policylang.specs.declared.refusal.Cause.TheVariants as cause
 use Rattle.cf_policylang.specs.declared.refusal.Place.{Place}
 use Rattle.cf_policylang.specs.declared.refusal.PolicyRefusal.{PolicyRefusal}
 use Rattle.cf_policylang.specs.Fields.{as_text, as_number, as_array_of, count, stated, number_in}
-use Rattle.cf_policylang.specs.Lists.{kind_of, address_span, code_entry, code_span, entry, entries_from, group_end, group_span, listed, named_code_span, spans, spans_if_any, optional_spans}
+use Rattle.cf_policylang.specs.Lists.{kind_of, address_span, code_span, entry, entries_from, group_end, group_span, listed, named_code_span, spans, spans_if_any, optional_spans}
 use Rattle.cf_policylang.specs.Names.{cause_named, code_named, group_named, variation_named, variation_of}
 use Rattle.cf_policylang.specs.Numbers.{printed_number, printed_number_in, within, span, span_by, ends, number_span, octet, octets, joined, address, split_at_mark}
 use Rattle.cf_policylang.specs.Tested.{Tested, and_then, or_refused}

@@ -24,9 +24,10 @@ use Rattle.cf_policylang.specs.Fields.{has_other, name, stated}
 use Rattle.cf_policylang.specs.Lists.{code_span, entry, group_end, spans, spans_if_any}
 use Rattle.cf_policylang.specs.Logs.{log, log_if_any}
 use Rattle.cf_policylang.specs.Rates.{rate, rate_number}
+use Rattle.cf_policylang.specs.declared.rules.RuleLists.{RuleLists}
 use Rattle.cf_policylang.specs.declared.sets.Edition.{Edition}
 use Rattle.cf_policylang.specs.declared.sets.Edition.TheVariants as edition
-use Rattle.cf_policylang.specs.Rules.{action, client_spans, code_entries, code_spans, group_spans, rule, rule_items, rule_keys, rule_name, rules, value_spans}
+use Rattle.cf_policylang.specs.Rules.{action, client_spans, code_entries, code_spans, group_spans, rule, rule_items, rule_keys, rule_lists, rule_name, rules, value_spans}
 use Rattle.cf_policylang.specs.Sets.{points_if_any, rule_points}
 use Rattle.cf_policylang.specs.Spelling.{action_text, address_text, number_text, numbers, point_items, rule_table, rule_tables, texts, with_key, with_list, with_log, with_rate}
 use Rattle.cf_policylang.specs.Tested.{at_asset, at_rule, or_refused}
@@ -192,12 +193,29 @@ pub known_in_second : (ls : List (List Span)) (r : Rule) → r.log ≡ false →
 known_in_second ls r none = ap (λ b. has_other (rule_keys edition.Second) (put key.Log (log_given b) (built (plain_given ls r)))) none
     ∙ has_no_other (rule_keys edition.Second) (plain_given ls r) refl
 
+abbrev lists_in : Rule → RuleLists
+lists_in r = record { clients = r.clients; codes = r.codes; groups = r.groups; points = r.points; values = r.values }
+
 rule_name_read : (p : Place) (seen : List Rule) (ms : Members) (text : List ℕ) → stated key.Name ms ≡ Some (string text) → is_name text ≡ true
     → is_reserved text ≡ false → list_any (λ s. bytes_eq s.name text) seen ≡ false → rule_name p seen ms ≡ Ok text
 rule_name_read p seen ms text e form own free =
     and_then_ok (name p ms) _ text (Ok text) (name_read p ms text e form) (rw (own, free) refl)
 
 module _ (e : Edition) (marks : NamesSets e) (ls : List (List Span)) (few : length ls ≤ 64) where
+  rule_lists_read : (protocol : Protocol) (p : Place) (r : Rule) → IsRuleWithin r
+      → rule_lists (naming e ls) protocol p (built (rule_given ls r)) ≡ Ok (lists_in r)
+  rule_lists_read protocol p r h =
+      let gs : List Given = rule_given ls r in
+      let ms : Members = built gs in
+      and_then_ok (client_spans p ms) _ r.clients (Ok (lists_in r)) (clients_read p ms r.clients h.clients (stated_at key.Clients gs refl))
+      (and_then_ok (code_spans e protocol p ms) _ r.codes (Ok (lists_in r))
+      (codes_read e protocol p ms r.codes h.some_code h.codes.count (are_codes r.codes h.codes.each h.single_codes) (stated_at key.Codes gs refl))
+      (and_then_ok (group_spans e protocol p ms) _ r.groups (Ok (lists_in r)) (groups_read e protocol p ms r.groups h.groups (stated_at key.Groups gs refl))
+      (and_then_ok (rule_points (naming e ls) p ms) _ r.points (Ok (lists_in r))
+      (ap (points_if_any (naming e ls) p) (stated_at key.Points gs refl) ∙ points_read e marks ls few p r.points h.points.count h.points.each)
+      (and_then_ok (value_spans p ms) _ r.values (Ok (lists_in r))
+      (ranges_read lowest_value highest_value key.Values p (stated key.Values ms) r.values (record { sfits = omega arith }) (record { sfits = omega arith }) h.values (stated_at key.Values gs refl)) refl))))
+
   rule_read : (protocol : Protocol) (p : Place) (seen : List Rule) (r : Rule) → HasKnownKeys e ls r → IsRuleWithin r → list_any (λ s. bytes_eq s.name r.name) seen ≡ false
       → rated_count seen + cond (is_some r.rate) 1 0 ≤ most_rated → rule (naming e ls) protocol p seen (rule_table ls r) ≡ Ok r
   rule_read protocol p seen r known h free room =
@@ -207,17 +225,10 @@ module _ (e : Edition) (marks : NamesSets e) (ls : List (List Span)) (few : leng
       ∙ rw known
       (and_then_ok (rule_name p seen ms) _ r.name (Ok r) (rule_name_read p seen ms r.name (stated_at key.Name gs refl) h.name h.own free)
       (and_then_ok (action p ms) _ r.action (Ok r) (action_read p ms r.action (stated_at key.Action gs refl))
-      (and_then_ok (client_spans p ms) _ r.clients (Ok r) (clients_read p ms r.clients h.clients (stated_at key.Clients gs refl))
-      (and_then_ok (code_spans e protocol p ms) _ r.codes (Ok r)
-      (codes_read e protocol p ms r.codes h.some_code h.codes.count (are_codes r.codes h.codes.each h.single_codes) (stated_at key.Codes gs refl))
-      (and_then_ok (group_spans e protocol p ms) _ r.groups (Ok r) (groups_read e protocol p ms r.groups h.groups (stated_at key.Groups gs refl))
-      (and_then_ok (rule_points (naming e ls) p ms) _ r.points (Ok r)
-      (ap (points_if_any (naming e ls) p) (stated_at key.Points gs refl) ∙ points_read e marks ls few p r.points h.points.count h.points.each)
-      (and_then_ok (value_spans p ms) _ r.values (Ok r)
-      (ranges_read lowest_value highest_value key.Values p (stated key.Values ms) r.values (record { sfits = omega arith }) (record { sfits = omega arith }) h.values (stated_at key.Values gs refl))
+      (and_then_ok (rule_lists (naming e ls) protocol p ms) _ (lists_in r) (Ok r) (rule_lists_read protocol p r h)
       (and_then_ok (rate p seen r.action ms) _ r.rate (Ok r)
       (rate_read p seen r.action ms r.rate h.rate room (stated_at key.Most gs refl) (stated_at key.Seconds gs refl))
-      (and_then_ok (log r.action p ms) _ r.log (Ok r) (log_read r.action p (stated key.Log ms) r.log h.log (stated_at key.Log gs refl)) refl)))))))))
+      (and_then_ok (log r.action p ms) _ r.log (Ok r) (log_read r.action p (stated key.Log ms) r.log h.log (stated_at key.Log gs refl)) refl)))))
 
   -- ---- the rules of an asset
 

@@ -20,6 +20,7 @@ use Rattle.cf_policylang.specs.Fields.{as_text, as_array_of, count, has_other, n
 use Rattle.cf_policylang.specs.Lists.{optional_spans, spans}
 use Rattle.cf_policylang.specs.Logs.{log}
 use Rattle.cf_policylang.specs.Rates.{rate}
+use Rattle.cf_policylang.specs.declared.rules.RuleLists.{RuleLists}
 use Rattle.cf_policylang.specs.declared.sets.Edition.{Edition}
 use Rattle.cf_policylang.specs.declared.sets.Edition.TheVariants as edition
 use Rattle.cf_policylang.specs.declared.sets.Named.{Named}
@@ -89,30 +90,42 @@ group_spans edition protocol place members = optional_spans (group_entries editi
 abbrev pub value_spans : Place → Members → Tested (List Span)
 value_spans place members = optional_spans (entries.Numbers lowest_value highest_value) key.Values place members
 
+-- the lists of a rule, tested in this order
+abbrev pub rule_lists : Named → Protocol → Place → Members → Tested RuleLists
+rule_lists named protocol place members =
+    and_then (client_spans place members) (λ own_clients.
+    and_then (code_spans named.edition protocol place members) (λ own_codes.
+    and_then (group_spans named.edition protocol place members) (λ own_groups.
+    and_then (rule_points named place members) (λ own_points.
+    and_then (value_spans place members) (λ own_values.
+    Ok (record {
+      clients = own_clients;
+      codes = own_codes;
+      groups = own_groups;
+      points = own_points;
+      values = own_values;
+    }))))))
+
 -- a rule after those of its asset that were read, which has the protocol
 abbrev pub rule : Named → Protocol → Place → List Rule → Members → Tested Rule
 rule named protocol place seen members =
     if has_other (rule_keys named.edition) members then refused cause.UnknownKey key.Nothing place else
     and_then (rule_name place seen members) (λ own_name.
     and_then (action place members) (λ own_action.
-    and_then (client_spans place members) (λ own_clients.
-    and_then (code_spans named.edition protocol place members) (λ own_codes.
-    and_then (group_spans named.edition protocol place members) (λ own_groups.
-    and_then (rule_points named place members) (λ own_points.
-    and_then (value_spans place members) (λ own_values.
+    and_then (rule_lists named protocol place members) (λ lists.
     and_then (rate place seen own_action members) (λ own_rate.
     and_then (log own_action place members) (λ own_log.
     Ok (record {
       name = own_name;
       action = own_action;
-      clients = own_clients;
-      codes = own_codes;
-      groups = own_groups;
-      points = own_points;
-      values = own_values;
+      clients = lists.clients;
+      codes = lists.codes;
+      groups = lists.groups;
+      points = lists.points;
+      values = lists.values;
       rate = own_rate;
       log = own_log;
-    }))))))))))
+    }))))))
 
 -- the rules of the asset of this number in their order, after n that were read
 abbrev pub rules_from : Named → Protocol → ℕ → ℕ → Items → List Rule → Tested (List Rule)

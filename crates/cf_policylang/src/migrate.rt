@@ -16,7 +16,7 @@ use crate::printing::document_text;
 use crate::refusal::Key;
 use crate::sets::MOST_SETS;
 use crate::sites::has_asset_at;
-use crate::spelling::{are_same, asset_table, insert, insert_list, set_table};
+use crate::spelling::{are_same, fill_asset, insert, insert_list, set_table};
 use cf_policy::{Asset, Items, Policy, Rule, Span};
 use cf_view::NoMemory;
 use std::alloc::{AllocError, Global};
@@ -231,7 +231,9 @@ fn asset_tables(alloc: Global, lists: &[Items<Span>], assets: &[Asset]) -> Resul
 {
     let mut tables = Vec::new(alloc);
     for asset in assets {
-        tables.push(Value::Table(asset_table(alloc, lists, asset)?))?;
+        let mut table = Table::new(alloc);
+        fill_asset(alloc, &mut table, lists, asset)?;
+        tables.push(Value::Table(table))?;
     }
     Ok(tables)
 }

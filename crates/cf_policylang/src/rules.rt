@@ -7,7 +7,7 @@ ghost use Rattle.cf_policylang.specs.Tested.{Answers, AnswersPlainly, at_rule};
 ghost use Rattle.cf_policylang.specs.Fields.{has_other};
 ghost use Rattle.cf_policylang.specs.Rules.{rule_keys};
 ghost use Rattle.cf_policylang.specs.Rules.{is_rule_taken, rule_name, action_of, action, client_spans, code_entries};
-ghost use Rattle.cf_policylang.specs.Rules.{code_spans, group_entries, group_spans};
+ghost use Rattle.cf_policylang.specs.Rules.{code_spans, group_entries, group_spans, rule_lists};
 ghost use Rattle.cf_policylang.specs.Rules.{value_spans, rule, rules_from, rule_items, rules};
 
 use crate::earlier::Earlier;
@@ -52,6 +52,16 @@ const THIRD_KEYS: [Key; 10] = [
     Key::Log,
 ];
 
+/// The lists of a rule.
+#[derive(Drop)]
+pub(crate) struct RuleLists {
+    pub(crate) clients: Items<Span>,
+    pub(crate) codes: Items<Span>,
+    pub(crate) groups: Items<Span>,
+    pub(crate) points: Items<Span>,
+    pub(crate) values: Items<Span>,
+}
+
 /// A rule after those of its asset that were read, which has the protocol.
 fn rule(
     alloc: Global,
@@ -68,13 +78,16 @@ fn rule(
     }
     let name = rule_name(place, earlier, table)?;
     let action = action(place, table)?;
-    let clients = client_spans(alloc, place, table)?;
-    let codes = code_spans(alloc, named.edition, protocol, place, table)?;
-    let groups = group_spans(alloc, named.edition, protocol, place, table)?;
-    let points = rule_points(alloc, named, place, table)?;
-    let values = value_spans(alloc, place, table)?;
+    let lists = rule_lists(alloc, named, protocol, place, table)?;
     let rate = rate(place, earlier.as_slice(), action, table)?;
     let log = log(place, action, table)?;
+    let RuleLists {
+        clients,
+        codes,
+        groups,
+        points,
+        values,
+    } = lists;
     Ok(Rule {
         name,
         action,
@@ -139,6 +152,30 @@ fn action_of(text: &str) -> Option<Action>
         "refuse" => Some(Action::Refuse),
         _ => None,
     }
+}
+
+/// The lists of a rule, which are tested in this order.
+fn rule_lists(
+    alloc: Global,
+    named: &Named,
+    protocol: Protocol,
+    place: Place,
+    table: &Table,
+) -> Result<RuleLists, PolicyFault>
+    ensures { Answers (λ l. l) (rule_lists named.now protocol place (table_view table.now)) result }
+{
+    let clients = client_spans(alloc, place, table)?;
+    let codes = code_spans(alloc, named.edition, protocol, place, table)?;
+    let groups = group_spans(alloc, named.edition, protocol, place, table)?;
+    let points = rule_points(alloc, named, place, table)?;
+    let values = value_spans(alloc, place, table)?;
+    Ok(RuleLists {
+        clients,
+        codes,
+        groups,
+        points,
+        values,
+    })
 }
 
 fn client_spans(alloc: Global, place: Place, table: &Table) -> Result<Items<Span>, PolicyFault>

@@ -2,7 +2,7 @@
 ghost use Rattle.std.specs.Prelude.{◌≡◌, ◌+◌, ◌<◌, ◌^◌, ◌≤◌, ◌++◌, codes, IfOk, OnOk, pos, IfSome, string_bytes, length};
 ghost use Rattle.toml.specs.View.{array_view, table_view, view};
 ghost use Rattle.std.specs.List.{All};
-ghost use Rattle.toml.specs.Data.{integer, no_members, string};
+ghost use Rattle.toml.specs.Data.{array, integer, item, no_items, no_members, string};
 ghost use Rattle.cf_view.specs.Text.{dotted};
 ghost use Rattle.cf_policy.specs.Within.{IsAssetWithin, IsRuleWithin, IsSpanWithin, highest_address};
 ghost use Rattle.cf_policylang.specs.declared.sets.TheConstants.{MOST_SETS};
@@ -18,23 +18,8 @@ use std::alloc::{AllocError, Global};
 use toml::value::Array;
 use toml::{Table, Value};
 
-/// An asset with its rules, whose points name the sets of these lists.
-pub(crate) fn asset_table(
-    alloc: Global,
-    lists: &[Items<Span>],
-    asset: &Asset,
-) -> Result<Table, AllocError>
-    requires within { IsAssetWithin asset.now }
-    requires few { length lists.now ≤ MOST_SETS }
-    ensures { IfOk result (λ t. table_view t ≡ asset_table lists.now asset.now) }
-{
-    let mut table = Table::new(alloc);
-    fill_asset(alloc, &mut table, lists, asset)?;
-    Ok(table)
-}
-
-/// Gives an empty table what an asset has.
-fn fill_asset(
+/// Gives an empty table what an asset has, with its rules, whose points name the sets of these lists.
+pub(crate) fn fill_asset(
     alloc: Global,
     table: &mut Table,
     lists: &[Items<Span>],
@@ -64,7 +49,7 @@ pub(crate) fn set_table(alloc: Global, number: usize, points: &[Span]) -> Result
     let mut table = Table::new(alloc);
     let name = set_text(alloc, number)?;
     insert(alloc, &mut table, Key::Name, Value::String(name))?;
-    insert_list(alloc, &mut table, Key::Points, number_texts(alloc, points)?)?;
+    insert_numbers(alloc, &mut table, Key::Points, points)?;
     Ok(table)
 }
 
@@ -131,19 +116,11 @@ fn rule_tables(alloc: Global, lists: &[Items<Span>], rules: &[Rule]) -> Result<A
 {
     let mut tables = Vec::new(alloc);
     for rule in rules {
-        tables.push(Value::Table(rule_table(alloc, lists, rule)?))?;
+        let mut table = Table::new(alloc);
+        fill_rule(alloc, &mut table, lists, rule)?;
+        tables.push(Value::Table(table))?;
     }
     Ok(tables)
-}
-
-fn rule_table(alloc: Global, lists: &[Items<Span>], rule: &Rule) -> Result<Table, AllocError>
-    requires within { IsRuleWithin rule.now }
-    requires few { length lists.now ≤ MOST_SETS }
-    ensures { IfOk result (λ t. table_view t ≡ rule_table lists.now rule.now) }
-{
-    let mut table = Table::new(alloc);
-    fill_rule(alloc, &mut table, lists, rule)?;
-    Ok(table)
 }
 
 /// Gives an empty table what a rule has.
@@ -160,16 +137,11 @@ fn fill_rule(
 {
     insert_text(alloc, table, Key::Name, rule.name.as_str())?;
     insert_text(alloc, table, Key::Action, action_text(rule.action))?;
-    let clients = address_texts(alloc, rule.clients.as_slice())?;
-    insert_list(alloc, table, Key::Clients, clients)?;
-    let codes = numbers(alloc, rule.codes.as_slice())?;
-    insert_list(alloc, table, Key::Codes, codes)?;
-    let groups = number_texts(alloc, rule.groups.as_slice())?;
-    insert_list(alloc, table, Key::Groups, groups)?;
-    let points = point_items(alloc, lists, rule.points.as_slice())?;
-    insert_list(alloc, table, Key::Points, points)?;
-    let values = number_texts(alloc, rule.values.as_slice())?;
-    insert_list(alloc, table, Key::Values, values)?;
+    insert_addresses(alloc, table, Key::Clients, rule.clients.as_slice())?;
+    insert_codes(alloc, table, Key::Codes, rule.codes.as_slice())?;
+    insert_numbers(alloc, table, Key::Groups, rule.groups.as_slice())?;
+    insert_points(alloc, table, lists, rule.points.as_slice())?;
+    insert_numbers(alloc, table, Key::Values, rule.values.as_slice())?;
     insert_rate(alloc, table, rule.rate)?;
     insert_log(alloc, table, rule.log)
 }
@@ -194,20 +166,31 @@ fn insert_rate(alloc: Global, table: &mut Table, rate: Option<Rate>) -> Result<(
     insert_number(alloc, table, Key::Seconds, i64::from(rate.seconds))
 }
 
-/// The entries of a rule's points: the name of their set, if one of the lists is the same, and else each span.
-fn point_items(alloc: Global, lists: &[Items<Span>], points: &[Span]) -> Result<Array, AllocError>
+/// Gives a table the points of a rule: the name of their set, if one of the lists is the same, and else each span.
+fn insert_points(
+    alloc: Global,
+    table: &mut Table,
+    lists: &[Items<Span>],
+    points: &[Span],
+) -> Result<(), AllocError>
     requires { length lists.now ≤ MOST_SETS }
-    ensures { IfOk result (λ a. array_view a ≡ point_items lists.now points.now) }
+    ensures { OnOk result (table_view table.new ≡ with_list Key.Points (point_items lists.now points.now) (table_view table.old)) }
 {
     match set_place(lists, points) {
-        None => number_texts(alloc, points),
-        Some(number) => {
-            let entry = set_entry(alloc, number)?;
-            let mut entries = Vec::new(alloc);
-            entries.push(Value::String(entry))?;
-            Ok(entries)
-        }
+        None => insert_numbers(alloc, table, Key::Points, points),
+        Some(number) => insert_set_name(alloc, table, number),
     }
+}
+
+/// Gives a table the name of the set of this number, counted from 0, as the one entry of a rule's points.
+fn insert_set_name(alloc: Global, table: &mut Table, number: usize) -> Result<(), AllocError>
+    requires { number < 2 ^ 32 }
+    ensures { OnOk result (table_view table.new ≡ with_key Key.Points (array (item (string (codes "@" ++ set_text number)) no_items)) (table_view table.old)) }
+{
+    let entry = set_entry(alloc, number)?;
+    let mut entries = Vec::new(alloc);
+    entries.push(Value::String(entry))?;
+    insert(alloc, table, Key::Points, Value::Array(entries))
 }
 
 /// The first of these lists that is the same.
@@ -243,15 +226,19 @@ pub(crate) fn are_same(a: &[Span], b: &[Span]) -> bool
     a == b
 }
 
-#[tactic(auto, using(crate::proofs::Written::values_step))]
-fn number_texts(alloc: Global, spans: &[Span]) -> Result<Array, AllocError>
-    ensures { IfOk result (λ a. array_view a ≡ texts number_text spans.now) }
+fn insert_numbers(
+    alloc: Global,
+    table: &mut Table,
+    key: Key,
+    spans: &[Span],
+) -> Result<(), AllocError>
+    ensures { OnOk result (table_view table.new ≡ with_list key (texts number_text spans.now) (table_view table.old)) }
 {
     let mut texts = Vec::new(alloc);
     for span in spans {
         texts.push(Value::String(number_text(alloc, *span)?))?;
     }
-    Ok(texts)
+    insert_list(alloc, table, key, texts)
 }
 
 fn number_text(alloc: Global, span: Span) -> Result<String, AllocError>
@@ -263,16 +250,20 @@ fn number_text(alloc: Global, span: Span) -> Result<String, AllocError>
     format!(in alloc; "{}..{}", span.low, span.high)
 }
 
-#[tactic(auto, using(crate::proofs::Written::values_step))]
-fn address_texts(alloc: Global, spans: &[Span]) -> Result<Array, AllocError>
+fn insert_addresses(
+    alloc: Global,
+    table: &mut Table,
+    key: Key,
+    spans: &[Span],
+) -> Result<(), AllocError>
     requires { All (IsSpanWithin (pos 0) highest_address) spans.now }
-    ensures { IfOk result (λ a. array_view a ≡ texts address_text spans.now) }
+    ensures { OnOk result (table_view table.new ≡ with_list key (texts address_text spans.now) (table_view table.old)) }
 {
     let mut texts = Vec::new(alloc);
     for span in spans {
         texts.push(Value::String(address_text(alloc, *span)?))?;
     }
-    Ok(texts)
+    insert_list(alloc, table, key, texts)
 }
 
 fn address_text(alloc: Global, span: Span) -> Result<String, AllocError>
@@ -303,15 +294,19 @@ fn dotted(alloc: Global, address: u32) -> Result<String, AllocError>
 }
 
 /// Codes, which are spans of one number.
-#[tactic(auto, using(crate::proofs::Written::values_step))]
-fn numbers(alloc: Global, spans: &[Span]) -> Result<Array, AllocError>
-    ensures { IfOk result (λ a. array_view a ≡ numbers spans.now) }
+fn insert_codes(
+    alloc: Global,
+    table: &mut Table,
+    key: Key,
+    spans: &[Span],
+) -> Result<(), AllocError>
+    ensures { OnOk result (table_view table.new ≡ with_list key (numbers spans.now) (table_view table.old)) }
 {
     let mut numbers = Vec::new(alloc);
     for span in spans {
         numbers.push(code_value(span))?;
     }
-    Ok(numbers)
+    insert_list(alloc, table, key, numbers)
 }
 
 fn code_value(span: &Span) -> Value

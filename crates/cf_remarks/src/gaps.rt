@@ -4,6 +4,7 @@ use crate::flags::{has, is_opening};
 use crate::pair::PairKey;
 use cf_packet::{ACK, Packet, RST, SYN};
 use cf_view::{Endpoint, NoMemory};
+use cf_watch::REACH;
 use std::alloc::Global;
 use std::collections::BTreeMap;
 
@@ -16,7 +17,8 @@ pub(crate) enum Begins {
     Amid,
 }
 
-/// The data of a packet: the number of its connection, where it stands, and the number of its record, from 1.
+/// The data of a packet that came ahead of what stands before it: the number of its connection, where it stands, and the number of its
+/// record, from 1.
 #[derive(Clone, Copy, PartialEq, Eq, PartialOrd, Ord, Drop)]
 struct Piece {
     flow: usize,
@@ -37,11 +39,19 @@ struct Track {
     top: u64,
 }
 
+/// A connection.
+#[derive(Clone, Copy)]
+struct Connection {
+    client: Endpoint,
+    /// How many of its first octets came, each behind those before it.
+    reached: u64,
+}
+
 /// What clients sent to assets, connection by connection.
 #[derive(Drop)]
 pub(crate) struct Sent {
     begins: Begins,
-    clients: Vec<Endpoint>,
+    connections: Vec<Connection>,
     tracks: BTreeMap<PairKey, Track>,
     pieces: Vec<Piece>,
 }
@@ -76,7 +86,7 @@ impl Sent {
     pub(crate) fn new(alloc: Global, begins: Begins) -> Sent {
         Sent {
             begins,
-            clients: Vec::new(alloc),
+            connections: Vec::new(alloc),
             tracks: BTreeMap::new(alloc),
             pieces: Vec::new(alloc),
         }
@@ -93,7 +103,8 @@ impl Sent {
         let Some(mut track) = self.track_of(known, packet)? else {
             return Ok(());
         };
-        let (start, end) = track.place_of(packet);
+        let (place, end) = track.place_of(packet);
+        let start = place.max(self.first_read(track.top));
         if start < end {
             track.top = track.top.max(end);
             let piece = Piece {
@@ -102,13 +113,32 @@ impl Sent {
                 end,
                 record: number,
             };
-            self.pieces.push(piece).map_err(|_| NoMemory)?;
+            self.put(piece)?;
         }
         track.answered = track.answered || has(packet, ACK);
         match self.tracks.insert(key, track) {
             Ok(_) => Ok(()),
             Err(_) => Err(NoMemory),
         }
+    }
+
+    /// The lowest place that is read, where the newest data ends at a place: a review reads none that stands `REACH` places below it.
+    fn first_read(&self, top: u64) -> u64 {
+        match self.begins {
+            Begins::WithSyn => 0,
+            Begins::Amid => top.saturating_sub(REACH),
+        }
+    }
+
+    /// Puts data behind that of its connection, or keeps it where something is missing before it.
+    fn put(&mut self, piece: Piece) -> Result<(), NoMemory> {
+        if let Some(connection) = self.connections.get_mut(piece.flow) {
+            if piece.start <= connection.reached {
+                connection.reached = connection.reached.max(piece.end);
+                return Ok(());
+            }
+        }
+        self.pieces.push(piece).map_err(|_| NoMemory)
     }
 
     /// The connection that a packet is of, if it is one that is read.
@@ -129,8 +159,9 @@ impl Sent {
     }
 
     fn begin(&mut self, client: Endpoint, origin: u32) -> Result<Track, NoMemory> {
-        let flow = self.clients.len();
-        self.clients.push(client).map_err(|_| NoMemory)?;
+        let flow = self.connections.len();
+        let connection = Connection { client, reached: 0 };
+        self.connections.push(connection).map_err(|_| NoMemory)?;
         Ok(Track {
             flow,
             origin,
@@ -143,7 +174,7 @@ impl Sent {
     pub(crate) fn gaps(&mut self) -> Result<Gaps, NoMemory> {
         self.pieces.sort().map_err(|_| NoMemory)?;
         let mut gaps = Gaps {
-            flows: self.clients.len() as u64,
+            flows: self.connections.len() as u64,
             broken: 0,
             packets: 0,
             octets: 0,
@@ -155,8 +186,11 @@ impl Sent {
             is_behind: false,
         };
         for piece in &self.pieces {
-            if walk.passes(piece) {
-                gaps.count(&walk, piece, self.clients.get(piece.flow).copied());
+            let Some(connection) = self.connections.get(piece.flow) else {
+                continue;
+            };
+            if walk.passes(connection, piece) {
+                gaps.count(&walk, piece, connection.client);
                 walk.is_behind = true;
             }
         }
@@ -199,7 +233,7 @@ fn has_data_alone(packet: &Packet<'_>) -> bool {
     !has(packet, SYN | RST) && !packet.text.is_empty()
 }
 
-/// A walk over the data of connections, in the order of connections and places.
+/// A walk over the data of connections that came ahead, in the order of connections and places.
 #[derive(Clone, Copy)]
 struct Walk {
     flow: Option<usize>,
@@ -211,10 +245,10 @@ struct Walk {
 
 impl Walk {
     /// Whether data stands behind the first gap of its connection.
-    fn passes(&mut self, piece: &Piece) -> bool {
+    fn passes(&mut self, connection: &Connection, piece: &Piece) -> bool {
         if self.flow != Some(piece.flow) {
             self.flow = Some(piece.flow);
-            self.reached = 0;
+            self.reached = connection.reached;
             self.is_behind = false;
         }
         if !self.is_behind && piece.start <= self.reached {
@@ -227,7 +261,7 @@ impl Walk {
 
 impl Gaps {
     /// Counts data behind the first gap of its connection.
-    fn count(&mut self, walk: &Walk, piece: &Piece, client: Option<Endpoint>) {
+    fn count(&mut self, walk: &Walk, piece: &Piece, client: Endpoint) {
         self.packets = self.packets.saturating_add(1);
         self.octets = self
             .octets
@@ -239,7 +273,7 @@ impl Gaps {
             Some(gap) => piece.record < gap.record,
             None => true,
         };
-        if let (true, Some(client)) = (is_first, client) {
+        if is_first {
             self.first = Some(Gap {
                 client,
                 position: walk.reached,

@@ -1,14 +1,15 @@
 -- The other stretches of flows, reviewed one after the other.
-use Rattle.std.proofs.Common.{◌≡◌, ◌+◌, ◌-◌, ◌<◌, ◌∙◌, ℕ, List, [], ◌∷◌, ◌++◌, length, map, get_or, Option, Some, min, ◌^◌, refl, sym, ap, subst, arith, append_assoc}
+use Rattle.std.proofs.Common.{◌≡◌, ◌+◌, ◌-◌, ◌<◌, ◌∙◌, ℕ, Bool, List, [], ◌∷◌, ◌++◌, length, map, get_or, Option, Some, min, ◌^◌, refl, sym, ap, subst, arith, append_assoc}
 use Rattle.std.proofs.lemmas.List.{append-nil, get_or-map, length-map, map-append}
 use Rattle.cf_lane.specs.Judged.{in_turn}
 use Rattle.cf_policy.specs.Site.{SiteValue, site_from}
 use Rattle.cf_policy.specs.declared.Asset.{Asset}
 use Rattle.cf_watch.specs.FlowValue.{AreStretchesFor, IsForAsset, StretchValue, flow_value, stretch_value}
 use Rattle.cf_watch.specs.declared.Stretch.{Stretch}
-use Rattle.cf_judge.specs.Objections.{IsReadBy, commands_in}
-use Rattle.cf_review.proofs.Reading.{commands_more, same_place}
+use Rattle.cf_judge.specs.Objections.{IsReadBy, admitted_in, commands_in}
+use Rattle.cf_review.proofs.Reading.{commands_more, most_twice, same_place}
 use Rattle.cf_review.specs.FirstUnit.{IsReadPart, IsReadPartAt, from_place}
+use Rattle.cf_review.specs.Follow.{AreToldOf, IsToldOf}
 use Rattle.cf_review.specs.Remark.{RemarkValue}
 use Rattle.cf_review.specs.Review.{AddsStretch, AddsStretches, AddsUnits, AreReadStretches, IsReadStretch, StretchReading, end_remarks, gap_remarks, remarks_behind, stretch_remarks, stretch_remarks_by, unit_remarks}
 
@@ -61,7 +62,7 @@ stretches_on assets stretches before admitted more start old new s site so at is
       behind = so.behind ++ b ∷ [];
       are_read = stretches_more assets stretches so.behind s b so.are_read read;
       admitted_is = ap (λ n. min (n + more) (2 ^ 64 - 1)) so.admitted_is ∙ ap (λ n. min (commands_in before readings + n) (2 ^ 64 - 1)) is.admitted_is
-          ∙ sym (commands_more before readings b.reading) ∙ ap (commands_in before) (sym (map-append (λ (x : StretchReading). x.reading) so.behind (b ∷ [])));
+          ∙ most_twice (commands_in before readings) (admitted_in b.reading.judged) (2 ^ 64 - 1) ∙ sym (commands_more before readings b.reading) ∙ ap (commands_in before) (sym (map-append (λ (x : StretchReading). x.reading) so.behind (b ∷ [])));
       remarks = is.remarks ∙ ap (λ (xs : List RemarkValue). xs ++ stretch_remarks site b) so.remarks ∙ append_assoc start (remarks_behind assets so.behind) (stretch_remarks site b)
           ∙ ap (λ (o : Option SiteValue). start ++ (remarks_behind assets so.behind ++ stretch_remarks_by o b)) (sym there) ∙ ap (λ (xs : List RemarkValue). start ++ xs) (sym (behind_more assets so.behind b));
     }
@@ -77,3 +78,10 @@ for_stretch assets stretches all i s inside is =
     let here : get_or (map (λ (x : StretchValue). x.flow) values) i (flow_value s.flow) ≡ flow_value s.flow =
     get_or-map (λ (x : StretchValue). x.flow) values i (stretch_value s) (flow_value s.flow) (omega (arith, inside, size)) ∙ ap (λ (x : StretchValue). x.flow) one in
     subst (IsForAsset assets) here (all i (flow_value s.flow) (omega (arith, inside, size, sizes)))
+
+-- of each stretch it is told
+pub stretch_told : (known : ℕ → Bool) (stretches : List Stretch) (i : ℕ) (s : Stretch) → AreToldOf known (map stretch_value stretches) → i < length stretches → s ≡ get_or stretches i s →
+    IsToldOf known (stretch_value s)
+stretch_told known stretches i s all inside is =
+    let here : get_or (map stretch_value stretches) i (stretch_value s) ≡ stretch_value s = get_or-map stretch_value stretches i s (stretch_value s) inside ∙ ap stretch_value (sym is) in
+    subst (IsToldOf known) here (all i (stretch_value s) (omega (arith, inside, length-map stretches stretch_value)))

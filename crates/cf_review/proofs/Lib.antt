@@ -1,11 +1,21 @@
 mod Alls
+mod Apart
 mod Behind
+mod Finished
+mod Finishing
 mod First
 mod FirstUnits
+mod FollowedOn
 mod Fronts
+mod Growing
 mod Ordering
+mod ReadOn
 mod Reading
+mod Records
 mod Rising
+pub mod Stamping
 mod SynFlows
+mod Taking
+mod Telling
 mod Told
 mod Writing

@@ -1,6 +1,8 @@
 -- The bytes of a flow, read up to a place, with all that is objected to.
-use Rattle.std.proofs.Common.{◌≡◌, ◌+◌, ◌-◌, ◌<◌, ◌≤◌, ◌∙◌, ℕ, List, [], ◌∷◌, ◌++◌, length, map, take, drop, get_or, slice_range, All, Option, None, Some, min, ◌^◌, refl, sym, ap, subst, arith, append_assoc}
-use Rattle.std.proofs.lemmas.List.{append-nil, drop-drop, drop_all, get_or-drop, get_or-map, length-drop, length-map, map-append, take_rest}
+use Rattle.std.proofs.Common.{◌≡◌, ◌+◌, ◌-◌, ◌<◌, ◌≤◌, ◌∙◌, ℕ, List, [], ◌∷◌, ◌++◌, length, map, take, drop, get_or, slice_range, All, Option, None, Some, min, ◌^◌, refl, sym, ap, subst, inl, inr, arith, append_assoc}
+use Rattle.std.proofs.lemmas.Bool.{cases_lt}
+use Rattle.std.proofs.lemmas.List.{append-nil, drop-append-le, drop-drop, drop_all, get_or-drop, get_or-map, get_or_append_left, length-drop, length-map, map-append, take_rest}
+use Rattle.std.proofs.Math.Nat.{min-eq_left, min-eq_right}
 use Rattle.cf_lane.proofs.Earlier.{in_turn-more}
 use Rattle.cf_lane.proofs.Units.{nothing_unit}
 use Rattle.cf_lane.specs.Judged.{Judged, in_turn, is_admitted, one_if}
@@ -20,35 +22,63 @@ use Rattle.cf_judge.specs.Plain.{AreRead, Breaks, Ending, HasSiteFate, Whole, co
 use Rattle.cf_judge.specs.Ruling.{ruling_of}
 use Rattle.cf_judge.specs.declared.ruling.Ruling.{Ruling}
 use Rattle.cf_judge.specs.declared.front.Reader.{Reader}
-use Rattle.cf_review.specs.Remark.{Broken, RemarkValue}
+use Rattle.cf_review.proofs.Growing.{begins_longer, breaks_longer}
+use Rattle.cf_review.specs.Follow.{HasBroken, IsPartOf, SoFar, Waits}
+use Rattle.cf_review.specs.Remark.{Broken, MatterValue, RemarkValue}
 use Rattle.cf_review.specs.FirstUnit.{AreReadParts, IsReadPart, IsReadPartAt, IsReadPartBy, from_place}
 use Rattle.cf_review.specs.Review.{AddsReview, AddsUnits, AreReviewed, conflict_remarks, end_remarks, flow_remarks, midstream_remarks, remark_on, remarks_by, remarks_on, unit_remarks, unit_remarks_by}
 use Rattle.cf_policy.specs.declared.Protocol.{Protocol}
 
--- with these units in front, those from a place on are those of the flow; the remarks on these units stand after some others
-pub record SoFar (site : SiteValue) (f : FlowValue) (start : List RemarkValue) (at : ℕ) (r : Reader) (admitted : ℕ) (remarks : List RemarkValue) : Type 0 where
-  pub units : List Judged
-  pub leads : (js : List Judged) (ending : Ending) → AreRead site f.client.address units (drop at f.bytes) (drop at f.born) js ending → AreRead site f.client.address [] f.bytes f.born (units ++ js) ending
-  pub reader : IsReaderOf site f.client.address units r
-  pub admitted_is : admitted ≡ admitted_in units
-  pub told : remarks ≡ start ++ in_turn (unit_remarks site f) [] units
-  pub inside : at ≤ length f.bytes
-  pub few : admitted ≤ at
+-- ---- how many commands are allowed, up to 2^64 - 1
+
+pub most_twice : (n a most : ℕ) → min (n + min a most) most ≡ min (n + a) most
+most_twice n a most =
+    elim (cases_lt a most) [
+      | inl below ↦ ap (λ k. min (n + k) most) (min-eq_left (omega (arith, below)))
+      | inr over ↦ ap (λ k. min (n + k) most) (min-eq_right over) ∙ min-eq_right (omega arith) ∙ sym (min-eq_right (omega (arith, over)))
+    ]
 
 admitted_more : (us : List Judged) (j : Judged) → admitted_in (us ++ j ∷ []) ≡ admitted_in us + one_if (is_admitted j.fate)
 admitted_more [] j = omega arith
 admitted_more (u ∷ us) j = let h = admitted_more us j in omega (arith, h)
 
-pub so_far_first : (site : SiteValue) (f : FlowValue) (start remarks : List RemarkValue) (r : Reader) → IsReaderOf site f.client.address [] r → remarks ≡ start →
+-- one unit more
+counted_on : (us : List Judged) (j : Judged) (admitted more now : ℕ) → admitted ≡ min (admitted_in us) (2 ^ 64 - 1) → more ≡ one_if (is_admitted j.fate) → now ≡ min (admitted + more) (2 ^ 64 - 1) →
+    now ≡ min (admitted_in (us ++ j ∷ [])) (2 ^ 64 - 1)
+counted_on us j admitted more now was one is =
+    let most : ℕ = 2 ^ 64 - 1 in
+    let turned : admitted + more ≡ one_if (is_admitted j.fate) + min (admitted_in us) most = omega (arith, was, one) in
+    let all : one_if (is_admitted j.fate) + admitted_in us ≡ admitted_in (us ++ j ∷ []) = omega (arith, admitted_more us j) in
+    is ∙ ap (λ n. min n most) turned ∙ most_twice (one_if (is_admitted j.fate)) (admitted_in us) most ∙ ap (λ n. min n most) all
+
+-- ---- the bytes of a flow, read up to a place
+
+-- the remarks on a unit are by the client and the asset of its flow alone
+same_remarks : (site : SiteValue) (place : ℕ) (f g : FlowValue) (earlier : List Judged) (j : Judged) → f.client ≡ g.client → f.asset ≡ g.asset →
+    unit_remarks_by site place g earlier j ≡ unit_remarks_by site place f earlier j
+same_remarks site place f g earlier j client asset = λ i. unit_remarks_by site place (record f { client = (sym client) i; asset = (sym asset) i }) earlier j
+
+same_remark : (f g : FlowValue) (number place : ℕ) (what : MatterValue) → f.client ≡ g.client → f.asset ≡ g.asset → remark_on g number place what ≡ remark_on f number place what
+same_remark f g number place what client asset = cc
+
+-- nothing comes later
+all_read : (site : SiteValue) (f : FlowValue) (js us : List Judged) (ending : Ending) → js ≡ us → AreRead site f.client.address [] (f.bytes ++ []) (f.born ++ []) js ending →
+    AreRead site f.client.address [] f.bytes f.born us ending
+all_read site f js us ending same are =
+    subst (λ xs. AreRead site f.client.address [] f.bytes f.born xs ending) same
+    (subst (λ xs. AreRead site f.client.address [] xs f.born js ending) (append-nil f.bytes)
+    (subst (λ ys. AreRead site f.client.address [] (f.bytes ++ []) ys js ending) (append-nil f.born) are))
+
+pub so_far_first : (site : SiteValue) (f : FlowValue) (start remarks : List RemarkValue) (r : Reader) → length f.born ≡ length f.bytes → IsReaderOf site f.client.address [] r → remarks ≡ start →
     SoFar site f start 0 r 0 remarks
-so_far_first site f start remarks r h told = record {
+so_far_first site f start remarks r sizes h told = record {
   units = [];
-  leads = λ js ending are. are;
+  leads = λ more more_born js ending are. are;
   reader = h;
   admitted_is = refl;
   told = told ∙ sym (append-nil start);
   inside = omega arith;
-  few = omega arith;
+  sizes = sizes;
 }
 
 module _ (site : SiteValue) (f : FlowValue) (start : List RemarkValue) (at : ℕ) (r : Reader) (admitted : ℕ) (remarks : List RemarkValue) (so : SoFar site f start at r admitted remarks) where
@@ -56,113 +86,187 @@ module _ (site : SiteValue) (f : FlowValue) (start : List RemarkValue) (at : ℕ
   told_more : (more new : List RemarkValue) → new ≡ remarks ++ more → new ≡ start ++ (in_turn (unit_remarks site f) [] so.units ++ more)
   told_more more new is = is ∙ ap (λ xs. xs ++ more) so.told ∙ append_assoc start (in_turn (unit_remarks site f) [] so.units) more
 
-  pub so_far_on : (p : Ruling) (place used : ℕ) (new : Reader) (number more : ℕ) (octets : List ℕ) (now : List RemarkValue) → length f.born ≡ length f.bytes →
-      TakesUnit site f.client.address so.units (drop at f.bytes) p place used new → number ≡ get_or f.born (at + used - 1) 0 → more ≤ 1 → ((g : Fate) → p ≡ ruling_of g → more ≡ one_if (is_admitted g)) →
-      octets ≡ slice_range f.bytes at (at + used) →
-      ((client : ℕ) (earlier : List Judged) (u : UnitValue) (g : Fate) → IsReaderOf site client (earlier ++ completed_in number u g ∷ []) new → place ≡ place_for site side.Client u →
-      SpellsUnit site.first.protocol u octets → HasSiteFate site client earlier u g → p ≡ ruling_of g → now ≡ remarks ++ unit_remarks_by site place f earlier (completed_in number u g)) →
-      SoFar site f start (at + used) new (admitted + more) now
-  so_far_on p place used new number more octets now sizes t is few counts range adds =
+  size : length (drop at f.bytes) ≡ length f.bytes - at
+  size = length-drop at f.bytes
+
+  born_size : length (drop at f.born) ≡ length f.bytes - at
+  born_size = length-drop at f.born ∙ ap (λ n. n - at) so.sizes
+
+  -- with another reader that stands for the same units
+  pub read_by : (new : Reader) → ((client : ℕ) (earlier : List Judged) → IsReaderOf site client earlier r → IsReaderOf site client earlier new) → SoFar site f start at new admitted remarks
+  read_by new goes_on = record {
+    units = so.units;
+    leads = so.leads;
+    reader = goes_on f.client.address so.units so.reader;
+    admitted_is = so.admitted_is;
+    told = so.told;
+    inside = so.inside;
+    sizes = so.sizes;
+  }
+
+  -- with one unit more
+  so_far_on : (p : Ruling) (place used : ℕ) (new : Reader) (number counted : ℕ) (now : List RemarkValue) (t : TakesUnit site f.client.address so.units (drop at f.bytes) p place used new) →
+      number ≡ get_or f.born (at + used - 1) 0 → counted ≡ min (admitted_in (so.units ++ completed_in number t.unit t.fate ∷ [])) (2 ^ 64 - 1) →
+      now ≡ remarks ++ unit_remarks_by site place f so.units (completed_in number t.unit t.fate) → SoFar site f start (at + used) new counted now
+  so_far_on p place used new number counted now t is counts adds =
       let some : 0 < used = t.some in
       let inside : used ≤ length (drop at f.bytes) = t.begins.inside in
-      let size : length (drop at f.bytes) ≡ length f.bytes - at = length-drop at f.bytes in
+      let inside_born : used ≤ length (drop at f.born) = omega (arith, inside, size, born_size) in
       let last : at + used - 1 ≡ at + (used - 1) = omega (arith, some) in
-      let number_is : get_or (drop at f.born) (used - 1) 0 ≡ number = get_or-drop at f.born (used - 1) 0 ∙ ap (λ n. get_or f.born n 0) (sym last) ∙ sym is in
+      let number_is : (later_born : List ℕ) → get_or (drop at f.born ++ later_born) (used - 1) 0 ≡ number =
+      λ later_born. get_or_append_left (drop at f.born) later_born 0 (used - 1) (omega (arith, some, inside_born)) ∙ get_or-drop at f.born (used - 1) 0
+      ∙ ap (λ n. get_or f.born n 0) (sym last) ∙ sym is in
+      let rest : (xs later : List ℕ) → used ≤ length (drop at xs) → drop (at + used) xs ++ later ≡ drop used (drop at xs ++ later) =
+      λ xs later within. ap (λ ys. ys ++ later) (sym (drop-drop used at xs)) ∙ sym (drop-append-le used (drop at xs) later within) in
       let j = completed_in number t.unit t.fate in
-      let span : at + used - at ≡ used = omega arith in
-      let front : octets ≡ take used (drop at f.bytes) = range ∙ ap (λ n. take n (drop at f.bytes)) span in
-      let spells : SpellsUnit site.first.protocol t.unit octets = subst (SpellsUnit site.first.protocol t.unit) (sym front) t.begins.spells in
-      let c = counts t.fate t.counts in
-      let by_place = adds f.client.address so.units t.unit t.fate (t.goes_on number) t.is_for spells t.has_fate t.counts in
-      let added : now ≡ remarks ++ unit_remarks site f so.units j = by_place ∙ ap (λ k. remarks ++ unit_remarks_by site k f so.units j) t.is_for in
+      let added : now ≡ remarks ++ unit_remarks site f so.units j = adds ∙ ap (λ k. remarks ++ unit_remarks_by site k f so.units j) t.is_for in
       record {
         units = so.units ++ j ∷ [];
-        leads = λ js ending are. subst (λ xs. AreRead site f.client.address [] f.bytes f.born xs ending) (sym (append_assoc so.units (j ∷ []) js))
-            (so.leads (j ∷ js) ending (
+        leads = λ more more_born js ending are. subst (λ xs. AreRead site f.client.address [] (f.bytes ++ more) (f.born ++ more_born) xs ending) (sym (append_assoc so.units (j ∷ []) js))
+            (so.leads more more_born (j ∷ js) ending (
               t.unit,
               used,
-              t.begins,
+              begins_longer (SpellsUnit site.first.protocol) (drop at f.bytes) more t.unit used t.begins,
               some,
-              ap (λ n. completed_in n t.unit t.fate) (sym number_is),
+              ap (λ n. completed_in n t.unit t.fate) (sym (number_is more_born)),
               t.has_fate,
-              subst (λ xs. AreRead site f.client.address (so.units ++ j ∷ []) xs (drop used (drop at f.born)) js ending) (sym (drop-drop used at f.bytes))
-                  (subst (λ ys. AreRead site f.client.address (so.units ++ j ∷ []) (drop (at + used) f.bytes) ys js ending) (sym (drop-drop used at f.born)) are),
+              subst (λ xs. AreRead site f.client.address (so.units ++ j ∷ []) xs (drop used (drop at f.born ++ more_born)) js ending) (rest f.bytes more inside)
+                  (subst (λ ys. AreRead site f.client.address (so.units ++ j ∷ []) (drop (at + used) f.bytes ++ more) ys js ending) (rest f.born more_born inside_born) are),
             ));
         reader = t.goes_on number;
-        admitted_is = ap (λ n. admitted + n) c ∙ ap (λ n. n + one_if (is_admitted t.fate)) so.admitted_is ∙ sym (admitted_more so.units j);
+        admitted_is = counts;
         told = told_more (unit_remarks site f so.units j) now added ∙ ap (λ xs. start ++ xs) (sym (in_turn-more (unit_remarks site f) so.units j));
         inside = omega (arith, size, inside, so.inside);
-        few = omega (arith, some, few, so.few);
+        sizes = so.sizes;
       }
 
-  pub found_rest : IsPartial (SpellsUnit site.first.protocol) (drop at f.bytes) → AddsUnits site f start remarks admitted
+  pub found_rest : Waits site f at → AddsUnits site f start remarks admitted
   found_rest h = record {
     judged = so.units;
     ending = Whole;
-    are_read = subst (λ xs. AreRead site f.client.address [] f.bytes f.born xs Whole) (append-nil so.units) (so.leads [] Whole h);
+    are_read = all_read site f (so.units ++ []) so.units Whole (append-nil so.units)
+        (so.leads [] [] [] Whole (subst (IsPartial (SpellsUnit site.first.protocol)) (sym (append-nil (drop at f.bytes))) h));
     admitted_is = so.admitted_is;
     remarks = told_more [] remarks (sym (append-nil remarks));
   }
 
-  pub found_break : (reason : Break) (place number : ℕ) (now : List RemarkValue) → BreaksAt (SpellsUnit site.first.protocol) (drop at f.bytes) place → reason ≡ unit_break site.first.protocol place →
-      number ≡ get_or f.born (at + place) 0 → now ≡ remarks ++ remark_on f number 0 (Broken reason) ∷ [] → AddsUnits site f start now admitted
-  found_break reason place number now b is number_is added = record {
-    judged = so.units;
-    ending = Breaks number reason;
-    are_read = subst (λ xs. AreRead site f.client.address [] f.bytes f.born xs (Breaks number reason)) (append-nil so.units)
-        (so.leads [] (Breaks number reason) (place, b, is, number_is ∙ sym (get_or-drop at f.born place 0)));
-    admitted_is = so.admitted_is;
-    remarks = told_more (remark_on f number 0 (Broken reason) ∷ []) now added;
-  }
-
-  pub found_all : length f.bytes ≤ at → AddsUnits site f start remarks admitted
-  found_all h = found_rest (subst (IsPartial (SpellsUnit site.first.protocol)) (sym (drop_all at f.bytes h)) (nothing_unit site.first.protocol))
-
-  -- what was told of the bytes that were lent
-  module _ (read : List ℕ) (lent : read ≡ slice_range f.bytes at (length f.bytes)) where
-    same : read ≡ drop at f.bytes
-    same = lent ∙ take_rest f.bytes at
-
-    pub took : (p : Ruling) (place used : ℕ) (new : Reader) → ((client : ℕ) (earlier : List Judged) → IsReaderOf site client earlier r → TakesUnit site client earlier read p place used new) →
-        TakesUnit site f.client.address so.units (drop at f.bytes) p place used new
-    took p place used new h = subst (λ xs. TakesUnit site f.client.address so.units xs p place used new) same (h f.client.address so.units so.reader)
-
-    pub waits : ((client : ℕ) (earlier : List Judged) → IsReaderOf site client earlier r → IsPartial (SpellsUnit site.first.protocol) read) → IsPartial (SpellsUnit site.first.protocol) (drop at f.bytes)
-    waits h = subst (IsPartial (SpellsUnit site.first.protocol)) same (h f.client.address so.units so.reader)
-
-    pub broke : (reason : Break) (place : ℕ) →
-        ((client : ℕ) (earlier : List Judged) → IsReaderOf site client earlier r → BreaksAt (SpellsUnit site.first.protocol) read place × (reason ≡ unit_break site.first.protocol place)) →
-        BreaksAt (SpellsUnit site.first.protocol) (drop at f.bytes) place × (reason ≡ unit_break site.first.protocol place)
-    broke reason place h = subst (λ xs. BreaksAt (SpellsUnit site.first.protocol) xs place × (reason ≡ unit_break site.first.protocol place)) same (h f.client.address so.units so.reader)
-
-  pub took_inside : (p : Ruling) (place used : ℕ) (new : Reader) → TakesUnit site f.client.address so.units (drop at f.bytes) p place used new → (at + used ≤ length f.bytes) × (0 < used)
-  took_inside p place used new t =
-      let some : 0 < used = t.some in
-      let inside : used ≤ length (drop at f.bytes) = t.begins.inside in
-      let size : length (drop at f.bytes) ≡ length f.bytes - at = length-drop at f.bytes in
-      (omega (arith, size, inside, so.inside, some), some)
-
-  pub broke_inside : (place : ℕ) → BreaksAt (SpellsUnit site.first.protocol) (drop at f.bytes) place → at + place < length f.bytes
-  broke_inside place b =
+  -- an octet follows that no unit has there
+  broken : (reason : Break) (place number : ℕ) (now : List RemarkValue) → BreaksAt (SpellsUnit site.first.protocol) (drop at f.bytes) place → reason ≡ unit_break site.first.protocol place →
+      number ≡ get_or f.born (at + place) 0 → now ≡ remarks ++ remark_on f number 0 (Broken reason) ∷ [] → HasBroken site f start admitted now
+  broken reason place number now b is number_is added =
       let inside : place < length (drop at f.bytes) = b.inside in
-      let size : length (drop at f.bytes) ≡ length f.bytes - at = length-drop at f.bytes in
-      omega (arith, size, inside, so.inside)
+      let inside_born : place < length (drop at f.born) = omega (arith, inside, size, born_size) in
+      record {
+        units = so.units;
+        number = number;
+        reason = reason;
+        breaks = λ more more_born. subst (λ xs. AreRead site f.client.address [] (f.bytes ++ more) (f.born ++ more_born) xs (Breaks number reason)) (append-nil so.units)
+            (so.leads more more_born [] (Breaks number reason) (
+              place,
+              breaks_longer (SpellsUnit site.first.protocol) (drop at f.bytes) more place b,
+              is,
+              number_is ∙ sym (get_or-drop at f.born place 0) ∙ sym (get_or_append_left (drop at f.born) more_born 0 place inside_born),
+            ));
+        admitted_is = so.admitted_is;
+        told = told_more (remark_on f number 0 (Broken reason) ∷ []) now added;
+      }
 
--- of a flow from a place on the records are those after it
-pub number_from : (born : List ℕ) (start i place number : ℕ) → start + i ≡ place → number ≡ get_or born place 0 → number ≡ get_or (drop start born) i 0
-number_from born start i place number e is = is ∙ ap (λ n. get_or born n 0) (sym e) ∙ sym (get_or-drop start born i 0)
+pub found_broken : (site : SiteValue) (f : FlowValue) (start : List RemarkValue) (admitted : ℕ) (remarks : List RemarkValue) → HasBroken site f start admitted remarks → AddsUnits site f start remarks admitted
+found_broken site f start admitted remarks b = record {
+  judged = b.units;
+  ending = Breaks b.number b.reason;
+  are_read = all_read site f b.units b.units (Breaks b.number b.reason) refl (b.breaks [] []);
+  admitted_is = b.admitted_is;
+  remarks = b.told;
+}
+
+-- ---- the bytes that are kept of a flow
+
+part_on : (f : FlowValue) (place : ℕ) (kept : Flow) (at used : ℕ) → IsPartOf f place kept at → IsPartOf f (place + used) kept (at + used)
+part_on f place kept at used part = record {
+  bytes = sym (drop-drop used place f.bytes) ∙ ap (drop used) part.bytes ∙ drop-drop used at kept.bytes.items;
+  born = sym (drop-drop used place f.born) ∙ ap (drop used) part.born ∙ drop-drop used at kept.born;
+  client = part.client;
+  asset = part.asset;
+}
+
+-- all that is kept from a place on
+pub part_from : (place : ℕ) (kept : Flow) → IsPartOf (from_place place (flow_value kept)) 0 kept place
+part_from place kept = record { bytes = refl; born = refl; client = refl; asset = refl }
 
 pub same_sizes : (bytes born : List ℕ) (start : ℕ) → length born ≡ length bytes → length (drop start born) ≡ length (drop start bytes)
 same_sizes bytes born start e = length-drop start born ∙ ap (λ n. n - start) e ∙ sym (length-drop start bytes)
 
-pub found_nothing : (site : SiteValue) (f : FlowValue) (start remarks : List RemarkValue) → f.bytes ≡ [] → remarks ≡ start → AddsUnits site f start remarks 0
-found_nothing site f start remarks e told = record {
-  judged = [];
-  ending = Whole;
-  are_read = subst (IsPartial (SpellsUnit site.first.protocol)) (sym e) (nothing_unit site.first.protocol);
-  admitted_is = refl;
-  remarks = told ∙ sym (append-nil start);
-}
+-- the bytes go on from one place to another
+pub part_to : (f : FlowValue) (place : ℕ) (kept : Flow) (first at : ℕ) → first ≤ at → IsPartOf f place kept first → IsPartOf f (place + (at - first)) kept at
+part_to f place kept first at past part = subst (IsPartOf f (place + (at - first)) kept) (omega (arith, past)) (part_on f place kept first (at - first) part)
+
+-- nothing follows
+pub waits_all : (site : SiteValue) (f : FlowValue) (place : ℕ) (kept : Flow) (at : ℕ) → IsPartOf f place kept at → length kept.bytes.items ≤ at → Waits site f place
+waits_all site f place kept at part over =
+    subst (IsPartial (SpellsUnit site.first.protocol)) (sym (part.bytes ∙ drop_all at kept.bytes.items over)) (nothing_unit site.first.protocol)
+
+-- the bytes that were lent are those from a place on
+module _ (kept : Flow) (at : ℕ) (read : List ℕ) (lent : read ≡ slice_range kept.bytes.items at (length kept.bytes.items)) where
+  rest_is : read ≡ drop at kept.bytes.items
+  rest_is = lent ∙ take_rest kept.bytes.items at
+
+  read_size : length read ≡ length kept.bytes.items - at
+  read_size = ap length rest_is ∙ length-drop at kept.bytes.items
+
+  pub took_inside : (site : SiteValue) (client : ℕ) (earlier : List Judged) (p : Ruling) (place used : ℕ) (new : Reader) → at ≤ length kept.bytes.items → TakesUnit site client earlier read p place used new →
+      (at + used ≤ length kept.bytes.items) × (0 < used)
+  took_inside site client earlier p place used new within t =
+      let some : 0 < used = t.some in
+      let inside : used ≤ length read = t.begins.inside in
+      (omega (arith, read_size, inside, within, some), some)
+
+  pub broke_inside : (site : SiteValue) (place : ℕ) → at ≤ length kept.bytes.items → BreaksAt (SpellsUnit site.first.protocol) read place → at + place < length kept.bytes.items
+  broke_inside site place within b =
+      let inside : place < length read = b.inside in
+      omega (arith, read_size, inside, within)
+
+  -- they are those of a flow
+  module _ (site : SiteValue) (f : FlowValue) (start : List RemarkValue) (from : ℕ) (r : Reader) (admitted : ℕ) (remarks : List RemarkValue) (part : IsPartOf f from kept at)
+      (so : SoFar site f start from r admitted remarks) where
+    same : read ≡ drop from f.bytes
+    same = rest_is ∙ sym part.bytes
+
+    same_born : (k : ℕ) → get_or kept.born (at + k) 0 ≡ get_or f.born (from + k) 0
+    same_born k = sym (get_or-drop at kept.born k 0) ∙ ap (λ xs. get_or xs k 0) (sym part.born) ∙ get_or-drop from f.born k 0
+
+    pub waits : ((client : ℕ) (earlier : List Judged) → IsReaderOf site client earlier r → IsPartial (SpellsUnit site.first.protocol) read) → Waits site f from
+    waits h = subst (IsPartial (SpellsUnit site.first.protocol)) same (h f.client.address so.units so.reader)
+
+    pub takes_on : (p : Ruling) (place used : ℕ) (new : Reader) (number more counted : ℕ) (octets : List ℕ) (now : List RemarkValue) →
+        ((client : ℕ) (earlier : List Judged) → IsReaderOf site client earlier r → TakesUnit site client earlier read p place used new) → number ≡ get_or kept.born (at + used - 1) 0 →
+        ((g : Fate) → p ≡ ruling_of g → more ≡ one_if (is_admitted g)) → counted ≡ min (admitted + more) (2 ^ 64 - 1) → octets ≡ slice_range kept.bytes.items at (at + used) →
+        ((client : ℕ) (earlier : List Judged) (u : UnitValue) (g : Fate) → IsReaderOf site client (earlier ++ completed_in number u g ∷ []) new → place ≡ place_for site side.Client u →
+        SpellsUnit site.first.protocol u octets → HasSiteFate site client earlier u g → p ≡ ruling_of g → now ≡ remarks ++ unit_remarks_by site place (flow_value kept) earlier (completed_in number u g)) →
+        SoFar site f start (from + used) new counted now
+    takes_on p place used new number more counted octets now took is counts sum range adds =
+        let t : TakesUnit site f.client.address so.units (drop from f.bytes) p place used new =
+        subst (λ xs. TakesUnit site f.client.address so.units xs p place used new) same (took f.client.address so.units so.reader) in
+        let some : 0 < used = t.some in
+        let j = completed_in number t.unit t.fate in
+        let span : at + used - at ≡ used = omega arith in
+        let front : octets ≡ take used (drop from f.bytes) = range ∙ ap (λ n. take n (drop at kept.bytes.items)) span ∙ ap (take used) (sym part.bytes) in
+        let spells : SpellsUnit site.first.protocol t.unit octets = subst (SpellsUnit site.first.protocol t.unit) (sym front) t.begins.spells in
+        let here : at + used - 1 ≡ at + (used - 1) = omega (arith, some) in
+        let there : from + (used - 1) ≡ from + used - 1 = omega (arith, some) in
+        let number_is : number ≡ get_or f.born (from + used - 1) 0 = is ∙ ap (λ n. get_or kept.born n 0) here ∙ same_born (used - 1) ∙ ap (λ n. get_or f.born n 0) there in
+        so_far_on site f start from r admitted remarks so p place used new number counted now t number_is (counted_on so.units j admitted more counted so.admitted_is (counts t.fate t.counts) sum)
+        (adds f.client.address so.units t.unit t.fate (t.goes_on number) t.is_for spells t.has_fate t.counts ∙ ap (λ xs. remarks ++ xs) (same_remarks site place f (flow_value kept) so.units j part.client part.asset))
+
+    pub breaks_off : (reason : Break) (place number : ℕ) (now : List RemarkValue) →
+        ((client : ℕ) (earlier : List Judged) → IsReaderOf site client earlier r → BreaksAt (SpellsUnit site.first.protocol) read place × (reason ≡ unit_break site.first.protocol place)) →
+        number ≡ get_or kept.born (at + place) 0 → now ≡ remarks ++ remark_on (flow_value kept) number 0 (Broken reason) ∷ [] → HasBroken site f start admitted now
+    breaks_off reason place number now breaks is added =
+        let b = breaks f.client.address so.units so.reader in
+        broken site f start from r admitted remarks so reason place number now (subst (λ xs. BreaksAt (SpellsUnit site.first.protocol) xs place) same b.0) b.1 (is ∙ same_born place)
+        (added ∙ ap (λ x. remarks ++ x ∷ []) (same_remark f (flow_value kept) number 0 (Broken reason) part.client part.asset))
+
+-- ---- all of a flow
 
 -- the remarks on a flow are that it begins amid its stream, its conflict, and those on the bytes that are read
 pub adds_review : (site : SiteValue) (f : FlowValue) (place : ℕ) (start first second now : List RemarkValue) (admitted : ℕ) → IsReadPart site.first.protocol f (from_place place f) →
@@ -222,7 +326,8 @@ reviewed_on assets flows admitted more old new f site so at is =
       of_flows = subst (AreReadParts assets (flows ++ f ∷ [])) (sym (map-append (λ s. s.flow) so.readings (r ∷ [])))
           (parts_more assets flows (map (λ s. s.flow) so.readings) f is.read so.of_flows (subst (λ a. IsReadPartAt a f is.read) (sym at) is.is_part));
       are_read = read_more assets so.readings r so.are_read (subst (λ a. IsReadBy a r) (sym there) is.are_read);
-      admitted_is = ap (λ n. min (n + more) (2 ^ 64 - 1)) so.admitted_is ∙ ap (λ n. min (commands_in 0 so.readings + n) (2 ^ 64 - 1)) is.admitted_is ∙ sym (commands_more 0 so.readings r);
+      admitted_is = ap (λ n. min (n + more) (2 ^ 64 - 1)) so.admitted_is ∙ ap (λ n. min (commands_in 0 so.readings + n) (2 ^ 64 - 1)) is.admitted_is
+          ∙ most_twice (commands_in 0 so.readings) (admitted_in is.judged) (2 ^ 64 - 1) ∙ sym (commands_more 0 so.readings r);
       remarks_are = is.remarks ∙ ap (λ xs. xs ++ flow_remarks site is.read is.judged is.ending) so.remarks_are ∙ ap (λ a. remarks_on assets so.readings ++ remarks_by a r) (sym there) ∙ sym (remarks_more assets so.readings r);
     }
 

@@ -1,5 +1,5 @@
 -- No byte of a watched flow came with an earlier record than a byte before it.
-use Rattle.std.proofs.Common.{◌-◌, ◌≡◌, ◌<◌, ◌≤◌, ◌+◌, ◌++◌, ◌∙◌, ℕ, List, [], ◌∷◌, Option, None, Some, Result, Ok, Err, length, map, set, slice_get, get_or, refl, ap, subst, sym, arith, inl, inr, length-append, ◌⊎◌}
+use Rattle.std.proofs.Common.{◌-◌, ◌≡◌, ◌<◌, ◌≤◌, ◌+◌, ◌++◌, ◌∙◌, ℕ, List, [], ◌∷◌, Option, None, Some, Result, Ok, Err, length, map, set, slice_get, get_or, if◌then◌else◌, refl, ap, subst, sym, arith, inl, inr, length-append, ◌⊎◌}
 use Rattle.std.specs.List.{AllByRecursion}
 use Rattle.std.proofs.lemmas.Bool.{cond_both}
 use Rattle.std.proofs.lemmas.List.{map-append}
@@ -15,12 +15,13 @@ use Rattle.cf_stream.proofs.FirstCopy.{first_copy-append}
 use Rattle.cf_stream.proofs.Taken.{taken_extends}
 use Rattle.cf_stream.specs.FirstCopy.{first_copy}
 use Rattle.cf_stream.specs.Stream.{Extends}
-use Rattle.cf_watch.specs.Carried.{AreBorn, Carried, HasBytes, IsBornWith, copy_of, offer_of}
+use Rattle.cf_watch.specs.Carried.{AreBorn, Carried, HasBytes, IsBornWith, copy_of, offer_of, top_of}
 use Rattle.cf_watch.specs.Flow.{AreFlowsOf}
 use Rattle.cf_watch.specs.FlowValue.{FlowValue}
-use Rattle.cf_watch.specs.Seen.{begins_amid, begun_with, goes_from, goes_to_asset, opening_amid, packet_by, seen_by, with_frame}
-use Rattle.cf_watch.specs.Watched.{Watched, begins_anew, begun_by, goes_at, goes_to, last_place, with_packet}
+use Rattle.cf_watch.specs.Seen.{begins_amid, begun_with, goes_first, goes_from, goes_in, goes_to_asset, near, opening_amid, opening_by, packet_by, seen_by, with_frame, with_packet_by}
+use Rattle.cf_watch.specs.Watched.{Watched, begins_anew, carried_by, last_place}
 use Rattle.cf_watch.specs.declared.Scope.{Scope}
+use Rattle.cf_watch.specs.declared.Scope.TheVariants as scope
 use Rattle.cf_policy.specs.declared.Protocol.{Protocol}
 use Rattle.std.proofs.lemmas.List.{length-drop}
 use Rattle.std.proofs.lemmas.List.Sorted.{IsNonDecreasingBy-drop}
@@ -56,21 +57,37 @@ module _ (n : ℕ) where
   fall_more : (ws : List Watched) (w : Watched) → AllFall n ws → Low w → AllFall n (ws ++ w ∷ [])
   fall_more ws w h s = all_append Low ws (w ∷ []) h (s, tt)
 
-  fall_to : (asset place : ℕ) (packet : PacketValue) (o : Option Watched) (ws : List Watched) → slice_get ws place ≡ o → AllFall n ws → AllFall n (goes_to n asset place packet o ws)
-  fall_to asset place packet None ws e h = h
-  fall_to asset place packet (Some f) ws e h =
-      cond_both (begins_anew packet f) (ws ++ begun_by n asset packet ∷ []) (set ws place (with_packet n packet f)) (AllFall n)
-      (λ _. fall_more ws (begun_by n asset packet) h (omega arith, tt)) (λ _. all_set Low ws place (with_packet n packet f) h (omega arith, all_get Low ws place f h e))
+  -- what is read of a packet has its number
+  near_falls : (scope : Scope) (top : ℕ) (c : Carried) (cs : List Carried) → c.number ≡ n → Falls n cs → Falls n (near scope top c ∷ cs)
+  near_falls scope.Connections top c cs e h = (omega (arith, e), subst (λ m. Falls m cs) (sym e) h)
+  near_falls scope.Recording top c cs e h = (omega (arith, e), subst (λ m. Falls m cs) (sym e) h)
 
-  fall_at : (asset : ℕ) (packet : PacketValue) (last : Option ℕ) (ws : List Watched) → AllFall n ws → AllFall n (goes_at n asset packet last ws)
-  fall_at asset packet None ws h = cond_both (is_opening packet) (ws ++ begun_by n asset packet ∷ []) ws (AllFall n) (λ _. fall_more ws (begun_by n asset packet) h (omega arith, tt)) (λ _. h)
-  fall_at asset packet (Some place) ws h = fall_to asset place packet (slice_get ws place) ws refl h
+  low_on : (scope : Scope) (packet : PacketValue) (f : Watched) → Low f → Low (with_packet_by scope n packet f)
+  low_on scope packet f h = near_falls scope (top_of f.carried) (carried_by n f.origin (top_of f.carried) packet) f.carried refl h
+
+  low_begun : (scope : Scope) (opening : _) (asset : ℕ) (packet : PacketValue) → Low (begun_with scope opening n asset packet)
+  low_begun scope opening asset packet = near_falls scope 0 _ [] refl tt
+
+  fall_in : (scope : Scope) (asset place : ℕ) (packet : PacketValue) (o : Option Watched) (ws : List Watched) → slice_get ws place ≡ o → AllFall n ws →
+      AllFall n (goes_in scope n asset place packet o ws)
+  fall_in scope asset place packet None ws e h = h
+  fall_in scope asset place packet (Some f) ws e h =
+      let begun = begun_with scope (opening_by packet) n asset packet in
+      cond_both (begins_anew packet f) (ws ++ begun ∷ []) (set ws place (with_packet_by scope n packet f)) (AllFall n)
+      (λ _. fall_more ws begun h (low_begun scope (opening_by packet) asset packet))
+      (λ _. all_set Low ws place (with_packet_by scope n packet f) h (low_on scope packet f (all_get Low ws place f h e)))
+
+  fall_first : (scope : Scope) (asset : ℕ) (packet : PacketValue) (ws : List Watched) → AllFall n ws → AllFall n (goes_first scope n asset packet ws)
+  fall_first scope asset packet ws h =
+      let amid = begun_with scope (opening_amid n packet) n asset packet in
+      let begun = begun_with scope (opening_by packet) n asset packet in
+      cond_both (begins_amid scope packet) (ws ++ amid ∷ []) (if is_opening packet then ws ++ begun ∷ [] else ws) (AllFall n)
+      (λ _. fall_more ws amid h (low_begun scope (opening_amid n packet) asset packet))
+      (λ _. cond_both (is_opening packet) (ws ++ begun ∷ []) ws (AllFall n) (λ _. fall_more ws begun h (low_begun scope (opening_by packet) asset packet)) (λ _. h))
 
   fall_from : (scope : Scope) (asset : ℕ) (packet : PacketValue) (last : Option ℕ) (ws : List Watched) → AllFall n ws → AllFall n (goes_from scope n asset packet last ws)
-  fall_from scope asset packet None ws h =
-      cond_both (begins_amid scope packet) (ws ++ begun_with (opening_amid n packet) n asset packet ∷ []) (goes_at n asset packet None ws) (AllFall n)
-      (λ _. fall_more ws (begun_with (opening_amid n packet) n asset packet) h (omega arith, tt)) (λ _. fall_at asset packet None ws h)
-  fall_from scope asset packet (Some place) ws h = fall_at asset packet (Some place) ws h
+  fall_from scope asset packet None ws h = fall_first scope asset packet ws h
+  fall_from scope asset packet (Some place) ws h = fall_in scope asset place packet (slice_get ws place) ws refl h
 
   fall_goes : (scope : Scope) (packet : PacketValue) (o : Option ℕ) (ws : List Watched) → AllFall n ws → AllFall n (goes_to_asset scope n packet o ws)
   fall_goes scope packet None ws h = h

@@ -1,6 +1,10 @@
 -- The flows of a review that begin with a SYN, as records come.
 use Rattle.std.proofs.Common.{◌≡◌, ◌∙◌, ◌++◌, ◌∷◌, [], ◌+◌, ◌==◌, ◌&&◌, ◌||◌, ℕ, zero, suc, Bool, true, false, not, if◌then◌else◌, cond, List, length, set, slice_get, Option, Some, None, Result, Ok, Err, unwrap_or, refl, sym, ap, subst, arith}
 use Rattle.std.specs.List.{AllByRecursion, filter}
+use Rattle.std.specs.Prelude.{nat_le}
+use Rattle.std.proofs.Math.Bool.{and-true}
+use Rattle.std.proofs.Math.Dec.{leb-zero}
+use Rattle.std.proofs.Math.IntN.{+ℤ_idr}
 use Rattle.std.proofs.lemmas.Bool.{and_parts, cond-false, cond-true, cond_both, false≢true, or_left}
 use Rattle.std.proofs.lemmas.Bool.Decides.{nat_tests}
 use Rattle.std.proofs.lemmas.List.Elements.{filter-append}
@@ -13,11 +17,12 @@ use Rattle.cf_records.specs.Capture.{Record}
 use Rattle.cf_policy.specs.AtEndpoint.{asset_place}
 use Rattle.cf_view.specs.Endpoints.{same_endpoint}
 use Rattle.cf_view.specs.declared.Endpoint.{Endpoint}
-use Rattle.cf_watch.specs.Seen.{begins_amid, begun_with, goes_from, goes_to_asset, opening_amid, packet_by, seen_by, with_frame}
-use Rattle.cf_watch.specs.Watched.{Watched, begins_anew, begun_by, goes, goes_at, goes_to, is_between, last_place, later_place, watched, with_packet, with_record}
+use Rattle.cf_watch.specs.Carried.{Carried, top_of}
+use Rattle.cf_watch.specs.Seen.{begins_amid, begun_with, far, goes_from, goes_in, goes_to_asset, near, opening_amid, opening_by, packet_by, seen_by, with_frame, with_packet_by, without_first}
+use Rattle.cf_watch.specs.Watched.{Watched, begins_anew, begun_by, carried_by, goes, goes_at, goes_to, is_between, last_place, later_place, watched, with_packet, with_record}
 use Rattle.cf_watch.specs.declared.Scope.TheVariants as scope
-use Rattle.cf_review.proofs.Alls.{all_append, all_get, all_set}
-use Rattle.cf_review.specs.SynFlows.{IsReadAlike, SynFlowsAreWatched, begins_with_syn}
+use Rattle.cf_review.proofs.Alls.{all_append, all_before, all_behind, all_front, all_get, all_here, all_set}
+use Rattle.cf_review.specs.SynFlows.{IsNear, IsReadAlike, SynFlowsAreWatched, begins_with_syn}
 
 -- ---- lists
 
@@ -56,17 +61,17 @@ first_append (w ∷ ws) x f h a =
     (f.0, (λ client asset e. all_append (λ v. begins_with_syn v ≡ false → is_between client asset v ≡ false) ws (x ∷ []) (f.1 client asset e) (a.0 client asset e, tt)), first_append ws x f.2 h a.1)
 
 module _ (number : ℕ) (p : PacketValue) where
-  first_set : (ws : List Watched) (i : ℕ) (x : Watched) → slice_get ws i ≡ Some x → AreFirst ws → AreFirst (set ws i (with_packet number p x))
+  first_set : (ws : List Watched) (i : ℕ) (x : Watched) → slice_get ws i ≡ Some x → AreFirst ws → AreFirst (set ws i (with_packet_by scope.Recording number p x))
   first_set [] i x e f = tt
   first_set (w ∷ ws) zero x e f =
       let same : w ≡ x = ap (λ o. unwrap_or o w) e in
-      subst (λ y. AreFirst (with_packet number p y ∷ ws)) same ((λ s. or_left w.answered (has_ack p) (f.0 s)), f.1, f.2)
+      subst (λ y. AreFirst (with_packet_by scope.Recording number p y ∷ ws)) same ((λ s. or_left w.answered (has_ack p) (f.0 s)), f.1, f.2)
   first_set (w ∷ ws) (suc i) x e f = (
     f.0,
     (λ client asset b.
         let P : Watched → Type 0 = λ v. begins_with_syn v ≡ false → is_between client asset v ≡ false in
         let all = f.1 client asset b in
-        all_set P ws i (with_packet number p x) all (all_get P ws i x all e)),
+        all_set P ws i (with_packet_by scope.Recording number p x) all (all_get P ws i x all e)),
     first_set ws i x e f.2,
   )
 
@@ -92,30 +97,35 @@ module _ (number asset : ℕ) (p : PacketValue) where
   Mine f = is_between p.source asset f
 
   abbrev new : Watched
-  new = begun_by number asset p
+  new = begun_with scope.Recording (opening_by p) number asset p
 
   abbrev amid : Watched
-  amid = begun_with (opening_amid number p) number asset p
+  amid = begun_with scope.Recording (opening_amid number p) number asset p
 
   abbrev last : List Watched → Option ℕ
   last ws = last_place p.source asset ws
 
+  -- so a packet goes where no flow begins amid its stream
+  abbrev go_at : Option ℕ → List Watched → List Watched
+  go_at None ws = if is_opening p then ws ++ new ∷ [] else ws
+  go_at (Some place) ws = goes_in scope.Recording number asset place p (slice_get ws place) ws
+
   abbrev go : List Watched → List Watched
-  go ws = goes_at number asset p (last ws) ws
+  go ws = go_at (last ws) ws
 
   abbrev go_all : List Watched → List Watched
   go_all ws = goes_from scope.Recording number asset p (last ws) ws
 
-  behind_to : (w : Watched) (ws : List Watched) (i : ℕ) (o : Option Watched) → goes_to number asset (suc i) p o (w ∷ ws) ≡ w ∷ goes_to number asset i p o ws
+  behind_to : (w : Watched) (ws : List Watched) (i : ℕ) (o : Option Watched) → goes_in scope.Recording number asset (suc i) p o (w ∷ ws) ≡ w ∷ goes_in scope.Recording number asset i p o ws
   behind_to w ws i None = refl
-  behind_to w ws i (Some f) = if_behind (begins_anew p f) w (ws ++ new ∷ []) (set ws i (with_packet number p f))
+  behind_to w ws i (Some f) = if_behind (begins_anew p f) w (ws ++ new ∷ []) (set ws i (with_packet_by scope.Recording number p f))
 
   later : (w : Watched) (ws : List Watched) (o : Option ℕ) → last ws ≡ o → last (w ∷ ws) ≡ later_place o (Mine w)
   later w ws o h = ap (λ q. later_place q (Mine w)) h
 
   -- a flow before the one that a packet is of stays as it is
   go_some : (w : Watched) (ws : List Watched) (i : ℕ) → last ws ≡ Some i → go (w ∷ ws) ≡ w ∷ go ws
-  go_some w ws i h = ap (λ o. goes_at number asset p o (w ∷ ws)) (later w ws (Some i) h) ∙ behind_to w ws i (slice_get ws i) ∙ sym (ap (λ o. w ∷ goes_at number asset p o ws) h)
+  go_some w ws i h = ap (λ o. go_at o (w ∷ ws)) (later w ws (Some i) h) ∙ behind_to w ws i (slice_get ws i) ∙ sym (ap (λ o. w ∷ go_at o ws) h)
 
   all_some : (w : Watched) (ws : List Watched) (i : ℕ) → last ws ≡ Some i → go_all (w ∷ ws) ≡ w ∷ go_all ws
   all_some w ws i h =
@@ -130,7 +140,7 @@ module _ (number asset : ℕ) (p : PacketValue) where
 
   go_none : (w : Watched) (ws : List Watched) → last ws ≡ None → Mine w ≡ false → go (w ∷ ws) ≡ w ∷ go ws
   go_none w ws h m =
-      ap (λ o. goes_at number asset p o (w ∷ ws)) (none_later w ws h m) ∙ if_behind (is_opening p) w (ws ++ new ∷ []) ws ∙ sym (ap (λ o. w ∷ goes_at number asset p o ws) h)
+      ap (λ o. go_at o (w ∷ ws)) (none_later w ws h m) ∙ if_behind (is_opening p) w (ws ++ new ∷ []) ws ∙ sym (ap (λ o. w ∷ go_at o ws) h)
 
   all_none : (w : Watched) (ws : List Watched) → last ws ≡ None → Mine w ≡ false → go_all (w ∷ ws) ≡ w ∷ go_all ws
   all_none w ws h m =
@@ -196,27 +206,27 @@ module _ (number asset : ℕ) (p : PacketValue) where
   mine_here : (w : Watched) (ws : List Watched) (s : Bool) → begins_with_syn w ≡ s → Mine w ≡ true → last ws ≡ None → (begins_with_syn w ≡ false → w.answered ≡ true) →
       syn_flows (go_all (w ∷ ws)) ≡ go (syn_flows (w ∷ ws))
   mine_here w ws true s m h answered =
-      let here : go_all (w ∷ ws) ≡ (if begins_anew p w then w ∷ (ws ++ new ∷ []) else with_packet number p w ∷ ws) =
+      let here : go_all (w ∷ ws) ≡ (if begins_anew p w then w ∷ (ws ++ new ∷ []) else with_packet_by scope.Recording number p w ∷ ws) =
       ap (λ o. goes_from scope.Recording number asset p o (w ∷ ws)) (zero_later w ws h m) in
-      let there : go (w ∷ syn_flows ws) ≡ (if begins_anew p w then w ∷ (syn_flows ws ++ new ∷ []) else with_packet number p w ∷ syn_flows ws) =
-      ap (λ o. goes_at number asset p o (w ∷ syn_flows ws)) (zero_later w (syn_flows ws) (none_stays ws h) m) in
+      let there : go (w ∷ syn_flows ws) ≡ (if begins_anew p w then w ∷ (syn_flows ws ++ new ∷ []) else with_packet_by scope.Recording number p w ∷ syn_flows ws) =
+      ap (λ o. go_at o (w ∷ syn_flows ws)) (zero_later w (syn_flows ws) (none_stays ws h) m) in
       let one : syn_flows (w ∷ (ws ++ new ∷ [])) ≡ w ∷ (syn_flows ws ++ new ∷ []) =
       kept (begins_with_syn w) w (syn_flows (ws ++ new ∷ [])) s ∙ ap (λ xs. w ∷ xs) (filter-append begins_with_syn ws (new ∷ [])) in
-      let two : syn_flows (with_packet number p w ∷ ws) ≡ with_packet number p w ∷ syn_flows ws = kept (begins_with_syn w) (with_packet number p w) (syn_flows ws) s in
-      ap syn_flows here ∙ kept_if (begins_anew p w) (w ∷ (ws ++ new ∷ [])) (with_packet number p w ∷ ws)
-      ∙ ap (λ xs. if begins_anew p w then xs else syn_flows (with_packet number p w ∷ ws)) one
+      let two : syn_flows (with_packet_by scope.Recording number p w ∷ ws) ≡ with_packet_by scope.Recording number p w ∷ syn_flows ws = kept (begins_with_syn w) (with_packet_by scope.Recording number p w) (syn_flows ws) s in
+      ap syn_flows here ∙ kept_if (begins_anew p w) (w ∷ (ws ++ new ∷ [])) (with_packet_by scope.Recording number p w ∷ ws)
+      ∙ ap (λ xs. if begins_anew p w then xs else syn_flows (with_packet_by scope.Recording number p w ∷ ws)) one
       ∙ ap (λ xs. if begins_anew p w then w ∷ (syn_flows ws ++ new ∷ []) else xs) two
       ∙ sym there ∙ ap go (sym (kept (begins_with_syn w) w (syn_flows ws) s))
   mine_here w ws false s m h answered =
-      let here : go_all (w ∷ ws) ≡ (if begins_anew p w then w ∷ (ws ++ new ∷ []) else with_packet number p w ∷ ws) =
+      let here : go_all (w ∷ ws) ≡ (if begins_anew p w then w ∷ (ws ++ new ∷ []) else with_packet_by scope.Recording number p w ∷ ws) =
       ap (λ o. goes_from scope.Recording number asset p o (w ∷ ws)) (zero_later w ws h m) in
       let there : go (syn_flows ws) ≡ (if is_opening p then syn_flows ws ++ new ∷ [] else syn_flows ws) =
-      ap (λ o. goes_at number asset p o (syn_flows ws)) (none_stays ws h) in
+      ap (λ o. go_at o (syn_flows ws)) (none_stays ws h) in
       let one : syn_flows (w ∷ (ws ++ new ∷ [])) ≡ syn_flows ws ++ new ∷ [] = dropped (begins_with_syn w) w (syn_flows (ws ++ new ∷ [])) s ∙ filter-append begins_with_syn ws (new ∷ []) in
-      let two : syn_flows (with_packet number p w ∷ ws) ≡ syn_flows ws = dropped (begins_with_syn w) (with_packet number p w) (syn_flows ws) s in
+      let two : syn_flows (with_packet_by scope.Recording number p w ∷ ws) ≡ syn_flows ws = dropped (begins_with_syn w) (with_packet_by scope.Recording number p w) (syn_flows ws) s in
       let anew : begins_anew p w ≡ is_opening p = always_anew (is_opening p) (p.seq == w.origin) w.answered (answered s) in
-      ap syn_flows here ∙ kept_if (begins_anew p w) (w ∷ (ws ++ new ∷ [])) (with_packet number p w ∷ ws)
-      ∙ ap (λ xs. if begins_anew p w then xs else syn_flows (with_packet number p w ∷ ws)) one
+      ap syn_flows here ∙ kept_if (begins_anew p w) (w ∷ (ws ++ new ∷ [])) (with_packet_by scope.Recording number p w ∷ ws)
+      ∙ ap (λ xs. if begins_anew p w then xs else syn_flows (with_packet_by scope.Recording number p w ∷ ws)) one
       ∙ ap (λ xs. if begins_anew p w then syn_flows ws ++ new ∷ [] else xs) two
       ∙ ap (λ b. if b then syn_flows ws ++ new ∷ [] else syn_flows ws) anew
       ∙ sym there ∙ ap go (sym (dropped (begins_with_syn w) w (syn_flows ws) s))
@@ -265,40 +275,100 @@ module _ (number asset : ℕ) (p : PacketValue) where
   with_new : (ws : List Watched) → AreFirst ws → AreFirst (ws ++ new ∷ [])
   with_new ws f = first_append ws new f (λ s. absurd (false≢true (sym s))) (all_new ws)
 
-  first_to : (i : ℕ) (o : Option Watched) (ws : List Watched) → slice_get ws i ≡ o → AreFirst ws → AreFirst (goes_to number asset i p o ws)
+  first_to : (i : ℕ) (o : Option Watched) (ws : List Watched) → slice_get ws i ≡ o → AreFirst ws → AreFirst (goes_in scope.Recording number asset i p o ws)
   first_to i None ws e f = f
-  first_to i (Some x) ws e f = cond_both (begins_anew p x) (ws ++ new ∷ []) (set ws i (with_packet number p x)) AreFirst (λ _. with_new ws f) (λ _. first_set number p ws i x e f)
+  first_to i (Some x) ws e f = cond_both (begins_anew p x) (ws ++ new ∷ []) (set ws i (with_packet_by scope.Recording number p x)) AreFirst (λ _. with_new ws f) (λ _. first_set number p ws i x e f)
 
   first_from : (o : Option ℕ) (ws : List Watched) → last ws ≡ o → AreFirst ws → AreFirst (goes_from scope.Recording number asset p o ws)
   first_from None ws e f =
-      cond_both (begins_amid scope.Recording p) (ws ++ amid ∷ []) (goes_at number asset p None ws) AreFirst
+      cond_both (begins_amid scope.Recording p) (ws ++ amid ∷ []) (go_at None ws) AreFirst
       (λ _. first_append ws amid f (λ s. refl) (all_apart ws (none_mine ws e)))
       (λ _. cond_both (is_opening p) (ws ++ new ∷ []) ws AreFirst (λ _. with_new ws f) (λ _. f))
   first_from (Some i) ws e f = first_to i (slice_get ws i) ws refl f
 
+-- ---- where no packet begins far below the newest position, all of its letters are read
+
+abbrev AllNear : List Watched → Type 0
+AllNear ws = AllByRecursion (λ w. IsNear w.carried) ws
+
+none_far : (top : ℕ) (c : Carried) → far top c.at ≡ 0 → near scope.Recording top c ≡ c
+none_far top c e =
+    ap (λ n. without_first n c) e ∙ ap (λ at. record c { at = at; text = record c.text { ended = c.text.ended && nat_le 0 (length c.text.bytes) } }) (+ℤ_idr c.at)
+    ∙ ap (λ b. record c { text = record c.text { ended = c.text.ended && b } }) (leb-zero (length c.text.bytes)) ∙ ap (λ b. record c { text = record c.text { ended = b } }) (and-true c.text.ended)
+
+both_if : (b : Bool) (xs ys us vs : List Watched) → AllNear (if b then us else vs) → (AllNear us → xs ≡ us) → (AllNear vs → ys ≡ vs) → (if b then xs else ys) ≡ (if b then us else vs)
+both_if true xs ys us vs h f g = f h
+both_if false xs ys us vs h f g = g h
+
+near_if : (b : Bool) (us vs ws : List Watched) → AllNear (if b then us else vs) → (AllNear us → AllNear ws) → (AllNear vs → AllNear ws) → AllNear ws
+near_if true us vs ws h f g = f h
+near_if false us vs ws h f g = g h
+
+module _ (number : ℕ) (p : PacketValue) where
+  same_on : (w : Watched) → IsNear (with_packet number p w).carried → with_packet_by scope.Recording number p w ≡ with_packet number p w
+  same_on w h = ap (λ c. record (with_packet number p w) { carried = c ∷ w.carried }) (none_far (top_of w.carried) (carried_by number w.origin (top_of w.carried) p) h.0)
+
+  module _ (asset : ℕ) where
+    same_new : (ws : List Watched) → AllNear (ws ++ begun_by number asset p ∷ []) → ws ++ new number asset p ∷ [] ≡ ws ++ begun_by number asset p ∷ []
+    same_new ws h =
+        let begun : Watched = record { client = p.source; asset = asset; origin = p.seq; answered = false; midstream = None; carried = [] } in
+        ap (λ w. ws ++ w ∷ []) (same_on begun (all_behind (λ w. IsNear w.carried) ws (begun_by number asset p ∷ []) h).0)
+
+    same_to : (i : ℕ) (o : Option Watched) (ws : List Watched) → slice_get ws i ≡ o → AllNear (goes_to number asset i p o ws) →
+        goes_in scope.Recording number asset i p o ws ≡ goes_to number asset i p o ws
+    same_to i None ws e h = refl
+    same_to i (Some w) ws e h =
+        both_if (begins_anew p w) (ws ++ new number asset p ∷ []) (set ws i (with_packet_by scope.Recording number p w)) (ws ++ begun_by number asset p ∷ []) (set ws i (with_packet number p w)) h
+        (same_new ws) (λ a. ap (set ws i) (same_on w (all_here (λ v. IsNear v.carried) ws i (with_packet number p w) w a e)))
+
+    same_at : (o : Option ℕ) (ws : List Watched) → AllNear (goes_at number asset p o ws) → go_at number asset p o ws ≡ goes_at number asset p o ws
+    same_at None ws h = both_if (is_opening p) (ws ++ new number asset p ∷ []) ws (ws ++ begun_by number asset p ∷ []) ws h (same_new ws) (λ _. refl)
+    same_at (Some i) ws h = same_to i (slice_get ws i) ws refl h
+
+    -- and no packet did before
+    near_to : (i : ℕ) (o : Option Watched) (ws : List Watched) → slice_get ws i ≡ o → AllNear (goes_to number asset i p o ws) → AllNear ws
+    near_to i None ws e h = h
+    near_to i (Some w) ws e h =
+        near_if (begins_anew p w) (ws ++ begun_by number asset p ∷ []) (set ws i (with_packet number p w)) ws h
+        (all_front (λ v. IsNear v.carried) ws (begun_by number asset p ∷ [])) (λ a. all_before (λ v. IsNear v.carried) ws i (with_packet number p w) w a e (λ n. n.1))
+
+    near_at : (o : Option ℕ) (ws : List Watched) → AllNear (goes_at number asset p o ws) → AllNear ws
+    near_at None ws h = near_if (is_opening p) (ws ++ begun_by number asset p ∷ []) ws ws h (all_front (λ v. IsNear v.carried) ws (begun_by number asset p ∷ [])) (λ a. a)
+    near_at (Some i) ws h = near_to i (slice_get ws i) ws refl h
+
+near_goes : (number : ℕ) (p : PacketValue) (o : Option ℕ) (ws : List Watched) → AllNear (goes number p o ws) → AllNear ws
+near_goes number p None ws h = h
+near_goes number p (Some asset) ws h = near_at number p asset (last_place p.source asset ws) ws h
+
+near_record : (assets : List Asset) (number : ℕ) (r : Result PacketValue PacketRefusal) (ws : List Watched) → AllNear (with_record assets number r ws) → AllNear ws
+near_record assets number (Err refusal) ws h = h
+near_record assets number (Ok p) ws h = near_goes number p (asset_place assets p.dest) ws h
+
 -- ---- record by record
 
-alike_goes : (number : ℕ) (p : PacketValue) (o : Option ℕ) (ws : List Watched) → AreFirst ws →
+alike_goes : (number : ℕ) (p : PacketValue) (o : Option ℕ) (ws : List Watched) → AreFirst ws → AllNear (goes number p o (syn_flows ws)) →
     AreFirst (goes_to_asset scope.Recording number p o ws) × (syn_flows (goes_to_asset scope.Recording number p o ws) ≡ goes number p o (syn_flows ws))
-alike_goes number p None ws f = (f, refl)
-alike_goes number p (Some asset) ws f = (first_from number asset p (last_place p.source asset ws) ws refl f, commutes number asset p ws f)
+alike_goes number p None ws f h = (f, refl)
+alike_goes number p (Some asset) ws f h = (
+  first_from number asset p (last_place p.source asset ws) ws refl f,
+  commutes number asset p ws f ∙ same_at number p asset (last_place p.source asset (syn_flows ws)) (syn_flows ws) h,
+)
 
-alike_record : (assets : List Asset) (number : ℕ) (r : Result PacketValue PacketRefusal) (ws : List Watched) → AreFirst ws →
+alike_record : (assets : List Asset) (number : ℕ) (r : Result PacketValue PacketRefusal) (ws : List Watched) → AreFirst ws → AllNear (with_record assets number r (syn_flows ws)) →
     AreFirst (with_frame scope.Recording assets number r ws) × (syn_flows (with_frame scope.Recording assets number r ws) ≡ with_record assets number r (syn_flows ws))
-alike_record assets number (Err refusal) ws f = (f, refl)
-alike_record assets number (Ok p) ws f = alike_goes number p (asset_place assets p.dest) ws f
+alike_record assets number (Err refusal) ws f h = (f, refl)
+alike_record assets number (Ok p) ws f h = alike_goes number p (asset_place assets p.dest) ws f h
 
-alike : (assets : List Asset) (newest : List Record) → AllByRecursion IsReadAlike newest →
+alike : (assets : List Asset) (newest : List Record) → AllByRecursion IsReadAlike newest → AllNear (watched assets newest) →
     AreFirst (seen_by scope.Recording assets newest) × (syn_flows (seen_by scope.Recording assets newest) ≡ watched assets newest)
-alike assets [] none = (tt, refl)
-alike assets (r ∷ earlier) none =
-    let before = alike assets earlier none.1 in
+alike assets [] none near = (tt, refl)
+alike assets (r ∷ earlier) none near =
     let number = length earlier + 1 in
-    let one = alike_record assets number (packet_by scope.Recording r.link r.body) (seen_by scope.Recording assets earlier) before.0 in (
-      one.0,
-      one.1 ∙ ap (λ packet. with_record assets number packet (syn_flows (seen_by scope.Recording assets earlier))) none.0
-          ∙ ap (with_record assets number (read_record r.link r.body)) before.1,
-    )
+    let before = alike assets earlier none.1 (near_record assets number (read_record r.link r.body) (watched assets earlier) near) in
+    let same : with_record assets number (packet_by scope.Recording r.link r.body) (syn_flows (seen_by scope.Recording assets earlier)) ≡ watched assets (r ∷ earlier) =
+    ap (λ packet. with_record assets number packet (syn_flows (seen_by scope.Recording assets earlier))) none.0 ∙ ap (with_record assets number (read_record r.link r.body)) before.1 in
+    let one = alike_record assets number (packet_by scope.Recording r.link r.body) (seen_by scope.Recording assets earlier) before.0 (subst AllNear (sym same) near) in
+    (one.0, one.1 ∙ same)
 
 pub are_watched : SynFlowsAreWatched
-are_watched assets newest none = (alike assets newest none).1
+are_watched assets newest none near = (alike assets newest none near).1

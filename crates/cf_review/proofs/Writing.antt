@@ -6,7 +6,7 @@ use Rattle.std.proofs.lemmas.Bool.{cases_lt}
 use Rattle.std.proofs.Math.Seq.{take-append-add}
 use Rattle.cf_outside.proofs.Content.{with_appended-twice}
 use Rattle.cf_outside.specs.Files.{Content, with_appended}
-use Rattle.cf_review.specs.Lines.{MovesOn, remark_line, review_text}
+use Rattle.cf_review.specs.Lines.{MovesOn, lines_by, remark_line}
 use Rattle.cf_review.specs.Remark.{remark_value}
 use Rattle.cf_review.specs.declared.remark.Remark.{Remark}
 use Rattle.cf_policy.specs.declared.Asset.{Asset}
@@ -19,22 +19,22 @@ take_front k xs more =
       | inr below ↦ (k, sym (take-append-le k xs more below))
     ]
 
-module _ (assets : List Asset) (stamps : List ℕ) where
+module _ (assets : List Asset) (moment_of : ℕ → ℕ) where
   -- the text of the remarks up to a place and that of those after it
   pub text_split : (remarks : List Remark) (i : ℕ) →
-      review_text assets stamps (map remark_value remarks)
-      ≡ review_text assets stamps (map remark_value (take i remarks)) ++ review_text assets stamps (map remark_value (drop i remarks))
+      lines_by assets moment_of (map remark_value remarks)
+      ≡ lines_by assets moment_of (map remark_value (take i remarks)) ++ lines_by assets moment_of (map remark_value (drop i remarks))
   text_split remarks i =
-      ap (λ rs. review_text assets stamps (map remark_value rs)) (sym (take-append-drop i remarks))
-      ∙ ap (review_text assets stamps) (map-append remark_value (take i remarks) (drop i remarks))
-      ∙ flat_map-append (remark_line assets stamps) (map remark_value (take i remarks)) (map remark_value (drop i remarks))
+      ap (λ rs. lines_by assets moment_of (map remark_value rs)) (sym (take-append-drop i remarks))
+      ∙ ap (lines_by assets moment_of) (map-append remark_value (take i remarks) (drop i remarks))
+      ∙ flat_map-append (remark_line assets moment_of) (map remark_value (take i remarks)) (map remark_value (drop i remarks))
 
   pub text_more : (remarks : List Remark) (i : ℕ) (r : Remark) → i < length remarks → get_or remarks i r ≡ r →
-      review_text assets stamps (map remark_value (take (i + 1) remarks)) ≡ review_text assets stamps (map remark_value (take i remarks)) ++ remark_line assets stamps (remark_value r)
+      lines_by assets moment_of (map remark_value (take (i + 1) remarks)) ≡ lines_by assets moment_of (map remark_value (take i remarks)) ++ remark_line assets moment_of (remark_value r)
   text_more remarks i r inside is =
-      ap (review_text assets stamps) (map_more remark_value remarks i r inside ∙ ap (λ x. map remark_value (take i remarks) ++ remark_value x ∷ []) is)
-      ∙ flat_map-append (remark_line assets stamps) (map remark_value (take i remarks)) (remark_value r ∷ [])
-      ∙ ap (λ t. review_text assets stamps (map remark_value (take i remarks)) ++ t) (append-nil (remark_line assets stamps (remark_value r)))
+      ap (lines_by assets moment_of) (map_more remark_value remarks i r inside ∙ ap (λ x. map remark_value (take i remarks) ++ remark_value x ∷ []) is)
+      ∙ flat_map-append (remark_line assets moment_of) (map remark_value (take i remarks)) (remark_value r ∷ [])
+      ∙ ap (λ t. lines_by assets moment_of (map remark_value (take i remarks)) ++ t) (append-nil (remark_line assets moment_of (remark_value r)))
 
 -- what was moved before and now, and what is left, are the text so far
 pub moved_on : (front piece line left before now : List ℕ) (c d e : Content) → front ++ piece ≡ before → d ≡ with_appended c front → before ++ line ≡ now → MovesOn (piece ++ line) left d e →

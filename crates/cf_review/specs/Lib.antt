@@ -1,8 +1,11 @@
 pub mod Counted
 pub mod First
 pub mod FirstUnit
+pub mod Follow
 pub mod Fronts
 pub mod Lines
 pub mod Remark
 pub mod Review
+pub mod Reviewer
+pub mod Stamps
 pub mod SynFlows

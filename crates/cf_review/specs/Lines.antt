@@ -31,17 +31,21 @@ abbrev pub stamp_of : (stamps : List ℕ) → (record_number : ℕ) → ℕ
 stamp_of stamps number = get_or stamps (number - 1) 0
 
 -- the line of a remark, where its asset is known
-abbrev pub line_by : Option Asset → (stamps : List ℕ) → RemarkValue → List ℕ
-line_by None stamps r = []
-line_by (Some asset) stamps r = matter_line asset r.client (stamp_of stamps r.at_record) r.what
+abbrev pub line_by : Option Asset → (moment : ℕ) → RemarkValue → List ℕ
+line_by None moment r = []
+line_by (Some asset) moment r = matter_line asset r.client moment r.what
 
--- the line of a remark: the moment of its record, its client, its asset, and what is objected to
-abbrev pub remark_line : List Asset → (stamps : List ℕ) → RemarkValue → List ℕ
-remark_line assets stamps r = line_by (slice_get assets r.asset) stamps r
+-- the line of a remark, whose record has this moment by its number: the moment, its client, its asset, and what is objected to
+abbrev pub remark_line : List Asset → (moment_of : ℕ → ℕ) → RemarkValue → List ℕ
+remark_line assets moment_of r = line_by (slice_get assets r.asset) (moment_of r.at_record) r
 
 -- the lines of remarks, in their order
+abbrev pub lines_by : List Asset → (moment_of : ℕ → ℕ) → List RemarkValue → List ℕ
+lines_by assets moment_of remarks = flat_map (remark_line assets moment_of) remarks
+
+-- by the stamps of all records
 abbrev pub review_text : List Asset → (stamps : List ℕ) → List RemarkValue → List ℕ
-review_text assets stamps remarks = flat_map (remark_line assets stamps) remarks
+review_text assets stamps remarks = lines_by assets (stamp_of stamps) remarks
 
 -- a file to whose end the first of the bytes that wait were moved, and the bytes that are left
 pub record MovesOn (waiting left : List ℕ) (old new : Content) : Type 0 where

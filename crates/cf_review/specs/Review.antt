@@ -1,7 +1,7 @@
 -- All that is objected to in flows, in the order of the records: IsReviewOf. In one record it comes first that a flow begins amid its
 -- stream, then a conflict, then the items of the flow, in the order of the bytes; and flows come in their order. Behind all flows come their
 -- other stretches, of each first the gap.
-use Rattle.std.specs.Prelude.{◌≡◌, ◌==◌, ◌+◌, ℕ, ℤ, Bool, List, [], ◌∷◌, ◌++◌, length, map, take, Option, Some, None}
+use Rattle.std.specs.Prelude.{◌≡◌, ◌==◌, ◌+◌, ◌-◌, ◌^◌, ℕ, ℤ, Bool, List, [], ◌∷◌, ◌++◌, length, map, min, take, Option, Some, None}
 use Rattle.std.specs.List.{filter, flat_map}
 use Rattle.std.specs.List.Sorted.{IsNonDecreasingBy}
 use Rattle.cf_lane.specs.Item.{Broke, Ended, Item, Took}
@@ -69,12 +69,13 @@ abbrev pub flow_remarks : SiteValue → FlowValue → List Judged → Ending →
 flow_remarks site f js ending =
     midstream_remarks f f.midstream ++ (conflict_remarks f f.conflict ++ (in_turn (unit_remarks site f) [] js ++ end_remarks f ending))
 
--- the bytes of a flow are some units and an ending, and these are the remarks after others on these, with so many commands allowed
+-- the bytes of a flow are some units and an ending, and these are the remarks after others on these, with so many commands allowed, up
+-- to 2^64 - 1
 pub record AddsUnits (site : SiteValue) (f : FlowValue) (old new : List RemarkValue) (admitted : ℕ) : Type 0 where
   pub judged : List Judged
   pub ending : Ending
   pub are_read : AreRead site f.client.address [] f.bytes f.born judged ending
-  pub admitted_is : admitted ≡ admitted_in judged
+  pub admitted_is : admitted ≡ min (admitted_in judged) (2 ^ 64 - 1)
   pub remarks : new ≡ old ++ (in_turn (unit_remarks site f) [] judged ++ end_remarks f ending)
 
 -- the part of a flow that is read is some units and an ending, and these are the remarks after others on it, with so many commands allowed
@@ -84,7 +85,7 @@ pub record AddsReview (site : SiteValue) (f : FlowValue) (old new : List RemarkV
   pub judged : List Judged
   pub ending : Ending
   pub are_read : AreRead site read.client.address [] read.bytes read.born judged ending
-  pub admitted_is : admitted ≡ admitted_in judged
+  pub admitted_is : admitted ≡ min (admitted_in judged) (2 ^ 64 - 1)
   pub remarks : new ≡ old ++ flow_remarks site read judged ending
 
 -- the remarks on a flow to the site at its place
@@ -143,7 +144,7 @@ pub record AddsStretch (site : SiteValue) (s : StretchValue) (old new : List Rem
   pub is_part : IsReadPart site.first.protocol s.flow behind.reading.flow
   pub are_read : AreRead site behind.reading.flow.client.address [] behind.reading.flow.bytes behind.reading.flow.born behind.reading.judged
       behind.reading.ending
-  pub admitted_is : admitted ≡ admitted_in behind.reading.judged
+  pub admitted_is : admitted ≡ min (admitted_in behind.reading.judged) (2 ^ 64 - 1)
   pub remarks : new ≡ old ++ stretch_remarks site behind
 
 -- the stretches can be read so, and these are the remarks after others on them, and the commands that are allowed, those of before included

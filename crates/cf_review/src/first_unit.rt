@@ -40,7 +40,7 @@ fn first_unit(protocol: &Protocol, bytes: &[u8]) -> usize
 }
 
 /// Whether a unit of a protocol begins octets.
-fn unit_begins(protocol: &Protocol, bytes: View<'_>) -> bool
+pub(crate) fn unit_begins(protocol: &Protocol, bytes: View<'_>) -> bool
     ensures unit { result ≡ true → UnitBegins protocol.now bytes.entry.bytes }
     ensures none { result ≡ false → UnitBegins protocol.now bytes.entry.bytes → ⊥ }
 {

@@ -1,9 +1,11 @@
 //! What a review tells of flows.
+ghost use Rattle.std.specs.Prelude.{◌≡◌};
+ghost use Rattle.cf_review.specs.Remark.{matter_value, remark_value};
 
 use arrayvec::ArrayVec;
 use cf_audit::Why;
 use cf_lane::Refusal;
-use cf_view::{Break, Endpoint};
+use cf_view::{Break, Endpoint, push_bytes};
 
 /// How many octets of a refused command are told at most. This project's own.
 pub const SHOWN: usize = 16;
@@ -39,4 +41,41 @@ pub struct Remark {
     /// The place in the policy, counted from 0, of the asset that it is about: that of a unit, or else the first of the flow's site.
     pub asset: u32,
     pub what: Matter,
+}
+
+impl Remark {
+    /// The same.
+    pub(crate) fn copy(&self) -> Remark
+        ensures { remark_value result ≡ remark_value self.now }
+    {
+        Remark {
+            at_record: self.at_record,
+            client: self.client,
+            asset: self.asset,
+            what: self.what.copy(),
+        }
+    }
+}
+
+impl Matter {
+    /// The same.
+    fn copy(&self) -> Matter
+        ensures { matter_value result ≡ matter_value self.now }
+    {
+        match self {
+            Matter::Refused { refusal, octets } => {
+                let mut same = ArrayVec::<u8, SHOWN>::new();
+                push_bytes(&mut same, octets.as_slice());
+                Matter::Refused {
+                    refusal: *refusal,
+                    octets: same,
+                }
+            }
+            Matter::Stray(why) => Matter::Stray(*why),
+            Matter::Broken(reason) => Matter::Broken(*reason),
+            Matter::Conflict(position) => Matter::Conflict(*position),
+            Matter::Midstream => Matter::Midstream,
+            Matter::Gap(position) => Matter::Gap(*position),
+        }
+    }
 }

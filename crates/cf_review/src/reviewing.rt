@@ -1,5 +1,5 @@
 //! All that a policy objects to in watched flows.
-ghost use Rattle.std.specs.Prelude.{◌≡◌, ◌+◌, ◌^◌, ◌<◌, ◌≤◌, ◌++◌, ◌∷◌, [], ℕ, List, IfOk, OnOk, All, drop, length, map, slice_range, take};
+ghost use Rattle.std.specs.Prelude.{◌≡◌, Bool, ◌+◌, ◌^◌, ◌<◌, ◌≤◌, ◌++◌, ◌∷◌, [], ◌-◌, ℕ, List, IfOk, Ok, OnOk, All, true, false, drop, length, map, slice_range, take};
 ghost use Rattle.cf_lane.specs.Judged.{Judged as JudgedItem, is_admitted, one_if};
 ghost use Rattle.cf_lane.specs.Unit.{SpellsUnit, UnitValue};
 ghost use Rattle.cf_lane.specs.declared.fate.Fate.{Fate};
@@ -10,11 +10,12 @@ ghost use Rattle.cf_judge.specs.Ruling.{ruling_of};
 ghost use Rattle.cf_lane.specs.Site.{place_for};
 ghost use Rattle.cf_policy.specs.Site.{IsSiteWithin, assets_of};
 ghost use Rattle.cf_policy.specs.Within.{AreAssetsWithin};
-ghost use Rattle.cf_watch.specs.FlowValue.{AreStretchesFor, IsForAsset, flow_value, stretch_value};
-ghost use Rattle.cf_review.specs.Remark.{matter_value, remark_value};
+ghost use Rattle.cf_watch.specs.FlowValue.{AreStretchesFor, FlowValue, flow_value, stretch_value};
+ghost use Rattle.cf_review.specs.Remark.{RemarkValue, matter_value, remark_value};
 ghost use Rattle.cf_review.specs.declared.remark.TheConstants.{SHOWN};
 ghost use Rattle.cf_review.specs.FirstUnit.{from_place};
-ghost use Rattle.cf_review.specs.Review.{AddsReview, AddsStretch, AddsStretches, AddsUnits, AreReviewed, IsReviewOf, conflict_remarks, gap_remarks};
+ghost use Rattle.cf_review.specs.Follow.{AddsOf, AreToldOf, HasBroken, IsPartOf, IsToldOf, SoFar, Waits};
+ghost use Rattle.cf_review.specs.Review.{AddsStretch, AddsStretches, AddsUnits, conflict_remarks, gap_remarks};
 ghost use Rattle.cf_review.specs.Review.{midstream_remarks, remark_on, unit_remarks_by};
 ghost use Rattle.cf_view.specs.declared.Side.TheVariants as side;
 
@@ -37,57 +38,8 @@ pub struct Reviewed {
     pub remarks: Vec<Remark>,
 }
 
-/// Judges flows, each of which is to a site of the policy, and keeps all that the policy objects to. A flow that begins amid its stream
-/// is told, and read from its first unit on. So is each other stretch of a flow, the first of which tells the gap. Rates and the numbers of
-/// IEC 60870-5-104 are not judged. The flows and the stretches are those of a whole capture.
-pub fn review(
-    alloc: Global,
-    policy: &Policy,
-    flows: &[Flow],
-    stretches: &[Stretch],
-) -> Result<Reviewed, NoMemory>
-    requires within { AreAssetsWithin policy.now.assets }
-    requires flows { All (IsForAsset policy.now.assets) (map flow_value flows.now) }
-    requires stretches { AreStretchesFor policy.now.assets (map stretch_value stretches.now) }
-    ensures reviewed { IfOk result (λ r. IsReviewOf policy.now.assets (map flow_value flows.now) (map stretch_value stretches.now) r) }
-{
-    let mut remarks = Vec::new(alloc);
-    let of_flows = review_flows(alloc, policy, flows, &mut remarks)?;
-    let admitted = review_stretches(alloc, policy, stretches, of_flows, &mut remarks)?;
-    if remarks.sort_by_key(|remark| remark.at_record).is_err() {
-        return Err(NoMemory);
-    }
-    Ok(Reviewed {
-        flows: flows.len() as u64,
-        admitted,
-        remarks,
-    })
-}
-
-/// Adds the remarks on flows where none are yet, and answers how many of their commands are allowed.
-fn review_flows(
-    alloc: Global,
-    policy: &Policy,
-    flows: &[Flow],
-    remarks: &mut Vec<Remark>,
-) -> Result<u64, NoMemory>
-    requires within { AreAssetsWithin policy.now.assets }
-    requires flows { All (IsForAsset policy.now.assets) (map flow_value flows.now) }
-    requires none { remarks.old.items ≡ [] }
-    ensures { IfOk result (λ admitted. AreReviewed policy.now.assets (map flow_value flows.now) admitted (map remark_value remarks.new.items)) }
-{
-    let assets = policy.assets.as_slice();
-    let mut admitted: u64 = 0;
-    for flow in flows {
-        let site = site_at_place(assets, flow.asset as usize);
-        let more = review_flow(alloc, &site, flow, remarks)?;
-        admitted = admitted.saturating_add(more);
-    }
-    Ok(admitted)
-}
-
 /// Adds the remarks on the other stretches of flows, and answers how many commands are allowed, with those of before.
-fn review_stretches(
+pub(crate) fn review_stretches(
     alloc: Global,
     policy: &Policy,
     stretches: &[Stretch],
@@ -96,8 +48,10 @@ fn review_stretches(
 ) -> Result<u64, NoMemory>
     requires within { AreAssetsWithin policy.now.assets }
     requires stretches { AreStretchesFor policy.now.assets (map stretch_value stretches.now) }
-    ensures { IfOk result (λ admitted. AddsStretches policy.now.assets (map stretch_value stretches.now) before
+    ensures adds { IfOk result (λ admitted. AddsStretches policy.now.assets (map stretch_value stretches.now) before
         (map remark_value remarks.old.items) (map remark_value remarks.new.items) admitted) }
+    ensures told { OnOk result ((known : ℕ → Bool) → AreToldOf known (map stretch_value stretches.now)
+        → All (λ r. known r.at_record ≡ true) (map remark_value remarks.old.items) → All (λ r. known r.at_record ≡ true) (map remark_value remarks.new.items)) }
 {
     let assets = policy.assets.as_slice();
     let mut admitted = before;
@@ -119,35 +73,18 @@ fn review_stretch(
     requires within { IsSiteWithin site.now }
     requires places { stretch.now.flow.asset + length (assets_of site.now) < 2 ^ 32 }
     requires born { length stretch.now.flow.born ≡ length stretch.now.flow.bytes.items }
-    ensures { IfOk result (λ admitted. AddsStretch site.now (stretch_value stretch.now) (map remark_value remarks.old.items)
+    ensures adds { IfOk result (λ admitted. AddsStretch site.now (stretch_value stretch.now) (map remark_value remarks.old.items)
         (map remark_value remarks.new.items) admitted) }
+    ensures told { OnOk result ((known : ℕ → Bool) → IsToldOf known (stretch_value stretch.now)
+        → All (λ r. known r.at_record ≡ true) (map remark_value remarks.old.items) → All (λ r. known r.at_record ≡ true) (map remark_value remarks.new.items)) }
 {
     add_gap(stretch, remarks)?;
     let start = first_place(&site.first().protocol, &stretch.flow);
     review_units(alloc, site, &stretch.flow, start, remarks)
 }
 
-/// Adds the remarks on a flow to a site, and answers how many of its commands are allowed.
-fn review_flow(
-    alloc: Global,
-    site: &Site<'_>,
-    flow: &Flow,
-    remarks: &mut Vec<Remark>,
-) -> Result<u64, NoMemory>
-    requires within { IsSiteWithin site.now }
-    requires places { flow.now.asset + length (assets_of site.now) < 2 ^ 32 }
-    requires born { length flow.now.born ≡ length flow.now.bytes.items }
-    ensures { IfOk result (λ admitted. AddsReview site.now (flow_value flow.now) (map remark_value remarks.old.items)
-        (map remark_value remarks.new.items) admitted) }
-{
-    add_midstream(flow, remarks)?;
-    add_conflict(flow, remarks)?;
-    let start = first_place(&site.first().protocol, flow);
-    review_units(alloc, site, flow, start, remarks)
-}
-
 /// Adds the remarks on the bytes of a flow from a place on, and answers how many of its commands are allowed.
-fn review_units(
+pub(crate) fn review_units(
     alloc: Global,
     site: &Site<'_>,
     flow: &Flow,
@@ -158,46 +95,69 @@ fn review_units(
     requires places { flow.now.asset + length (assets_of site.now) < 2 ^ 32 }
     requires born { length flow.now.born ≡ length flow.now.bytes.items }
     requires inside { start ≤ length flow.now.bytes.items }
-    ensures { IfOk result (λ admitted. AddsUnits site.now (from_place start (flow_value flow.now)) (map remark_value remarks.old.items)
+    ensures adds { IfOk result (λ admitted. AddsUnits site.now (from_place start (flow_value flow.now)) (map remark_value remarks.old.items)
         (map remark_value remarks.new.items) admitted) }
+    ensures told { OnOk result ((known : ℕ → Bool) → All (λ n. known n ≡ true) flow.now.born
+        → All (λ r. known r.at_record ≡ true) (map remark_value remarks.old.items) → All (λ r. known r.at_record ≡ true) (map remark_value remarks.new.items)) }
 {
-    let bytes = bytes_from(flow, start);
-    let mut admitted: u64 = 0;
-    if bytes.is_empty() {
-        return Ok(admitted);
-    }
     let mut reader = Reader::new(alloc, site, flow.client.address)?;
-    let mut at = 0;
-    'units: while at < bytes.len() {
-        match reader.next(site, &octets_of(bytes, at, bytes.len())) {
-            Front::Rest => return Ok(admitted),
+    let mut at = start;
+    let mut admitted: u64 = 0;
+    read_units(site, flow, &mut reader, &mut at, &mut admitted, remarks)?;
+    Ok(admitted)
+}
+
+/// Reads the units of a flow from a place of the bytes that are kept of it on, as far as there are whole ones, and answers whether an octet
+/// follows that no unit has there. The bytes that are kept are those from a place of a flow on: a clause says so of each.
+pub(crate) fn read_units(
+    site: &Site<'_>,
+    flow: &Flow,
+    reader: &mut Reader,
+    at: &mut usize,
+    admitted: &mut u64,
+    remarks: &mut Vec<Remark>,
+) -> Result<bool, NoMemory>
+    requires places { flow.now.asset + length (assets_of site.now) < 2 ^ 32 }
+    requires inside { at.old ≤ length flow.now.bytes.items }
+    requires born { length flow.now.born ≡ length flow.now.bytes.items }
+    requires so_far { (f : FlowValue) × (start : List RemarkValue) × (place : ℕ) × IsPartOf f place flow.now at.old
+        × SoFar site.now f start place reader.old admitted.old (map remark_value remarks.old.items) }
+    ensures inside { OnOk result (at.new ≤ length flow.now.bytes.items) }
+    ensures past { OnOk result (at.old ≤ at.new) }
+    ensures adds { OnOk result ((more : List Remark) × (remarks.new.items ≡ remarks.old.items ++ more)) }
+    ensures whole { result ≡ Ok false → (f : FlowValue) (start : List RemarkValue) (place : ℕ) → IsPartOf f place flow.now at.old
+        → SoFar site.now f start place reader.old admitted.old (map remark_value remarks.old.items)
+        → SoFar site.now f start (place + (at.new - at.old)) reader.new admitted.new (map remark_value remarks.new.items)
+        × Waits site.now f (place + (at.new - at.old)) }
+    ensures broke { result ≡ Ok true → (f : FlowValue) (start : List RemarkValue) (place : ℕ) → IsPartOf f place flow.now at.old
+        → SoFar site.now f start place reader.old admitted.old (map remark_value remarks.old.items)
+        → HasBroken site.now f start admitted.new (map remark_value remarks.new.items) }
+    ensures told { OnOk result ((known : ℕ → Bool) → All (λ n. known n ≡ true) (drop at.old flow.now.born)
+        → All (λ r. known r.at_record ≡ true) (map remark_value remarks.old.items) → All (λ r. known r.at_record ≡ true) (map remark_value remarks.new.items)) }
+{
+    let bytes = flow.bytes.as_slice();
+    'units: while *at < bytes.len() {
+        match reader.next(site, &octets_of(bytes, *at, bytes.len())) {
+            Front::Rest => return Ok(false),
             Front::Broken { reason, place } => {
-                let number = flow.record_at(start + at + place);
+                let number = flow.record_at(*at + place);
                 add(flow, number, 0, Matter::Broken(reason), remarks)?;
-                return Ok(admitted);
+                return Ok(true);
             }
             Front::Took {
                 ruling,
                 place,
                 used,
             } => {
-                let unit = octets_of(bytes, at, at + used);
-                at += used;
-                admitted += allowed_by(&ruling);
-                let number = flow.record_at(start + at - 1);
-                add_unit(&reader, site, flow, unit, number, place, ruling, remarks)?;
+                let unit = octets_of(bytes, *at, *at + used);
+                *at += used;
+                *admitted = admitted.saturating_add(allowed_by(&ruling));
+                let number = flow.record_at(*at - 1);
+                add_unit(reader, site, flow, unit, number, place, ruling, remarks)?;
             }
         }
     }
-    Ok(admitted)
-}
-
-/// The bytes of a flow from a place on.
-fn bytes_from(flow: &Flow, start: usize) -> &[u8]
-    requires { start ≤ length flow.now.bytes.items }
-    ensures { result.now ≡ drop start flow.now.bytes.items }
-{
-    &flow.bytes.as_slice()[start..]
+    Ok(false)
 }
 
 /// Some octets of others.
@@ -212,7 +172,6 @@ fn octets_of(octets: &[u8], from: usize, to: usize) -> View<'_>
 /// How many commands a ruling allows.
 fn allowed_by(ruling: &Ruling) -> u64
     ensures count { (f : Fate) → ruling.now ≡ ruling_of f → result ≡ one_if (is_admitted f) }
-    ensures few { result ≤ 1 }
 {
     match ruling {
         Ruling::Allowed => 1,
@@ -229,8 +188,9 @@ fn add(
     remarks: &mut Vec<Remark>,
 ) -> Result<(), NoMemory>
     requires { flow.now.asset + place < 2 ^ 32 }
-    ensures { OnOk result (map remark_value remarks.new.items ≡ map remark_value remarks.old.items ++ remark_on (flow_value flow.now) number
-        place (matter_value what) ∷ []) }
+    ensures remark { OnOk result (map remark_value remarks.new.items ≡ map remark_value remarks.old.items
+        ++ remark_on (flow_value flow.now) number place (matter_value what) ∷ []) }
+    ensures adds { OnOk result (AddsOf number remarks.old.items remarks.new.items) }
 {
     let remark = Remark {
         at_record: number,
@@ -245,7 +205,7 @@ fn add(
 }
 
 /// Adds that a flow begins amid its stream, if it does.
-fn add_midstream(flow: &Flow, remarks: &mut Vec<Remark>) -> Result<(), NoMemory>
+pub(crate) fn add_midstream(flow: &Flow, remarks: &mut Vec<Remark>) -> Result<(), NoMemory>
     requires { flow.now.asset < 2 ^ 32 }
     ensures { OnOk result (map remark_value remarks.new.items ≡ map remark_value remarks.old.items
         ++ midstream_remarks (flow_value flow.now) flow.now.midstream) }
@@ -275,7 +235,7 @@ fn add_gap(stretch: &Stretch, remarks: &mut Vec<Remark>) -> Result<(), NoMemory>
 }
 
 /// Adds that a flow has a conflict, if it has one.
-fn add_conflict(flow: &Flow, remarks: &mut Vec<Remark>) -> Result<(), NoMemory>
+pub(crate) fn add_conflict(flow: &Flow, remarks: &mut Vec<Remark>) -> Result<(), NoMemory>
     requires { flow.now.asset < 2 ^ 32 }
     ensures { OnOk result (map remark_value remarks.new.items ≡ map remark_value remarks.old.items ++ conflict_remarks (flow_value flow.now)
         flow.now.conflict) }
@@ -308,7 +268,8 @@ fn add_unit(
 ) -> Result<(), NoMemory>
     requires places { flow.now.asset + place < 2 ^ 32 }
     requires whole { (refusal : Refusal) → ruling ≡ Ruling.Refused refusal → HasWhole site.now place reader.now }
-    ensures { OnOk result ((client : ℕ) (earlier : List JudgedItem) (u : UnitValue) (f : Fate)
+    ensures adds { OnOk result (AddsOf number remarks.old.items remarks.new.items) }
+    ensures remarks { OnOk result ((client : ℕ) (earlier : List JudgedItem) (u : UnitValue) (f : Fate)
         → IsReaderOf site.now client (earlier ++ completed_in number u f ∷ []) reader.now
         → place ≡ place_for site.now side.Client u
         → SpellsUnit site.now.first.protocol u unit.entry.bytes

@@ -9,7 +9,7 @@ ghost use Rattle.cf_lane.specs.Log.{line_about, refusal_line};
 ghost use Rattle.cf_policy.specs.Names.{name_of};
 ghost use Rattle.cf_policy.specs.declared.limits.TheConstants.{LONGEST_NAME};
 ghost use Rattle.cf_view.specs.Text.{endpoint_text, moment_text};
-ghost use Rattle.cf_review.specs.Lines.{matter_line, other_line, remark_line, stamp_of};
+ghost use Rattle.cf_review.specs.Lines.{line_by, matter_line, other_line};
 ghost use Rattle.cf_review.specs.Remark.{matter_value, remark_value};
 
 use crate::remark::{Matter, Remark};
@@ -19,27 +19,14 @@ use cf_lane::Refusal;
 use cf_policy::{Asset, Decider, Rule};
 use cf_view::{Break, Endpoint, Side, View, push_endpoint, push_moment, push_signed};
 
-/// Writes the line of a remark in place of what `line` held, and nothing where its asset is none of these.
-pub(crate) fn spell(assets: &[Asset], stamps: &[u64], remark: &Remark, line: &mut ArrayString<256>)
-    ensures bytes { line.new.bytes ≡ remark_line assets.now stamps.now (remark_value remark.now) }
+/// Writes the line of a remark, whose record has this moment, in place of what `line` held, and nothing where its asset is none of these.
+pub(crate) fn spell(assets: &[Asset], moment: u64, remark: &Remark, line: &mut ArrayString<256>)
+    ensures bytes { line.new.bytes ≡ line_by (slice_get assets.now remark.now.asset) moment (remark_value remark.now) }
     ensures short { array_string_len line.new ≤ 256 }
 {
     match assets.get(remark.asset as usize) {
-        Some(asset) => {
-            let moment = stamp_of(stamps, remark.at_record);
-            spell_matter(asset, remark.client, moment, &remark.what, line);
-        }
+        Some(asset) => spell_matter(asset, remark.client, moment, &remark.what, line),
         None => line.clear(),
-    }
-}
-
-/// The stamp of the record of a number, counted from 1; 0 where there is none.
-fn stamp_of(stamps: &[u64], number: u64) -> u64
-    ensures { result ≡ stamp_of stamps.now number }
-{
-    match stamps.get(number.saturating_sub(1) as usize) {
-        Some(stamp) => *stamp,
-        None => 0,
     }
 }
 

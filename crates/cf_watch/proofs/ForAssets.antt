@@ -12,8 +12,8 @@ use Rattle.cf_view.specs.Endpoints.{same_endpoint}
 use Rattle.cf_policy.specs.declared.Asset.{Asset}
 use Rattle.cf_watch.specs.Flow.{AreFlowsOf}
 use Rattle.cf_watch.specs.FlowValue.{FlowValue, IsFirstPlace, IsForAsset}
-use Rattle.cf_watch.specs.Seen.{begins_amid, begun_with, goes_from, goes_to_asset, opening_amid, packet_by, seen_by, with_frame}
-use Rattle.cf_watch.specs.Watched.{Watched, begins_anew, begun_by, goes_at, goes_to, last_place, watched, with_packet}
+use Rattle.cf_watch.specs.Seen.{begins_amid, begun_with, goes_first, goes_from, goes_in, goes_to_asset, opening_amid, opening_by, packet_by, seen_by, with_frame, with_packet_by}
+use Rattle.cf_watch.specs.Watched.{Watched, begins_anew, last_place, watched}
 use Rattle.cf_watch.specs.declared.scope.Scope.{Scope}
 use Rattle.cf_watch.specs.declared.scope.Scope.TheVariants as scope
 use Rattle.cf_watch.proofs.Seen.{watched_is_seen}
@@ -40,21 +40,24 @@ module _ (P : ℕ → Type 0) where
   has_if true xs ys a b = a
   has_if false xs ys a b = b
 
-  has_to : (number asset place : ℕ) (packet : PacketValue) (o : Option Watched) (ws : List Watched) → slice_get ws place ≡ o → P asset → Has ws → Has (goes_to number asset place packet o ws)
-  has_to number asset place packet None ws e s h = h
-  has_to number asset place packet (Some f) ws e s h =
-      has_if (begins_anew packet f) (ws ++ begun_by number asset packet ∷ []) (set ws place (with_packet number packet f))
-      (has_append ws (begun_by number asset packet) h s) (has_set ws place (with_packet number packet f) h (has_get ws place f h e))
+  has_in : (scope : Scope) (number asset place : ℕ) (packet : PacketValue) (o : Option Watched) (ws : List Watched) → slice_get ws place ≡ o → P asset → Has ws →
+      Has (goes_in scope number asset place packet o ws)
+  has_in scope number asset place packet None ws e s h = h
+  has_in scope number asset place packet (Some f) ws e s h =
+      let begun = begun_with scope (opening_by packet) number asset packet in
+      has_if (begins_anew packet f) (ws ++ begun ∷ []) (set ws place (with_packet_by scope number packet f))
+      (has_append ws begun h s) (has_set ws place (with_packet_by scope number packet f) h (has_get ws place f h e))
 
-  has_at : (number asset : ℕ) (packet : PacketValue) (last : Option ℕ) (ws : List Watched) → P asset → Has ws → Has (goes_at number asset packet last ws)
-  has_at number asset packet None ws s h = has_if (is_opening packet) (ws ++ begun_by number asset packet ∷ []) ws (has_append ws (begun_by number asset packet) h s) h
-  has_at number asset packet (Some place) ws s h = has_to number asset place packet (slice_get ws place) ws refl s h
+  has_first : (scope : Scope) (number asset : ℕ) (packet : PacketValue) (ws : List Watched) → P asset → Has ws → Has (goes_first scope number asset packet ws)
+  has_first scope number asset packet ws s h =
+      let amid = begun_with scope (opening_amid number packet) number asset packet in
+      let begun = begun_with scope (opening_by packet) number asset packet in
+      has_if (begins_amid scope packet) (ws ++ amid ∷ []) (if is_opening packet then ws ++ begun ∷ [] else ws)
+      (has_append ws amid h s) (has_if (is_opening packet) (ws ++ begun ∷ []) ws (has_append ws begun h s) h)
 
   has_from : (scope : Scope) (number asset : ℕ) (packet : PacketValue) (last : Option ℕ) (ws : List Watched) → P asset → Has ws → Has (goes_from scope number asset packet last ws)
-  has_from scope number asset packet None ws s h =
-      has_if (begins_amid scope packet) (ws ++ begun_with (opening_amid number packet) number asset packet ∷ []) (goes_at number asset packet None ws)
-      (has_append ws (begun_with (opening_amid number packet) number asset packet) h s) (has_at number asset packet None ws s h)
-  has_from scope number asset packet (Some place) ws s h = has_at number asset packet (Some place) ws s h
+  has_from scope number asset packet None ws s h = has_first scope number asset packet ws s h
+  has_from scope number asset packet (Some place) ws s h = has_in scope number asset place packet (slice_get ws place) ws refl s h
 
   has_goes : (scope : Scope) (number : ℕ) (packet : PacketValue) (o : Option ℕ) (ws : List Watched) → ((a : ℕ) → o ≡ Some a → P a) → Has ws → Has (goes_to_asset scope number packet o ws)
   has_goes scope number packet None ws f h = h

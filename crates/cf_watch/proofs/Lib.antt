@@ -1,8 +1,10 @@
+pub mod AllKept
 mod Apart
-mod ForAssets
+pub mod ForAssets
 mod Leading
 mod Lengths
 mod Letters
+mod Near
 mod OneStream
 mod Pieces
 mod Portions
@@ -11,7 +13,7 @@ mod Runs
 mod Seen
 mod SoFar
 mod Standing
-mod StretchFlows
+pub mod StretchFlows
 mod Tables
 mod Tags
 mod Taking

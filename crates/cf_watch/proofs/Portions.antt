@@ -129,7 +129,7 @@ past_by bytes false k h = grind (arith, nat_tests, h)
 pub past_count : (s : Stream) (k : ℕ) → letter_count s ≤ k → letter_at s k ≡ None
 past_count s k h = past_by s.bytes s.ended k h
 
-mapped_none : {X Y : Type 0} (f : X → Y) (o : Option X) → option_map f o ≡ None → o ≡ None
+pub mapped_none : {X Y : Type 0} (f : X → Y) (o : Option X) → option_map f o ≡ None → o ≡ None
 mapped_none f None h = refl
 mapped_none f (Some x) h = absurd (none-some (f x) (sym h))
 

@@ -1,5 +1,5 @@
 -- The runs of letters, taken place by place.
-use Rattle.std.proofs.Common.{◌≡◌, if◌then◌else◌, ◌+◌, ◌-◌, ◌<◌, ◌≤◌, ◌^◌, ◌+ℤ◌, ℕ, ℤ, pos, zero, suc, Bool, true, false, List, [], ◌∷◌, ◌++◌, reverse, Option, Some, None, is_some, option_map, unwrap_or, drop, set, slice_get, refl, sym, ap, ◌∙◌, inl, inr, arith}
+use Rattle.std.proofs.Common.{◌≡◌, if◌then◌else◌, ◌+◌, ◌-◌, ◌<◌, ◌≤◌, ◌^◌, ◌+ℤ◌, ℕ, ℤ, pos, zero, suc, Bool, true, false, List, [], ◌∷◌, ◌++◌, reverse, Option, Some, None, is_some, option_map, unwrap_or, drop, length, set, slice_get, refl, sym, ap, ◌∙◌, inl, inr, arith, subst, length-append}
 use Rattle.std.proofs.lemmas.Bool.{cases_lt, false≢true}
 use Rattle.std.specs.BTreeMap.{BTreeMap, get}
 use Rattle.std.specs.Ordering.{nat_cmp}
@@ -7,11 +7,15 @@ use Rattle.std.proofs.lemmas.List.{reverse-append}
 use Rattle.std.proofs.lemmas.Option.{none-some}
 use Rattle.cf_stream.specs.Stream.{Letter, letter_count, letter_from}
 use Rattle.cf_watch.specs.Carried.{Carried, end_of, top_of}
-use Rattle.cf_watch.specs.FlowValue.{FlowValue}
-use Rattle.cf_watch.specs.Kept.{HasRuns, IsFirst, kept, letter_of_portion, row_value}
+use Rattle.cf_watch.specs.FlowValue.{FlowValue, StretchValue, flow_value}
+use Rattle.cf_watch.specs.Kept.{HasRuns, IsFirst, kept, letter_of_portion, row_value, with_gone}
 use Rattle.cf_watch.specs.Stretches.{FirstLetter, Run, apart, first_letter, is_nil, is_own, letter_came, all_stretches, runs_of, stretch_of, stretches_from, stretches_of, with_place}
 use Rattle.cf_watch.specs.Watched.{Watched}
+use Rattle.cf_watch.specs.Trail.{Heard, IsHeard}
 use Rattle.cf_watch.specs.declared.ahead.Portion.{Portion}
+use Rattle.cf_watch.specs.declared.flow.Flow.{Flow}
+use Rattle.cf_watch.specs.declared.scope.Scope.{Scope}
+use Rattle.cf_watch.specs.declared.watching.Trail.{Trail}
 use Rattle.cf_watch.proofs.Letters.{shifted}
 use Rattle.cf_watch.proofs.Standing.{past_end}
 
@@ -125,6 +129,25 @@ pub stretches_last : (f : FlowValue) (gap : ℤ) (xs : List Run) (r : Run) →
 stretches_last f gap xs r =
     ap (stretches_from f gap) (reverse-append xs (r ∷ []))
     ∙ ap (λ (b : Bool). stretch_of f (if b then Some gap else None) r ∷ stretches_from f gap (reverse xs)) (nil_reversed xs)
+
+-- the stretches hang on the client and the asset of the flow, and not on its bytes
+pub gone_stretches : (gone gone_born : List ℕ) (f : Flow) (gap : ℤ) (runs : List Run) →
+    stretches_from (flow_value f) gap runs ≡ stretches_from (with_gone gone gone_born f) gap runs
+gone_stretches gone gone_born f gap [] = refl
+gone_stretches gone gone_born f gap (r ∷ runs) =
+    ap (λ (xs : List StretchValue). stretch_of (flow_value f) (if is_nil runs then Some gap else None) r ∷ xs) (gone_stretches gone gone_born f gap runs)
+
+-- the runs of a flow that was heard are its stretches
+pub stretches_heard : (by : Scope) (f : Flow) (t : Trail) (w : Watched) (h : Heard) (count : ℕ) (runs : List Run) → IsHeard by f t w h → count ≡ t.base + length f.bytes.items →
+    HasRuns count t.ahead runs → stretches_from (flow_value f) (pos count) runs ≡ stretches_of w h.value
+stretches_heard by f t w h count runs is counted has =
+    let size : count ≡ length h.value.bytes =
+    counted ∙ sym (ap (λ (v : FlowValue). length v.bytes) is.value ∙ length-append is.gone f.bytes.items ∙ ap (λ (n : ℕ). n + length f.bytes.items) (is.gone_count ∙ sym is.base)) in
+    let holds = subst (λ (n : ℕ). (q : ℕ) → is_own n q ≡ false → kept t.ahead q ≡ first_letter w.carried q) (sym size) is.holds in
+    ap (stretches_from (flow_value f) (pos count)) (runs_of_flow w count t.ahead runs holds has)
+    ∙ ap (λ (n : ℕ). stretches_from (flow_value f) (pos n) (runs_of (apart n (first_letter w.carried)) (2 ^ 31 + top_of w.carried))) size
+    ∙ gone_stretches is.gone is.gone_born f (pos (length h.value.bytes)) (runs_of (apart (length h.value.bytes) (first_letter w.carried)) (2 ^ 31 + top_of w.carried))
+    ∙ ap (λ (v : FlowValue). stretches_from v (pos (length h.value.bytes)) (runs_of (apart (length h.value.bytes) (first_letter w.carried)) (2 ^ 31 + top_of w.carried))) (sym is.value)
 
 -- ---- flow by flow
 

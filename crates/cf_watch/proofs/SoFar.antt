@@ -1,5 +1,5 @@
 -- The records of a capture that were taken so far, behind those of the captures before.
-use Rattle.std.proofs.Common.{◌≡◌, ◌≤◌, ℕ, suc, All, List, [], ◌∷◌, ◌++◌, ◌∙◌, ◌^◌, ap, length, map, reverse, slice_get, Result, Some, Ok, Err, refl, vec_items, sym, subst, arith}
+use Rattle.std.proofs.Common.{◌≡◌, ◌≤◌, ℕ, All, List, [], ◌∷◌, ◌++◌, ◌∙◌, ◌^◌, ap, map, reverse, Result, Ok, Err, refl, vec_items, sym, subst, arith}
 use Rattle.std.specs.List.{AllByRecursion}
 use Rattle.std.proofs.lemmas.List.{reverse-append, reverse-reverse}
 use Rattle.std.proofs.lemmas.List.Elements.{All-from_recursion}
@@ -18,7 +18,7 @@ use Rattle.cf_watch.specs.Flow.{AreFlowsOf}
 use Rattle.cf_watch.specs.FlowValue.{AreStretchesFor, IsForAsset, StretchValue, flow_value, stretch_value}
 use Rattle.cf_watch.specs.Recorded.{IsCaptureIn, IsReadTo, IsRecordingOf, StopsAs, large_by}
 use Rattle.cf_watch.specs.Recorder.{HasRecorded, IsRecorderFor, IsRecorderOf}
-use Rattle.cf_watch.specs.Trail.{IsHeard, IsWatchOf}
+use Rattle.cf_watch.specs.Trail.{IsWatchOf, all_kept}
 use Rattle.cf_watch.specs.Seen.{seen_by}
 use Rattle.cf_watch.specs.Stretches.{all_stretches}
 use Rattle.cf_watch.specs.Watch.{HasFlows, kinds_by}
@@ -28,9 +28,8 @@ use Rattle.cf_watch.specs.declared.fault.WatchFault.TheVariants as fault
 use Rattle.cf_watch.specs.declared.recorder.Recorder.{Recorder}
 use Rattle.cf_watch.specs.declared.scope.Scope.{Scope}
 use Rattle.cf_watch.specs.declared.scope.Scope.TheVariants as scope
-use Rattle.cf_watch.specs.declared.flow.Flow.{Flow}
 use Rattle.cf_watch.specs.declared.flow.Recording.{Recording}
-use Rattle.cf_watch.specs.declared.watching.Trail.{Trail}
+use Rattle.cf_watch.proofs.AllKept.{are_flows, values_kept}
 use Rattle.cf_watch.proofs.ForAssets.{are_for_seen}
 use Rattle.cf_watch.proofs.Seen.{watched_is_seen}
 use Rattle.cf_watch.proofs.StretchFlows.{stretches_are_for}
@@ -39,27 +38,28 @@ use Rattle.cf_watch.proofs.Leading.{Leads, leads_first, leads_on, leads_to}
 
 -- ---- records, one after the other
 
--- these records of a file stand in front of a reader's place, the newest first, and were taken behind those before
-pub record SoFar (by : Scope) (assets : List Asset) (file : Content) (start : Form) (reader : ReaderValue) (old now : Recorder) : Type 0 where
+-- these records of a file stand in front of a reader's place, the newest first, and were taken behind those before by one of whom P says what it
+-- has heard
+pub record SoFar {H : Type 0} (P : List Record → H → Type 0) (by : Scope) (file : Content) (start : Form) (reader : ReaderValue) (old now : H) : Type 0 where
   pub has_form : HasFormIn (kinds_by by) file (Ok start)
   pub newest : List Record
   pub leads : Leads file start reader.form reader.place (reverse newest)
-  pub more : (earlier : List Record) → IsRecorderFor by assets earlier old → IsRecorderFor by assets (newest ++ earlier) now
+  pub more : (earlier : List Record) → P earlier old → P (newest ++ earlier) now
 
-pub so_far_first : (by : Scope) (assets : List Asset) (file : Content) (reader : ReaderValue) (old : Recorder) → HasFormIn (kinds_by by) file (Ok reader.form) → reader.place ≡ first_place reader.form →
-    SoFar by assets file reader.form reader old old
-so_far_first by assets file reader old h first = record {
+pub so_far_first : {H : Type 0} (P : List Record → H → Type 0) (by : Scope) (file : Content) (reader : ReaderValue) (old : H) → HasFormIn (kinds_by by) file (Ok reader.form) →
+    reader.place ≡ first_place reader.form → SoFar P by file reader.form reader old old
+so_far_first P by file reader old h first = record {
   has_form = h;
   newest = [];
   leads = subst (λ n. Leads file reader.form reader.form n []) (sym first) (leads_first (kinds_by by) file reader.form h);
   more = λ earlier is. is;
 }
 
-module _ {by : Scope} {assets : List Asset} {file : Content} {start : Form} {reader : ReaderValue} {old now : Recorder} (so : SoFar by assets file start reader old now) where
+module _ {H : Type 0} {P : List Record → H → Type 0} {by : Scope} {file : Content} {start : Form} {reader : ReaderValue} {old now : H} (so : SoFar P by file start reader old now) where
   -- one more
-  pub so_far_on : (new_reader : ReaderValue) (stamp : ℕ) (new : Recorder) → FindsRecord file reader new_reader (next.Whole stamp) →
-      ((newest : List Record) → IsRecorderFor by assets newest now → IsRecorderFor by assets (record { stamp = stamp; link = new_reader.link; body = new_reader.body } ∷ newest) new) →
-      SoFar by assets file start new_reader old new
+  pub so_far_on : (new_reader : ReaderValue) (stamp : ℕ) (new : H) → FindsRecord file reader new_reader (next.Whole stamp) →
+      ((newest : List Record) → P newest now → P (record { stamp = stamp; link = new_reader.link; body = new_reader.body } ∷ newest) new) →
+      SoFar P by file start new_reader old new
   so_far_on new_reader stamp new found takes =
       let r : Record = record { stamp = stamp; link = new_reader.link; body = new_reader.body } in
       record {
@@ -87,34 +87,19 @@ module _ {by : Scope} {assets : List Asset} {file : Content} {start : Form} {rea
     are_records = leads_to file start reader place (reverse so.newest) FileEnd so.leads stands tt;
   }
 
-module _ {assets : List Asset} {file : Content} {start : Form} {reader : ReaderValue} {old now : Recorder} where
+module _ {H : Type 0} {P : List Record → H → Type 0} {file : Content} {start : Form} {reader : ReaderValue} {old now : H} where
   -- they end below an octet at place 2^40
-  pub large_stops : {by : Scope} (so : SoFar by assets file start reader old now) (place : ℕ) → StandsBehind file reader place Large → place ≤ 2 ^ 40 →
+  pub large_stops : {by : Scope} (so : SoFar P by file start reader old now) (place : ℕ) → StandsBehind file reader place Large → place ≤ 2 ^ 40 →
       StopsAs by file (fault.Refused (large_by by))
   large_stops {by = scope.Connections} so place stands near = (refl, large_is_long file reader place CAPTURE_LIMIT stands near (omega arith))
   large_stops {by = scope.Recording} so place stands near = (refl, (place, read_to so place Large stands tt))
 
--- records behind others, each in the order of the captures
-pub taken_behind : (assets : List Asset) (old new : Recorder) (newest earlier : List Record) →
-    ((before : List Record) → IsRecorderFor scope.Recording assets before old → IsRecorderFor scope.Recording assets (newest ++ before) new) → IsRecorderOf assets earlier old →
-    IsRecorderOf assets (earlier ++ reverse newest) new
-taken_behind assets old new newest earlier more is =
-    subst (λ rs. IsRecorderFor scope.Recording assets rs new) (sym (reverse-append earlier (reverse newest) ∙ ap (λ rs. rs ++ reverse earlier) (reverse-reverse newest))) (more (reverse earlier) is)
-
 -- ---- the flows of what was taken
-
--- the flows of a watch
-are_flows : (ws : List Watched) (fs : List Flow) (ts : List Trail) → length fs ≡ length ws → length ts ≡ length ws →
-    ((i : ℕ) (f : Flow) (t : Trail) (w : Watched) → slice_get fs i ≡ Some f → slice_get ts i ≡ Some t → slice_get ws i ≡ Some w → IsHeard f t w) → AreFlowsOf ws (map flow_value fs)
-are_flows [] [] ts a b each = refl
-are_flows [] (f ∷ fs) ts a b each = absurd (omega (arith, a))
-are_flows (w ∷ ws) [] ts a b each = absurd (omega (arith, a))
-are_flows (w ∷ ws) (f ∷ fs) [] a b each = absurd (omega (arith, b))
-are_flows (w ∷ ws) (f ∷ fs) (t ∷ ts) a b each = ((each 0 f t w refl refl refl).flow, are_flows ws fs ts (omega (arith, a)) (omega (arith, b)) (λ i g u v x y z. each (suc i) g u v x y z))
 
 module _ (by : Scope) (assets : List Asset) (newest : List Record) (r : Recorder) (is : IsRecorderFor by assets newest r) where
   pub flows_now : AreFlowsOf (seen_by by assets newest) (map flow_value r.watch.flows.items)
-  flows_now = are_flows (seen_by by assets newest) r.watch.flows.items r.watch.trails.items is.heard.flow_count is.heard.trail_count is.heard.each
+  flows_now = subst (AreFlowsOf (seen_by by assets newest)) (values_kept r.watch.flows.items)
+      (are_flows by r.count r.watch (seen_by by assets newest) (all_kept r.watch.flows.items) is.heard)
 
   flows_for : AllByRecursion (IsForAsset assets) (map flow_value r.watch.flows.items)
   flows_for = are_for_seen by assets newest (map flow_value r.watch.flows.items) flows_now
@@ -150,7 +135,8 @@ has_flows assets file newest r short capture is = record {
 -- what is made of all that was kept
 module _ {E : Type 0} (self : Recorder) (r : Result Recording E) where
   abbrev KeepsStretches : Recording → Type 0
-  KeepsStretches x = (number : ℕ) (ws : List Watched) → IsWatchOf number self.watch ws → map stretch_value x.stretches.items ≡ all_stretches ws (map flow_value self.watch.flows.items)
+  KeepsStretches x = (by : Scope) (number : ℕ) (ws : List Watched) → IsWatchOf by number self.watch ws (all_kept self.watch.flows.items) →
+      map stretch_value x.stretches.items ≡ all_stretches ws (map flow_value self.watch.flows.items)
 
   pub finished : IfOk r (λ x. x.flows ≡ self.watch.flows) → IfOk r (λ x. x.stamps ≡ self.stamps) → IfOk r KeepsStretches →
       IfOk r (λ x. (assets : List Asset) (records : List Record) → IsRecorderOf assets records self → IsRecordingOf assets records (map flow_value x.flows.items) (map stretch_value x.stretches.items) x.stamps.items)
@@ -161,7 +147,7 @@ module _ {E : Type 0} (self : Recorder) (r : Result Recording E) where
       made (Ok x) flows stamps others = λ assets records is.
           subst (λ fs. IsRecordingOf assets records fs (map stretch_value x.stretches.items) x.stamps.items) (ap (λ fs. map flow_value (vec_items fs)) (sym flows))
           (subst (λ ss. IsRecordingOf assets records (map flow_value self.watch.flows.items) (map stretch_value x.stretches.items) ss) (ap (λ ss. vec_items ss) (sym stamps))
-          (is_recording assets records self (map stretch_value x.stretches.items) is (others self.count (seen_by scope.Recording assets (reverse records)) is.heard)))
+          (is_recording assets records self (map stretch_value x.stretches.items) is (others scope.Recording self.count (seen_by scope.Recording assets (reverse records)) is.heard)))
       made (Err e) flows stamps others = flows
 
   pub finished_for : IfOk r (λ x. x.flows ≡ self.watch.flows) → IfOk r (λ x. (assets : List Asset) → HasRecorded assets self → All (IsForAsset assets) (map flow_value x.flows.items))
@@ -172,4 +158,4 @@ module _ {E : Type 0} (self : Recorder) (r : Result Recording E) where
   pub finished_for_too : IfOk r KeepsStretches → IfOk r (λ x. (assets : List Asset) → HasRecorded assets self → AreStretchesFor assets (map stretch_value x.stretches.items))
   finished_for_too others = IfOk-weaker r KeepsStretches (λ x. (assets : List Asset) → HasRecorded assets self → AreStretchesFor assets (map stretch_value x.stretches.items))
       (λ x keeps assets has.
-      for_assets_too scope.Recording assets (reverse has.0) self has.1 (map stretch_value x.stretches.items) (keeps self.count (seen_by scope.Recording assets (reverse has.0)) has.1.heard)) others
+      for_assets_too scope.Recording assets (reverse has.0) self has.1 (map stretch_value x.stretches.items) (keeps scope.Recording self.count (seen_by scope.Recording assets (reverse has.0)) has.1.heard)) others

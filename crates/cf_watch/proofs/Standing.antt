@@ -11,8 +11,9 @@ use Rattle.cf_stream.specs.FirstCopy.{IsTaken, offered}
 use Rattle.cf_stream.specs.Position.{place_or_zero}
 use Rattle.cf_stream.specs.Stream.{Byte, End, Letter, Stream, letter_at, letter_count, letter_from}
 use Rattle.cf_watch.specs.declared.flow.Conflict.{Conflict}
-use Rattle.cf_watch.specs.declared.flow.Flow.{Flow}
+use Rattle.cf_watch.specs.FlowValue.{FlowValue}
 use Rattle.cf_watch.specs.Carried.{AreBorn, Carried, HasBytes, HasConflict, IsConflictAfter, copy_of, end_after, end_of, letter_of, offer_of}
+use Rattle.cf_watch.specs.Trail.{IsConflictNow}
 use Rattle.cf_watch.specs.Kept.{Grows, Takes, kept, known}
 use Rattle.cf_watch.specs.Stretches.{FirstLetter, first_letter, is_own, letter_came}
 use Rattle.cf_watch.specs.declared.ahead.Portion.{Portion}
@@ -79,16 +80,16 @@ get_same count x i n h =
     let below : i < count = omega (arith, inside, size) in
     sym (get_or_from_slice_get (replicate count x) i n 0 h) ∙ get_or-replicate count i x 0 below
 
-module _ (carried : List Carried) (c : Carried) (old mid new : Flow) (a b d : BTreeMap ℕ Portion)
-    (knew : (p : ℕ) → known old.bytes.items a p ≡ copy_of carried p) (takes : Takes c old a mid b)
-    (same : (p : ℕ) → known new.bytes.items d p ≡ known mid.bytes.items b p) (grows : Grows c.number mid new)
-    (stops : (x : ℕ) → known new.bytes.items d (length new.bytes.items) ≢ Some (Byte x)) (conflict : new.conflict ≡ mid.conflict) where
-  pub knows_now : (p : ℕ) → known new.bytes.items d p ≡ copy_of (c ∷ carried) p
+module _ (carried : List Carried) (c : Carried) (old mid new : FlowValue) (a b d : BTreeMap ℕ Portion)
+    (knew : (p : ℕ) → known old.bytes a p ≡ copy_of carried p) (takes : Takes c old a mid b)
+    (same : (p : ℕ) → known new.bytes d p ≡ known mid.bytes b p) (grows : Grows c.number mid new)
+    (stops : (x : ℕ) → known new.bytes d (length new.bytes) ≢ Some (Byte x)) (conflict : new.conflict ≡ mid.conflict) where
+  pub knows_now : (p : ℕ) → known new.bytes d p ≡ copy_of (c ∷ carried) p
   knows_now p =
       same p ∙ takes.knows p ∙ ap (λ (o : Option Letter). option_or o (letter_of c p)) (knew p) ∙ ap (option_or (copy_of carried p)) (sym (offered_all c p))
 
-  pub bytes_now : HasBytes (c ∷ carried) new.bytes.items
-  bytes_now = taken_by new.bytes.items d (copy_of (c ∷ carried)) knows_now (copy_of (c ∷ carried) (length new.bytes.items)) refl (λ x e. stops x (knows_now (length new.bytes.items) ∙ e))
+  pub bytes_now : HasBytes (c ∷ carried) new.bytes
+  bytes_now = taken_by new.bytes d (copy_of (c ∷ carried)) knows_now (copy_of (c ∷ carried) (length new.bytes)) refl (λ x e. stops x (knows_now (length new.bytes) ∙ e))
 
   pub conflict_now : HasConflict carried old.conflict → HasConflict (c ∷ carried) new.conflict
   conflict_now h = (
@@ -101,10 +102,10 @@ module _ (carried : List Carried) (c : Carried) (old mid new : Flow) (a b d : BT
   pub all_grow : Grows c.number old new
   all_grow = grows_both c.number old mid new takes.grows grows
 
-  pub born_now : HasBytes carried old.bytes.items → AreBorn carried old.bytes.items old.born → AreBorn (c ∷ carried) new.bytes.items new.born
+  pub born_now : HasBytes carried old.bytes → AreBorn carried old.bytes old.born → AreBorn (c ∷ carried) new.bytes new.born
   born_now had h =
       let g = all_grow in
-      let bytes_size : length new.bytes.items ≡ length old.bytes.items + length g.more = ap length g.bytes ∙ length-append old.bytes.items g.more in
+      let bytes_size : length new.bytes ≡ length old.bytes + length g.more = ap length g.bytes ∙ length-append old.bytes g.more in
       let born_size : length (replicate (length g.more) c.number) ≡ length g.more = length-replicate (length g.more) c.number in
       record {
         count = ap length g.born ∙ length-append old.born (replicate (length g.more) c.number) ∙ omega (arith, bytes_size, born_size, h.count);
@@ -118,10 +119,10 @@ module _ (carried : List Carried) (c : Carried) (old mid new : Flow) (a b d : BT
                 older = carried;
                 are = refl;
                 is_number = sym (get_same (length g.more) c.number (place - length old.born) number y);
-                before = old.bytes.items;
+                before = old.bytes;
                 has_before = had;
                 not_yet = omega (arith, h.count, x);
-                now = new.bytes.items;
+                now = new.bytes;
                 has_now = bytes_now;
                 reached = let inside = slice_get_within (replicate (length g.more) c.number) (place - length old.born) number y in omega (arith, inside, born_size, bytes_size, h.count, x);
               }
@@ -129,11 +130,17 @@ module _ (carried : List Carried) (c : Carried) (old mid new : Flow) (a b d : BT
       }
 
 -- the letters that stand apart
-pub holds_now : (carried : List Carried) (c : Carried) (old mid new : Flow) (a b d : BTreeMap ℕ Portion) →
-    ((q : ℕ) → is_own (length old.bytes.items) q ≡ false → kept a q ≡ first_letter carried q) → Takes c old a mid b → Grows c.number mid new →
-    ((q : ℕ) → is_own (length new.bytes.items) q ≡ false → kept d q ≡ kept b q) → (q : ℕ) → is_own (length new.bytes.items) q ≡ false →
+pub holds_now : (carried : List Carried) (c : Carried) (old mid new : FlowValue) (a b d : BTreeMap ℕ Portion) →
+    ((q : ℕ) → is_own (length old.bytes) q ≡ false → kept a q ≡ first_letter carried q) → Takes c old a mid b → Grows c.number mid new →
+    ((q : ℕ) → is_own (length new.bytes) q ≡ false → kept d q ≡ kept b q) → (q : ℕ) → is_own (length new.bytes) q ≡ false →
     kept d q ≡ first_letter (c ∷ carried) q
 holds_now carried c old mid new a b d was takes grows same q none =
-    let mid_none = own_less (length mid.bytes.items) (length new.bytes.items) q (longer_by c.number mid new grows) none in
-    let old_none = own_less (length old.bytes.items) (length mid.bytes.items) q (longer_by c.number old mid takes.grows) mid_none in
+    let mid_none = own_less (length mid.bytes) (length new.bytes) q (longer_by c.number mid new grows) none in
+    let old_none = own_less (length old.bytes) (length mid.bytes) q (longer_by c.number old mid takes.grows) mid_none in
     same q none ∙ takes.holds q mid_none ∙ ap (λ (o : Option FirstLetter). option_or o (letter_came c q)) (was q old_none)
+
+-- the conflict of a flow is as it was, or comes with the packet
+pub conflict_by : (f : ℕ → Option Letter) (c : Carried) (old new : Option Conflict) → IsConflictAfter f c old new → IsConflictNow c.number old new
+conflict_by f c (Some k) new h = inl h
+conflict_by f c None None h = inl refl
+conflict_by f c None (Some k) h = inr (k, refl, h.number)

@@ -1,24 +1,24 @@
 -- What letters of a packet do to a flow, taken in two parts.
-use Rattle.std.proofs.Common.{◌≡◌, ◌≢◌, ◌==◌, if◌then◌else◌, ◌+◌, ◌-◌, ◌^◌, ◌<◌, ◌≤◌, ◌+ℤ◌, ◌-ℤ◌, ◌≤ℤ◌, ◌⊎◌, ℕ, ℤ, pos, negsuc, Bool, true, false, List, [], ◌∷◌, ◌++◌, length, replicate, Option, Some, None, refl, sym, ap, ◌∙◌, vec_items, is_some, nat_lt, get_or, option_map, unwrap_or, inl, inr, arith, subst, length-append, append_assoc}
+use Rattle.std.proofs.Common.{◌≡◌, ◌≢◌, ◌==◌, if◌then◌else◌, ◌+◌, ◌-◌, ◌^◌, ◌<◌, ◌≤◌, ◌+ℤ◌, ◌-ℤ◌, ◌≤ℤ◌, ◌⊎◌, ℕ, ℤ, pos, negsuc, Bool, true, false, List, [], ◌∷◌, ◌++◌, length, replicate, Option, Some, None, refl, sym, ap, ◌∙◌, is_some, nat_lt, get_or, option_map, unwrap_or, inl, inr, arith, subst, length-append, append_assoc}
 use Rattle.std.proofs.lemmas.Bool.{cases_eq, cases_lt, eq-eqb, false≢true, true≢false}
 use Rattle.std.proofs.lemmas.Bool.Decides.{nat_tests}
 use Rattle.std.proofs.lemmas.Int.{ints}
 use Rattle.std.proofs.lemmas.Option.{none-some}
-use Rattle.std.proofs.lemmas.List.{append-nil, get_or_append_left, get_or_push, length_push, replicate-append-replicate}
+use Rattle.std.proofs.lemmas.List.{append-nil, get_or_append_left, get_or-append_right, get_or_push, length_push, replicate-append-replicate}
 use Rattle.std.specs.BTreeMap.{BTreeMap}
 use Rattle.std.specs.Option.{option_or}
-use Rattle.cf_stream.specs.Stream.{Byte, Letter, Stream, letter_at, letter_from}
+use Rattle.cf_stream.specs.Stream.{Byte, Letter, Stream, letter_at, letter_count, letter_from}
 use Rattle.cf_watch.specs.Carried.{Carried, Differs, IsConflictAfter, IsConflictOf, letter_of}
 use Rattle.cf_watch.specs.Kept.{Grows, Holds, IsRoom, Takes, kept, known, letter_of_portion, letter_value, row_value, stream_of}
 use Rattle.cf_watch.specs.Stretches.{FirstLetter, is_own, letter_came}
 use Rattle.cf_watch.specs.declared.flow.Conflict.{Conflict}
-use Rattle.cf_watch.specs.declared.flow.Flow.{Flow}
+use Rattle.cf_watch.specs.FlowValue.{FlowValue}
 use Rattle.cf_watch.specs.declared.ahead.Portion.{Portion}
 use Rattle.cf_watch.specs.declared.letter.Letter.{Letter as Heard}
 use Rattle.cf_watch.specs.declared.letter.Letter.TheVariants as heard
 use Rattle.cf_watch.proofs.Apart.{came_kept, came_not, first_or_none, holds_both, known_kept, own_not}
-use Rattle.cf_watch.proofs.Letters.{from_append, from_at, from_before, from_none, from_one, is_behind, is_within, none_of_bytes, shifted}
-use Rattle.cf_watch.proofs.Portions.{none_in_room}
+use Rattle.cf_watch.proofs.Letters.{at_all, at_byte, from_append, from_at, from_before, from_none, from_one, is_behind, is_within, none_of_bytes, shifted, stands_to}
+use Rattle.cf_watch.proofs.Portions.{mapped_none, none_in_room}
 
 pub or_none : (x : Option Letter) → option_or x None ≡ x
 or_none None = refl
@@ -28,12 +28,12 @@ or_assoc : (x y z : Option Letter) → option_or (option_or x y) z ≡ option_or
 or_assoc None y z = refl
 or_assoc (Some l) y z = refl
 
-pub grows_nothing : (number : ℕ) (flow : Flow) → Grows number flow flow
-grows_nothing number flow = record { more = []; bytes = sym (append-nil flow.bytes.items); born = sym (append-nil flow.born); client = refl; asset = refl; midstream = refl }
+pub grows_nothing : (number : ℕ) (flow : FlowValue) → Grows number flow flow
+grows_nothing number flow = record { more = []; bytes = sym (append-nil flow.bytes); born = sym (append-nil flow.born); client = refl; asset = refl; midstream = refl }
 
-pub grows_both : (number : ℕ) (old mid new : Flow) → Grows number old mid → Grows number mid new → Grows number old new
+pub grows_both : (number : ℕ) (old mid new : FlowValue) → Grows number old mid → Grows number mid new → Grows number old new
 grows_both number old mid new g h =
-    let b : (old.bytes.items ++ g.more) ++ h.more ≡ old.bytes.items ++ (g.more ++ h.more) = rw append_assoc refl in
+    let b : (old.bytes ++ g.more) ++ h.more ≡ old.bytes ++ (g.more ++ h.more) = rw append_assoc refl in
     let r : replicate (length g.more) number ++ replicate (length h.more) number ≡ replicate (length (g.more ++ h.more)) number =
     replicate-append-replicate (length g.more) (length h.more) number ∙ ap (λ (n : ℕ). replicate n number) (sym (length-append g.more h.more)) in
     let c : (old.born ++ replicate (length g.more) number) ++ replicate (length h.more) number ≡ old.born ++ replicate (length (g.more ++ h.more)) number =
@@ -116,20 +116,20 @@ module _ (number : ℕ) (at : ℤ) (xs ys : List ℕ) (ended : Bool) (f : ℕ �
   }
 
 -- the bytes get no fewer
-pub longer_by : (number : ℕ) (old new : Flow) → Grows number old new → length old.bytes.items ≤ length new.bytes.items
+pub longer_by : (number : ℕ) (old new : FlowValue) → Grows number old new → length old.bytes ≤ length new.bytes
 longer_by number old new g =
-    let n : length new.bytes.items ≡ length old.bytes.items + length g.more = ap length g.bytes ∙ length-append old.bytes.items g.more in
+    let n : length new.bytes ≡ length old.bytes + length g.more = ap length g.bytes ∙ length-append old.bytes g.more in
     omega (arith, n)
 
-pub takes_both : (number : ℕ) (at : ℤ) (xs ys : List ℕ) (ended : Bool) (old mid new : Flow) (a b c : BTreeMap ℕ Portion) →
+pub takes_both : (number : ℕ) (at : ℤ) (xs ys : List ℕ) (ended : Bool) (old mid new : FlowValue) (a b c : BTreeMap ℕ Portion) →
     Takes (bytes_from number at xs) old a mid b → Takes (letters_from number (at +ℤ pos (length xs)) ys ended) mid b new c →
     Takes (letters_from number at (xs ++ ys) ended) old a new c
 takes_both number at xs ys ended old mid new a b c h i = record {
   knows = λ p. i.knows p ∙ ap (λ (o : Option Letter). option_or o (letter_of (letters_from number (at +ℤ pos (length xs)) ys ended) p)) (h.knows p)
-      ∙ or_assoc (known old.bytes.items a p) (letter_of (bytes_from number at xs) p) _ ∙ ap (option_or (known old.bytes.items a p)) (sym (from_append at xs ys ended p));
-  holds = holds_both number at xs ys ended a b c (length mid.bytes.items) (length new.bytes.items) (longer_by number mid new i.grows) h.holds i.holds;
+      ∙ or_assoc (known old.bytes a p) (letter_of (bytes_from number at xs) p) _ ∙ ap (option_or (known old.bytes a p)) (sym (from_append at xs ys ended p));
+  holds = holds_both number at xs ys ended a b c (length mid.bytes) (length new.bytes) (longer_by number mid new i.grows) h.holds i.holds;
   conflicts =
-      conflict_both (known old.bytes.items a) (known mid.bytes.items b) _ _ _ (parts_of number at xs ys ended (known old.bytes.items a) (known mid.bytes.items b) h.knows)
+      conflict_both (known old.bytes a) (known mid.bytes b) _ _ _ (parts_of number at xs ys ended (known old.bytes a) (known mid.bytes b) h.knows)
       old.conflict mid.conflict new.conflict h.conflicts i.conflicts;
   grows = grows_both number old mid new h.grows i.grows;
 }
@@ -156,16 +156,16 @@ no_conflict f c (Some k) new same none = same
 no_conflict f c None new same none = subst (λ (k : Option Conflict). IsConflictOf f c k) (sym same) none
 
 -- a letter where none was known
-pub takes_new : (number place : ℕ) (l : Heard) (old new : Flow) (a b : BTreeMap ℕ Portion) → known old.bytes.items a place ≡ None →
-    ((p : ℕ) → known new.bytes.items b p ≡ (if p == place then Some (letter_value l) else known old.bytes.items a p)) → Grows number old new → new.conflict ≡ old.conflict →
-    Holds (record { number = number; at = pos place; text = stream_of l }) a (length new.bytes.items) b →
+pub takes_new : (number place : ℕ) (l : Heard) (old new : FlowValue) (a b : BTreeMap ℕ Portion) → known old.bytes a place ≡ None →
+    ((p : ℕ) → known new.bytes b p ≡ (if p == place then Some (letter_value l) else known old.bytes a p)) → Grows number old new → new.conflict ≡ old.conflict →
+    Holds (record { number = number; at = pos place; text = stream_of l }) a (length new.bytes) b →
     Takes (record { number = number; at = pos place; text = stream_of l }) old a new b
 takes_new number place l old new a b blank knows grows same holds = record {
-  knows = λ p. knows p ∙ new_letter place l (known old.bytes.items a) blank p;
+  knows = λ p. knows p ∙ new_letter place l (known old.bytes a) blank p;
   holds = holds;
-  conflicts = no_conflict (known old.bytes.items a) _ old.conflict new.conflict same (λ p x.
+  conflicts = no_conflict (known old.bytes a) (record { number = number; at = pos place; text = stream_of l }) old.conflict new.conflict same (λ p x.
       elim (cases_eq p place) [
-        | inl e ↦ none-some x.first (sym blank ∙ ap (known old.bytes.items a) (sym e) ∙ x.was)
+        | inl e ↦ none-some x.first (sym blank ∙ ap (known old.bytes a) (sym e) ∙ x.was)
         | inr d ↦ none-some x.other (sym (from_none (pos place) l p (λ e. d (omega (arith, ints, e)))) ∙ x.is)
       ]);
   grows = grows;
@@ -183,12 +183,12 @@ holds_known number place l first bytes a is q none =
     ]
 
 -- a letter where one was known
-pub takes_known : (number place : ℕ) (l first : Heard) (old new : Flow) (a : BTreeMap ℕ Portion) → known old.bytes.items a place ≡ Some (letter_value first) →
-    new.bytes ≡ old.bytes → Grows number old new → IsConflictAfter (known old.bytes.items a) (record { number = number; at = pos place; text = stream_of l }) old.conflict new.conflict →
+pub takes_known : (number place : ℕ) (l first : Heard) (old new : FlowValue) (a : BTreeMap ℕ Portion) → known old.bytes a place ≡ Some (letter_value first) →
+    new.bytes ≡ old.bytes → Grows number old new → IsConflictAfter (known old.bytes a) (record { number = number; at = pos place; text = stream_of l }) old.conflict new.conflict →
     Takes (record { number = number; at = pos place; text = stream_of l }) old a new a
 takes_known number place l first old new a is same grows conflicts = record {
-  knows = λ p. ap (λ bs. known (vec_items bs) a p) same ∙ old_letter place l (letter_value first) (known old.bytes.items a) is p;
-  holds = λ q none. holds_known number place l (letter_value first) old.bytes.items a is q (subst (λ bs. is_own (length (vec_items bs)) q ≡ false) same none);
+  knows = λ p. ap (λ (bs : List ℕ). known bs a p) same ∙ old_letter place l (letter_value first) (known old.bytes a) is p;
+  holds = λ q none. holds_known number place l (letter_value first) old.bytes a is q (subst (λ (bs : List ℕ). is_own (length bs) q ≡ false) same none);
   conflicts = conflicts;
   grows = grows;
 }
@@ -211,12 +211,12 @@ conflict_first f c (Some k) now new e i h = absurd (none-some k (sym e))
 conflict_first f c None now new e i h = subst (λ (k : Option Conflict). IsConflictOf f c k) (sym i) h
 
 -- a letter that differs from the one that was known
-pub takes_conflict : (number place : ℕ) (l first : Heard) (old new : Flow) (a : BTreeMap ℕ Portion) → known old.bytes.items a place ≡ Some (letter_value first) → letter_value l ≢ letter_value first →
+pub takes_conflict : (number place : ℕ) (l first : Heard) (old new : FlowValue) (a : BTreeMap ℕ Portion) → known old.bytes a place ≡ Some (letter_value first) → letter_value l ≢ letter_value first →
     new.bytes ≡ old.bytes → Grows number old new → old.conflict ≡ None → new.conflict ≡ Some (record { at_record = number; position = pos place }) →
     Takes (record { number = number; at = pos place; text = stream_of l }) old a new a
 takes_conflict number place l first old new a is d same grows fresh now =
     takes_known number place l first old new a is same grows
-    (conflict_first (known old.bytes.items a) _ old.conflict new.conflict (Some (record { at_record = number; position = pos place })) fresh now (conflict_here number place l first (known old.bytes.items a) is d))
+    (conflict_first (known old.bytes a) _ old.conflict new.conflict (Some (record { at_record = number; position = pos place })) fresh now (conflict_here number place l first (known old.bytes a) is d))
 
 pub none_of : (k : Option Conflict) → is_some k ≡ false → k ≡ None
 none_of None h = refl
@@ -275,18 +275,18 @@ came_letter : (c : Carried) (p : ℕ) → letter_came c (p + 2 ^ 31) ≡ option_
 came_letter c p = ap (option_map (λ (l : Letter). let r : FirstLetter = record { letter = l; number = c.number } in r)) (shifted c.at c.text p (2 ^ 31))
 
 -- letters that none was known of, and are kept apart
-pub takes_apart : (c : Carried) (flow : Flow) (a b : BTreeMap ℕ Portion) → ((q : ℕ) → kept b q ≡ option_or (kept a q) (letter_came c q)) →
-    ((p : ℕ) (l : Letter) → letter_of c p ≡ Some l → known flow.bytes.items a p ≡ None) → Takes c flow a flow b
+pub takes_apart : (c : Carried) (flow : FlowValue) (a b : BTreeMap ℕ Portion) → ((q : ℕ) → kept b q ≡ option_or (kept a q) (letter_came c q)) →
+    ((p : ℕ) (l : Letter) → letter_of c p ≡ Some l → known flow.bytes a p ≡ None) → Takes c flow a flow b
 takes_apart c flow a b holds blank = record {
   knows = λ p.
-      elim (cases_lt p (length flow.bytes.items)) [
-        | inl v ↦ (let m : nat_lt p (length flow.bytes.items) ≡ true = grind (arith, nat_tests, v) in rw m refl)
-        | inr v ↦ (let m : nat_lt p (length flow.bytes.items) ≡ false = grind (arith, nat_tests, v) in
+      elim (cases_lt p (length flow.bytes)) [
+        | inl v ↦ (let m : nat_lt p (length flow.bytes) ≡ true = grind (arith, nat_tests, v) in rw m refl)
+        | inr v ↦ (let m : nat_lt p (length flow.bytes) ≡ false = grind (arith, nat_tests, v) in
             rw m (ap (option_map (λ (k : FirstLetter). k.letter)) (holds (p + 2 ^ 31) ∙ ap (option_or (kept a (p + 2 ^ 31))) (came_letter c p))
             ∙ only_letter (kept a (p + 2 ^ 31)) c.number (letter_of c p)))
       ];
   holds = λ q none. holds q;
-  conflicts = no_conflict (known flow.bytes.items a) c flow.conflict flow.conflict refl (λ p x. none-some x.first (sym (blank p x.other x.is) ∙ x.was));
+  conflicts = no_conflict (known flow.bytes a) c flow.conflict flow.conflict refl (λ p x. none-some x.first (sym (blank p x.other x.is) ∙ x.was));
   grows = grows_nothing c.number flow;
 }
 
@@ -296,15 +296,35 @@ unknown bytes a p v none =
     let m : nat_lt p (length bytes) ≡ false = grind (arith, nat_tests, v) in
     rw m (ap (option_map (λ (k : FirstLetter). k.letter)) none)
 
+-- what is not known is not kept
+unkept : (bytes : List ℕ) (a : BTreeMap ℕ Portion) (p : ℕ) → known bytes a p ≡ None → kept a (p + 2 ^ 31) ≡ None
+unkept bytes a p none =
+    elim (cases_lt p (length bytes)) [
+      | inl v ↦ (let m : nat_lt p (length bytes) ≡ true = grind (arith, nat_tests, v) in absurd (none-some (Byte (get_or bytes p 0)) (sym (rw m at none))))
+      | inr v ↦ (let m : nat_lt p (length bytes) ≡ false = grind (arith, nat_tests, v) in mapped_none (λ (k : FirstLetter). k.letter) (kept a (p + 2 ^ 31)) (rw m at none))
+    ]
+
+count_one : (l : Heard) → letter_count (stream_of l) ≡ 1
+count_one (heard.Byte b) = refl
+count_one heard.End = refl
+
+-- there is room for a letter that is not known
+pub room_for_one : (bytes : List ℕ) (a : BTreeMap ℕ Portion) (p q : ℕ) (l : Heard) (s : Stream) → s ≡ stream_of l → known bytes a p ≡ None → q ≡ p + 2 ^ 31 →
+    IsRoom q (letter_count s) a
+room_for_one bytes a p q l s is none here = record {
+  here = λ some. ap (kept a) here ∙ unkept bytes a p none;
+  behind = λ r low high. absurd (omega (arith, low, high, ap letter_count is ∙ count_one l));
+}
+
 natural : (z : ℤ) → pos 0 ≤ℤ z → (n : ℕ) × (z ≡ pos n)
 natural (pos n) h = (n, refl)
 natural (negsuc n) h = absurd (omega (arith, ints, h))
 
 -- bytes where there is room, and no byte of the flow
-pub takes_bytes : (number : ℕ) (at : ℤ) (xs : List ℕ) (flow : Flow) (a b : BTreeMap ℕ Portion) →
+pub takes_bytes : (number : ℕ) (at : ℤ) (xs : List ℕ) (flow : FlowValue) (a b : BTreeMap ℕ Portion) →
     ((q : ℕ) → kept b q ≡ option_or (kept a q) (letter_came (bytes_from number at xs) q)) → (pos 0 -ℤ pos (2 ^ 31)) ≤ℤ at →
     ((q : ℕ) → pos q ≡ at +ℤ pos (2 ^ 31) → IsRoom q (length xs) a) →
-    ((at +ℤ pos (length xs)) ≤ℤ pos 0) ⊎ (pos (length flow.bytes.items) ≤ℤ at) → Takes (bytes_from number at xs) flow a flow b
+    ((at +ℤ pos (length xs)) ≤ℤ pos 0) ⊎ (pos (length flow.bytes) ≤ℤ at) → Takes (bytes_from number at xs) flow a flow b
 takes_bytes number at xs flow a b holds from room apart =
     takes_apart (bytes_from number at xs) flow a b holds (λ p l is.
     let low = is_behind at (record { bytes = xs; ended = false }) p l is in
@@ -315,8 +335,75 @@ takes_bytes number at xs flow a b holds from room apart =
           let n = at_least.0 in
           let e : at ≡ pos n = at_least.1 in
           let r : IsRoom (n + 2 ^ 31) (length xs) a = room (n + 2 ^ 31) (omega (arith, ints, e)) in
-          unknown flow.bytes.items a p (omega (arith, ints, v, low)) (none_in_room a (n + 2 ^ 31) (length xs) (p + 2 ^ 31) r (omega (arith, ints, low, e)) (omega (arith, ints, high, e))))
+          unknown flow.bytes a p (omega (arith, ints, v, low)) (none_in_room a (n + 2 ^ 31) (length xs) (p + 2 ^ 31) r (omega (arith, ints, low, e)) (omega (arith, ints, high, e))))
     ])
+
+-- behind the other bytes, where nothing is kept, the bytes that come are known
+knows_next : (old new xs : List ℕ) (a : BTreeMap ℕ Portion) → ((q : ℕ) → kept a q ≡ None) → new ≡ old ++ xs → (p : ℕ) →
+    known new a p ≡ option_or (known old a p) (letter_from (pos (length old)) (record { bytes = xs; ended = false }) p)
+knows_next old new xs a none e p =
+    let n : length new ≡ length old + length xs = ap length e ∙ length-append old xs in
+    elim (cases_lt p (length old)) [
+      | inl v ↦ (let g : get_or new p 0 ≡ get_or old p 0 = ap (λ (ys : List ℕ). get_or ys p 0) e ∙ get_or_append_left old xs 0 p v in
+          let l : nat_lt p (length new) ≡ true = rw n (grind (arith, nat_tests, v)) in
+          let m : nat_lt p (length old) ≡ true = grind (arith, nat_tests, v) in
+          rw (l, m, g) refl)
+      | inr v ↦
+          let k = p - length old in
+          let from = from_at (pos (length old)) (record { bytes = xs; ended = false }) p k (omega (arith, ints, v)) in
+          rw (unknown old a p v (none (p + 2 ^ 31)))
+          (elim (cases_lt k (length xs)) [
+            | inl w ↦ (let g : get_or new p 0 ≡ get_or xs k 0 = ap (λ (ys : List ℕ). get_or ys p 0) e ∙ get_or-append_right old xs (length old) p 0 refl v in
+                let l : nat_lt p (length new) ≡ true = rw n (grind (arith, nat_tests, v, w)) in
+                let is : known new a p ≡ Some (Byte (get_or xs k 0)) = rw (l, g) refl in
+                is ∙ sym (from ∙ at_byte xs false k w))
+            | inr w ↦ unknown new a p (omega (arith, n, v, w)) (none (p + 2 ^ 31)) ∙ sym (from ∙ at_all xs k w)
+          ])
+    ]
+
+-- those that stand apart are the same after bytes of their own places
+holds_next : (number count : ℕ) (xs : List ℕ) (a : BTreeMap ℕ Portion) (q : ℕ) → is_own (count + length xs) q ≡ false →
+    kept a q ≡ option_or (kept a q) (letter_came (bytes_from number (pos count) xs) q)
+holds_next number count xs a q own =
+    let z = pos count +ℤ pos (2 ^ 31) in
+    let s : Stream = record { bytes = xs; ended = false } in
+    let none : letter_from z s q ≡ None = elim (stands_to z q) [
+      | inl v ↦ from_before z s q v
+      | inr (k, e) ↦
+          let i : q ≡ (count + k) + 2 ^ 31 = omega (arith, ints, e) in
+          let past = own_not (count + length xs) (count + k) (subst (λ (r : ℕ). is_own (count + length xs) r ≡ false) i own) in
+          from_at z s q k e ∙ at_all xs k (omega (arith, past))
+    ] in
+    sym (ap (λ (o : Option Letter). option_or (kept a q) (option_map (λ (l : Letter). let r : FirstLetter = record { letter = l; number = number } in r) o)) none
+    ∙ first_or_none (kept a q))
+
+-- bytes behind the others, where none stands apart
+pub takes_next : (number : ℕ) (xs : List ℕ) (old new : FlowValue) (a : BTreeMap ℕ Portion) → ((q : ℕ) → kept a q ≡ None) → new.bytes ≡ old.bytes ++ xs →
+    Grows number old new → new.conflict ≡ old.conflict → Takes (bytes_from number (pos (length old.bytes)) xs) old a new a
+takes_next number xs old new a none more grows same =
+    let count = length old.bytes in
+    let size : length new.bytes ≡ count + length xs = ap length more ∙ length-append old.bytes xs in
+    record {
+      knows = knows_next old.bytes new.bytes xs a none more;
+      holds = λ q own. holds_next number count xs a q (subst (λ (k : ℕ). is_own k q ≡ false) size own);
+      conflicts = no_conflict (known old.bytes a) (bytes_from number (pos count) xs) old.conflict new.conflict same (λ p x.
+          let from = is_behind (pos count) (record { bytes = xs; ended = false }) p x.other x.is in
+          none-some x.first (sym (unknown old.bytes a p (omega (arith, ints, from)) (none (p + 2 ^ 31))) ∙ x.was));
+      grows = grows;
+    }
+
+-- no bytes
+pub takes_nothing : (number : ℕ) (at : ℤ) (flow : FlowValue) (a : BTreeMap ℕ Portion) → Takes (bytes_from number at []) flow a flow a
+takes_nothing number at flow a =
+    let none : (z : ℤ) (p : ℕ) → letter_from z (record { bytes = []; ended = false }) p ≡ None =
+    λ z p. elim (stands_to z p) [
+      | inl v ↦ from_before z (record { bytes = []; ended = false }) p v
+      | inr (k, e) ↦ from_at z (record { bytes = []; ended = false }) p k e ∙ at_all [] k (omega arith)
+    ] in
+    takes_apart (bytes_from number at []) flow a a
+    (λ q. sym (ap (λ (o : Option Letter). option_or (kept a q) (option_map (λ (l : Letter). let r : FirstLetter = record { letter = l; number = number } in r) o)) (none (at +ℤ pos (2 ^ 31)) q)
+    ∙ first_or_none (kept a q)))
+    (λ p l is. absurd (none-some l (sym (none at p) ∙ is)))
 
 -- a portion stands for the letters of a packet
 pub kept_apart : (c : Carried) (p : Portion) (a b : BTreeMap ℕ Portion) (place : ℕ) → pos place ≡ c.at +ℤ pos (2 ^ 31) → p.number ≡ c.number → row_value p.letters ≡ c.text →
@@ -338,9 +425,9 @@ kept_apart c p a b place here number text before behind q =
     ]
 
 -- a letter alone that none was known of
-pub takes_one : (number : ℕ) (at : ℤ) (l : Heard) (s : Stream) (flow : Flow) (a b : BTreeMap ℕ Portion) → s ≡ stream_of l →
+pub takes_one : (number : ℕ) (at : ℤ) (l : Heard) (s : Stream) (flow : FlowValue) (a b : BTreeMap ℕ Portion) → s ≡ stream_of l →
     ((q : ℕ) → kept b q ≡ option_or (kept a q) (letter_came (record { number = number; at = at; text = s }) q)) → pos 0 ≤ℤ at →
-    ((place : ℕ) → pos place ≡ at → known flow.bytes.items a place ≡ None) → Takes (record { number = number; at = at; text = stream_of l }) flow a flow b
+    ((place : ℕ) → pos place ≡ at → known flow.bytes a place ≡ None) → Takes (record { number = number; at = at; text = stream_of l }) flow a flow b
 takes_one number at l s flow a b is holds from blank =
     let place = (natural at from).0 in
     let e : at ≡ pos place = (natural at from).1 in

@@ -1,11 +1,12 @@
 -- Steps of the proof: what a watcher keeps of a flow in memory, and what the letters of a packet do to it: `Takes`.
-use Rattle.std.specs.Prelude.{◌≡◌, ◌+◌, ◌-◌, ◌^◌, ◌≤◌, ◌<◌, ℕ, zero, suc, nat_lt, if◌then◌else◌, List, [], ◌∷◌, ◌++◌, length, replicate, slice_index, true, false}
+use Rattle.std.specs.Prelude.{◌≡◌, ◌≢◌, ◌+◌, ◌-◌, ◌^◌, ◌≤◌, ◌<◌, ◌≤ℤ◌, ◌⊎◌, ℕ, ℤ, pos, zero, suc, nat_lt, if◌then◌else◌, List, [], ◌∷◌, ◌++◌, length, replicate, slice_index, true, false}
 use Rattle.std.specs.Prelude.{Option, Some, None, is_some, option_map}
 use Rattle.std.specs.BTreeMap.{BTreeMap, btree_map_len, get}
 use Rattle.std.specs.Option.{option_or}
 use Rattle.std.specs.Ordering.{nat_cmp}
 use Rattle.cf_stream.specs.Stream.{Byte, End, Letter, Stream, letter_at, letter_count, letter_from}
 use Rattle.cf_watch.specs.Carried.{Carried, IsConflictAfter}
+use Rattle.cf_watch.specs.FlowValue.{FlowValue}
 use Rattle.cf_watch.specs.declared.flow.Flow.{Flow}
 use Rattle.cf_watch.specs.Stretches.{FirstLetter, Run as RunValue, apart, is_own, letter_came, runs_of}
 use Rattle.cf_watch.specs.declared.ahead.Letters.{Letters}
@@ -62,20 +63,52 @@ stream_of (heard.Byte b) = record { bytes = b ∷ []; ended = false }
 stream_of heard.End = record { bytes = []; ended = true }
 
 -- the bytes went on, each with this record, and the flow is else the same
-pub record Grows (number : ℕ) (old new : Flow) : Type 0 where
+pub record Grows (number : ℕ) (old new : FlowValue) : Type 0 where
   pub more : List ℕ
-  pub bytes : new.bytes.items ≡ old.bytes.items ++ more
+  pub bytes : new.bytes ≡ old.bytes ++ more
   pub born : new.born ≡ old.born ++ replicate (length more) number
   pub client : new.client ≡ old.client
   pub asset : new.asset ≡ old.asset
   pub midstream : new.midstream ≡ old.midstream
 
 -- the letters of a packet were taken: each is known where none was, and the first that differs is a conflict
-pub record Takes (c : Carried) (old : Flow) (old_ahead : BTreeMap ℕ Portion) (new : Flow) (new_ahead : BTreeMap ℕ Portion) : Type 0 where
-  pub knows : (p : ℕ) → known new.bytes.items new_ahead p ≡ option_or (known old.bytes.items old_ahead p) (letter_from c.at c.text p)
-  pub holds : Holds c old_ahead (length new.bytes.items) new_ahead
-  pub conflicts : IsConflictAfter (known old.bytes.items old_ahead) c old.conflict new.conflict
+pub record Takes (c : Carried) (old : FlowValue) (old_ahead : BTreeMap ℕ Portion) (new : FlowValue) (new_ahead : BTreeMap ℕ Portion) : Type 0 where
+  pub knows : (p : ℕ) → known new.bytes new_ahead p ≡ option_or (known old.bytes old_ahead p) (letter_from c.at c.text p)
+  pub holds : Holds c old_ahead (length new.bytes) new_ahead
+  pub conflicts : IsConflictAfter (known old.bytes old_ahead) c old.conflict new.conflict
   pub grows : Grows c.number old new
+
+-- a flow in memory, with the bytes before that are kept no more and their records
+abbrev pub with_gone : (gone gone_born : List ℕ) → Flow → FlowValue
+with_gone gone gone_born f = record {
+  client = f.client;
+  asset = f.asset;
+  midstream = f.midstream;
+  bytes = gone ++ f.bytes.items;
+  born = gone_born ++ f.born;
+  conflict = f.conflict;
+}
+
+-- the bytes went on, whatever stood in front of them
+abbrev pub GrowsBehind : (number : ℕ) → (old new : Flow) → Type 0
+GrowsBehind number old new = (gone gone_born : List ℕ) → Grows number (with_gone gone gone_born old) (with_gone gone gone_born new)
+
+-- the bytes went on over what came ahead, up to where no byte stands
+pub record Advances (number : ℕ) (ahead : BTreeMap ℕ Portion) (old new : FlowValue) : Type 0 where
+  pub knows : (p : ℕ) → known new.bytes ahead p ≡ known old.bytes ahead p
+  pub grows : Grows number old new
+  pub stops : (b : ℕ) → known new.bytes ahead (length new.bytes) ≢ Some (Byte b)
+  pub conflict : new.conflict ≡ old.conflict
+
+-- whatever stood in front of the bytes of a flow, so many of which are kept no more, the letters of a packet were taken
+abbrev pub TakesBehind : (base : ℕ) → Carried → (old : Flow) → BTreeMap ℕ Portion → (new : Flow) → BTreeMap ℕ Portion → Type 0
+TakesBehind base c old old_ahead new new_ahead =
+    (gone gone_born : List ℕ) → length gone ≡ base →
+    Takes c (with_gone gone gone_born old) old_ahead (with_gone gone gone_born new) new_ahead
+
+-- a place is none of those whose bytes are kept no more
+abbrev pub IsKept : (base : ℕ) → ℤ → Type 0
+IsKept base at = (base ≡ 0) ⊎ (pos base ≤ℤ at)
 
 -- of a portion from a place on these are the letters up to where the next one begins
 pub record IsUpToNext (ahead : BTreeMap ℕ Portion) (start : ℕ) (all first : Portion) : Type 0 where

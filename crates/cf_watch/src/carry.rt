@@ -1,9 +1,10 @@
 //! What the letters of a packet do to a flow.
 ghost use Rattle.std.specs.Prelude.{◌≡◌, ◌≢◌, ◌+◌, ◌^◌, ◌++◌, ◌∷◌, [], IfSome, ◌<◌, ◌≤◌, ◌≤ℤ◌, ◌⊎◌, ℕ, pos, None, Some};
-ghost use Rattle.std.specs.Prelude.{OnOk, IfOk, false, length, option_map, take, ◌↔◌, IsTrue, ◌-ℤ◌, ◌<ℤ◌, ◌+ℤ◌};
+ghost use Rattle.std.specs.Prelude.{OnOk, IfOk, false, true, List, length, option_map, take, ◌↔◌, IsTrue, ◌-ℤ◌, ◌<ℤ◌, ◌+ℤ◌};
 ghost use Rattle.std.specs.Option.{option_or};
 ghost use Rattle.cf_stream.specs.Stream.{Byte, letter_count};
-ghost use Rattle.cf_watch.specs.Kept.{Grows, IsRoom, Takes, kept, known, letter_value, row_value, stream_of};
+ghost use Rattle.cf_watch.specs.Kept.{Advances, GrowsBehind, IsKept, IsRoom, TakesBehind, kept, known, letter_value, row_value};
+ghost use Rattle.cf_watch.specs.Kept.{stream_of, with_gone};
 ghost use Rattle.cf_watch.specs.Stretches.{letter_came};
 
 use crate::ahead::{Ahead, Letters, Portion, keep_portion, letter_kept, room_at};
@@ -15,13 +16,15 @@ use std::alloc::Global;
 /// How far below position 0 a letter stands at most, since numbers are read within 2^31 of a position that is at least 0.
 pub(crate) const BELOW: u64 = 1 << 31;
 
-/// The letter that is known at a place.
-fn letter_at(bytes: &[u8], ahead: &Ahead, place: u64) -> Option<Letter>
-    requires { place ≤ 2 ^ 63 }
-    ensures { option_map letter_value result ≡ known bytes.now ahead.now place }
+/// The letter that is known at a place. The bytes of the flow before this base are kept no more.
+fn letter_at(bytes: &[u8], base: u64, ahead: &Ahead, place: u64) -> Option<Letter>
+    requires place { place ≤ 2 ^ 63 }
+    requires kept { base ≤ place }
+    ensures { (gone : List ℕ) → length gone ≡ base → option_map letter_value result ≡ known (gone ++ bytes.now) ahead.now place }
 {
-    if place < bytes.len() as u64 {
-        return Some(Letter::Byte(bytes[place as usize]));
+    let kept = place - base;
+    if kept < bytes.len() as u64 {
+        return Some(Letter::Byte(bytes[kept as usize]));
     }
     letter_kept(ahead, place + BELOW)
 }
@@ -29,11 +32,26 @@ fn letter_at(bytes: &[u8], ahead: &Ahead, place: u64) -> Option<Letter>
 /// Puts a byte after the others.
 fn push(flow: &mut Flow, number: u64, byte: u8) -> Result<(), NoMemory>
     requires number { number < 2 ^ 32 }
-    ensures grows { OnOk result (Grows number flow.old flow.new) }
+    ensures grows { OnOk result (GrowsBehind number flow.old flow.new) }
     ensures bytes { OnOk result (flow.new.bytes.items ≡ flow.old.bytes.items ++ byte ∷ []) }
     ensures conflict { flow.new.conflict ≡ flow.old.conflict }
 {
     if flow.bytes.push(byte).is_err() || flow.born.push(number).is_err() {
+        return Err(NoMemory);
+    }
+    Ok(())
+}
+
+/// Puts a text after the other bytes.
+fn carry_on(flow: &mut Flow, number: u64, text: &[u8]) -> Result<(), NoMemory>
+    requires number { number < 2 ^ 32 }
+    ensures grows { OnOk result (GrowsBehind number flow.old flow.new) }
+    ensures bytes { OnOk result (flow.new.bytes.items ≡ flow.old.bytes.items ++ text.now) }
+    ensures conflict { flow.new.conflict ≡ flow.old.conflict }
+{
+    if flow.bytes.extend_from_slice(text).is_err()
+        || flow.born.push_all(number, text.len()).is_err()
+    {
         return Err(NoMemory);
     }
     Ok(())
@@ -95,19 +113,22 @@ fn one(alloc: Global, letter: Letter) -> Result<Letters, NoMemory>
 fn keep(
     alloc: Global,
     flow: &mut Flow,
+    base: u64,
     ahead: &mut Ahead,
     number: u64,
     at: i64,
     letter: Letter,
 ) -> Result<(), NoMemory>
     requires number { number < 2 ^ 32 }
+    requires base { base ≤ 2 ^ 62 }
     requires from { pos 0 ≤ℤ at }
     requires past { at ≤ℤ pos (2 ^ 62 + 2 ^ 16) }
-    requires blank { (place : ℕ) → pos place ≡ at → known flow.old.bytes.items ahead.old place ≡ None }
-    ensures takes { OnOk result (Takes (record { number = number; at = at; text = stream_of letter }) flow.old ahead.old flow.new
+    requires blank { (gone : List ℕ) (place : ℕ) → length gone ≡ base → pos place ≡ at
+        → known (gone ++ flow.old.bytes.items) ahead.old place ≡ None }
+    ensures takes { OnOk result (TakesBehind base (record { number = number; at = at; text = stream_of letter }) flow.old ahead.old flow.new
         ahead.new) }
 {
-    match next_byte(flow.bytes.len(), at, letter) {
+    match next_byte(reached(flow, base), at, letter) {
         Some(byte) => {
             push(flow, number, byte)?;
             Ok(())
@@ -120,14 +141,22 @@ fn keep(
     }
 }
 
+/// How many bytes a flow has, with those before this base, which are kept no more.
+fn reached(flow: &Flow, base: u64) -> u64
+    requires { base ≤ 2 ^ 62 }
+    ensures { result ≡ base + length flow.now.bytes.items }
+{
+    base + flow.bytes.len() as u64
+}
+
 /// The byte that a letter is, where it stands behind those of a flow, which has so many.
-fn next_byte(count: usize, at: i64, letter: Letter) -> Option<u8>
+fn next_byte(count: u64, at: i64, letter: Letter) -> Option<u8>
     requires { pos 0 ≤ℤ at }
     ensures letter { IfSome result (λ byte. letter ≡ Letter.Byte byte) }
     ensures place { IfSome result (λ byte. pos count ≡ at) }
 {
     match letter {
-        Letter::Byte(byte) if at as u64 == count as u64 => Some(byte),
+        Letter::Byte(byte) if at as u64 == count => Some(byte),
         Letter::Byte(_) | Letter::End => None,
     }
 }
@@ -165,15 +194,18 @@ fn differ(first: Letter, other: Letter) -> bool
 fn carry_letter(
     alloc: Global,
     flow: &mut Flow,
+    base: u64,
     ahead: &mut Ahead,
     number: u64,
     at: i64,
     letter: Letter,
 ) -> Result<(), NoMemory>
     requires number { number < 2 ^ 32 }
+    requires base { base ≤ 2 ^ 62 }
+    requires kept { IsKept base at }
     requires from { (pos 0 -ℤ pos (2 ^ 31)) ≤ℤ at }
     requires past { at ≤ℤ pos (2 ^ 62 + 2 ^ 16) }
-    ensures takes { OnOk result (Takes (record { number = number; at = at; text = stream_of letter }) flow.old ahead.old flow.new
+    ensures takes { OnOk result (TakesBehind base (record { number = number; at = at; text = stream_of letter }) flow.old ahead.old flow.new
         ahead.new) }
 {
     if at < 0 {
@@ -181,9 +213,9 @@ fn carry_letter(
         return Ok(());
     }
     let place = at as u64;
-    match letter_at(flow.bytes.as_slice(), ahead, place) {
+    match letter_at(flow.bytes.as_slice(), base, ahead, place) {
         None => {
-            keep(alloc, flow, ahead, number, at, letter)?;
+            keep(alloc, flow, base, ahead, number, at, letter)?;
             Ok(())
         }
         Some(first) => {
@@ -199,7 +231,7 @@ fn carry_letter(
 }
 
 /// How many letters of a packet, at most so many, can be kept apart at once from a place on, where the flow has so many bytes.
-fn room_apart(count: usize, ahead: &Ahead, at: i64, most: usize) -> usize
+fn room_apart(count: u64, ahead: &Ahead, at: i64, most: usize) -> usize
     requires from { (pos 0 -ℤ pos (2 ^ 31)) ≤ℤ at }
     requires past { at ≤ℤ pos (2 ^ 62 + 2 ^ 16) }
     ensures most { result ≤ most }
@@ -209,7 +241,7 @@ fn room_apart(count: usize, ahead: &Ahead, at: i64, most: usize) -> usize
     if at < 0 {
         return room_at(ahead, key_at(at), most.min((0 - at) as usize));
     }
-    if at as u64 <= count as u64 {
+    if at as u64 <= count {
         return 0;
     }
     room_at(ahead, key_at(at), most)
@@ -239,27 +271,44 @@ fn keep_bytes(
     Ok(())
 }
 
-/// Takes the first bytes of a text that a packet carries, and answers how many.
+/// Whether a place is the one behind the bytes of a flow, which has so many, and no letter stands apart from them.
+fn is_next(count: u64, ahead: &Ahead, at: i64) -> bool
+    ensures place { result ≡ true → pos count ≡ at }
+    ensures alone { result ≡ true → (q : ℕ) → kept ahead.now q ≡ None }
+{
+    at >= 0 && at as u64 == count && ahead.is_empty()
+}
+
+/// Takes the first bytes of a text that a packet carries, and answers how many: all of one that comes in order.
 fn carry_some(
     alloc: Global,
     flow: &mut Flow,
+    base: u64,
     ahead: &mut Ahead,
     number: u64,
     at: i64,
     text: &[u8],
 ) -> Result<usize, NoMemory>
     requires number { number < 2 ^ 32 }
+    requires base { base ≤ 2 ^ 62 }
+    requires kept { IsKept base at }
     requires from { (pos 0 -ℤ pos (2 ^ 31)) ≤ℤ at }
     requires past { at ≤ℤ pos (2 ^ 62 + 2 ^ 16) }
     requires some { 0 < length text.now }
     ensures some { IfOk result (λ n. 0 < n) }
     ensures most { IfOk result (λ n. n ≤ length text.now) }
-    ensures takes { IfOk result (λ n. Takes (record { number = number; at = at; text = record { bytes = take n text.now; ended = false } })
+    ensures takes { IfOk result (λ n. TakesBehind base
+        (record { number = number; at = at; text = record { bytes = take n text.now; ended = false } })
         flow.old ahead.old flow.new ahead.new) }
 {
-    let count = room_apart(flow.bytes.len(), ahead, at, text.len());
+    let next = reached(flow, base);
+    if is_next(next, ahead, at) {
+        carry_on(flow, number, text)?;
+        return Ok(text.len());
+    }
+    let count = room_apart(next, ahead, at, text.len());
     if count == 0 {
-        carry_letter(alloc, flow, ahead, number, at, Letter::Byte(text[0]))?;
+        carry_letter(alloc, flow, base, ahead, number, at, Letter::Byte(text[0]))?;
         return Ok(1);
     }
     keep_bytes(alloc, ahead, number, at, &text[..count])?;
@@ -270,29 +319,33 @@ fn carry_some(
 fn carry_text(
     alloc: Global,
     flow: &mut Flow,
+    base: u64,
     ahead: &mut Ahead,
     number: u64,
     at: i64,
     text: &[u8],
 ) -> Result<(), NoMemory>
     requires number { number < 2 ^ 32 }
+    requires base { base ≤ 2 ^ 62 }
+    requires kept { IsKept base at }
     requires from { (pos 0 -ℤ pos (2 ^ 31)) ≤ℤ at }
     requires past { at ≤ℤ pos (2 ^ 62) }
     requires short { length text.now ≤ 65535 }
-    ensures takes { OnOk result (Takes (record { number = number; at = at; text = record { bytes = text.now; ended = false } }) flow.old
-        ahead.old flow.new ahead.new) }
+    ensures takes { OnOk result (TakesBehind base
+        (record { number = number; at = at; text = record { bytes = text.now; ended = false } }) flow.old ahead.old flow.new ahead.new) }
 {
     let mut i = 0;
     'letters: while i < text.len() {
-        i += carry_some(alloc, flow, ahead, number, at + i as i64, &text[i..])?;
+        i += carry_some(alloc, flow, base, ahead, number, at + i as i64, &text[i..])?;
     }
     Ok(())
 }
 
-/// Takes the letters of a packet.
+/// Takes the letters of a packet to a flow whose bytes before this base are kept no more.
 pub(crate) fn carry(
     alloc: Global,
     flow: &mut Flow,
+    base: u64,
     ahead: &mut Ahead,
     number: u64,
     at: i64,
@@ -300,17 +353,20 @@ pub(crate) fn carry(
     ended: bool,
 ) -> Result<(), NoMemory>
     requires number { number < 2 ^ 32 }
+    requires base { base ≤ 2 ^ 62 }
+    requires kept { IsKept base at }
     requires from { (pos 0 -ℤ pos (2 ^ 31)) ≤ℤ at }
     requires past { at ≤ℤ pos (2 ^ 62) }
     requires short { length text.now ≤ 65535 }
-    ensures takes { OnOk result (Takes (record { number = number; at = at; text = record { bytes = text.now; ended = ended } }) flow.old
-        ahead.old flow.new ahead.new) }
+    ensures takes { OnOk result (TakesBehind base
+        (record { number = number; at = at; text = record { bytes = text.now; ended = ended } }) flow.old ahead.old flow.new ahead.new) }
 {
-    carry_text(alloc, flow, ahead, number, at, text)?;
+    carry_text(alloc, flow, base, ahead, number, at, text)?;
     if ended {
         carry_letter(
             alloc,
             flow,
+            base,
             ahead,
             number,
             at + text.len() as i64,
@@ -321,15 +377,19 @@ pub(crate) fn carry(
 }
 
 /// Goes on over the bytes that came ahead, up to the first gap or End.
-pub(crate) fn advance(flow: &mut Flow, ahead: &Ahead, number: u64) -> Result<(), NoMemory>
+pub(crate) fn advance(
+    flow: &mut Flow,
+    base: u64,
+    ahead: &Ahead,
+    number: u64,
+) -> Result<(), NoMemory>
     requires number { number < 2 ^ 32 }
-    ensures knows { OnOk result ((p : ℕ) → known flow.new.bytes.items ahead.now p ≡ known flow.old.bytes.items ahead.now p) }
-    ensures grows { OnOk result (Grows number flow.old flow.new) }
-    ensures stops { OnOk result ((b : ℕ) → known flow.new.bytes.items ahead.now (length flow.new.bytes.items) ≢ Some (Byte b)) }
-    ensures conflict { flow.new.conflict ≡ flow.old.conflict }
+    requires base { base ≤ 2 ^ 62 }
+    ensures advances { OnOk result ((gone gone_born : List ℕ) → length gone ≡ base
+        → Advances number ahead.now (with_gone gone gone_born flow.old) (with_gone gone gone_born flow.new)) }
 {
     'bytes: loop {
-        match letter_kept(ahead, flow.bytes.len() as u64 + BELOW) {
+        match letter_kept(ahead, reached(flow, base) + BELOW) {
             Some(Letter::Byte(byte)) => push(flow, number, byte)?,
             Some(Letter::End) | None => return Ok(()),
         }

@@ -1,6 +1,7 @@
 //! Flows that a capture shows.
-ghost use Rattle.std.specs.Prelude.{◌≡◌, ◌<◌, length, slice_index};
+ghost use Rattle.std.specs.Prelude.{◌≡◌, ◌<◌, ◌≤◌, length, slice_index};
 ghost use Rattle.cf_watch.specs.FlowValue.{flow_value};
+ghost use Rattle.cf_watch.specs.Trail.{IsWithout};
 
 use crate::born::Born;
 use cf_view::Endpoint;
@@ -39,6 +40,18 @@ impl Flow {
         ensures { result ≡ slice_index (flow_value self.now).born place }
     {
         self.born.record_at(place)
+    }
+
+    /// Keeps its first bytes, so many, and their records no more.
+    pub(crate) fn forget(&mut self, count: usize)
+        requires inside { count ≤ length self.old.bytes.items }
+        requires born { length self.old.born ≡ length self.old.bytes.items }
+        ensures { IsWithout count (flow_value self.old) (flow_value self.new) }
+    {
+        let left = self.bytes.len() - count;
+        self.bytes.rotate_left(count);
+        self.bytes.truncate(left);
+        self.born.forget(count);
     }
 }
 

@@ -8,6 +8,7 @@ ghost use Rattle.cf_watch.specs.Watch.{WatchesAs};
 
 use crate::fault::{CAPTURE_LIMIT, WatchFault, WatchRefusal};
 use crate::flow::Flow;
+use crate::hearing::hear_capture;
 use crate::recorder::Recorder;
 use crate::scope::Scope;
 use cf_outside::{Files, ReadAnswer};
@@ -39,7 +40,14 @@ pub fn watch<F: Files>(
     }
     let assets = policy.assets.as_slice();
     let mut recorder = Recorder::new(alloc);
-    match recorder.read(alloc, Scope::Connections, assets, capture, files) {
+    match hear_capture(
+        alloc,
+        Scope::Connections,
+        assets,
+        capture,
+        &mut recorder,
+        files,
+    ) {
         Ok(()) => Ok(recorder.watch.flows),
         Err(fault) => Err(fault),
     }

@@ -1,17 +1,18 @@
 //! The bytes of flows that do not follow on their first ones.
 ghost use Rattle.std.specs.Prelude.{◌≡◌, ◌∷◌, [], ◌++◌, ◌^◌, ◌≤◌, List, IfOk, OnOk, Option, Some, None, if◌then◌else◌, length, map, pos, reverse, ◌==◌, ◌+◌};
-ghost use Rattle.std.specs.Prelude.{ℕ, slice_index, ◌<◌};
+ghost use Rattle.std.specs.Prelude.{ℕ, slice_get, slice_index, ◌<◌};
 ghost use Rattle.cf_stream.specs.Stream.{Byte, letter_count};
 ghost use Rattle.cf_watch.specs.FlowValue.{flow_value, stretch_value};
 ghost use Rattle.cf_watch.specs.Kept.{HasRuns, letter_of_portion, row_value, run_value};
 ghost use Rattle.cf_watch.specs.Stretches.{FirstLetter, all_stretches, apart, is_nil, is_own, longer, run_at, runs_of, stretch_of, stretches_from, stretches_of, with_byte, with_place};
-ghost use Rattle.cf_watch.specs.Trail.{IsHeard, IsWatchOf};
+ghost use Rattle.cf_watch.specs.Trail.{Heard, IsHeard, IsWatchOf};
 ghost use Rattle.cf_watch.specs.Watched.{Watched};
 
 use crate::ahead::{Ahead, Letters, Portion, take_first};
 use crate::born::Born;
 use crate::carry::BELOW;
 use crate::flow::{Flow, Stretch};
+use crate::scope::Scope;
 use crate::watching::{Trail, Watch};
 use cf_view::NoMemory;
 use std::alloc::Global;
@@ -178,12 +179,13 @@ fn runs_in(alloc: Global, count: usize, ahead: &mut Ahead) -> Result<Vec<Run>, N
     }
 }
 
-/// The position of the gap, which the first run of a flow tells.
-fn gap_of(flow: &Flow, before: &[Run]) -> Option<i64>
-    ensures { result ≡ (if is_nil (map run_value before.now) then Some (pos (length flow.now.bytes.items)) else None) }
+/// The position of the gap, which the first run of a flow tells: behind its first bytes, of which it has so many.
+fn gap_of(count: usize, before: &[Run]) -> Option<i64>
+    requires { count < 2 ^ 63 }
+    ensures { result ≡ (if is_nil (map run_value before.now) then Some (pos count) else None) }
 {
     if before.is_empty() {
-        Some(flow.bytes.len() as i64)
+        Some(count as i64)
     } else {
         None
     }
@@ -216,6 +218,20 @@ fn add_stretch(
     }
 }
 
+/// How many bytes a flow has, with those before this base, which are kept no more. More than a position counts are answered as want of
+/// memory.
+fn reached(flow: &Flow, base: u64) -> Result<usize, NoMemory>
+    requires { base ≤ 2 ^ 62 }
+    ensures count { IfOk result (λ count. count ≡ base + length flow.now.bytes.items) }
+    ensures few { IfOk result (λ count. count < 2 ^ 63) }
+{
+    let count = base + flow.bytes.len() as u64;
+    if count >= 1 << 63 {
+        return Err(NoMemory);
+    }
+    Ok(count as usize)
+}
+
 /// Adds the stretches of a flow.
 fn add_stretches(
     alloc: Global,
@@ -223,23 +239,26 @@ fn add_stretches(
     trail: &mut Trail,
     stretches: &mut Vec<Stretch>,
 ) -> Result<(), NoMemory>
-    ensures { OnOk result ((w : Watched) → IsHeard flow.now trail.old w → map stretch_value stretches.new.items
-        ≡ map stretch_value stretches.old.items ++ stretches_of w (flow_value flow.now)) }
+    requires base { trail.old.base ≤ 2 ^ 62 }
+    ensures { OnOk result ((scope : Scope) (w : Watched) (h : Heard) → IsHeard scope flow.now trail.old w h
+        → map stretch_value stretches.new.items ≡ map stretch_value stretches.old.items ++ stretches_of w h.value) }
 {
-    let mut runs = runs_in(alloc, flow.bytes.len(), &mut trail.ahead)?;
+    let count = reached(flow, trail.base)?;
+    let mut runs = runs_in(alloc, count, &mut trail.ahead)?;
     'runs: loop {
         match runs.pop() {
-            Some(run) => add_stretch(flow, gap_of(flow, runs.as_slice()), run, stretches)?,
+            Some(run) => add_stretch(flow, gap_of(count, runs.as_slice()), run, stretches)?,
             None => return Ok(()),
         }
     }
 }
 
-/// The stretches of all flows of a watch, flow by flow.
-pub(crate) fn stretches_in(alloc: Global, watch: &mut Watch) -> Result<Vec<Stretch>, NoMemory>
-    requires { length watch.old.flows.items ≡ length watch.old.trails.items }
-    ensures stretches { IfOk result (λ stretches. (number : ℕ) (ws : List Watched) → IsWatchOf number watch.old ws
-        → map stretch_value stretches.items ≡ all_stretches ws (map flow_value watch.old.flows.items)) }
+/// The stretches of all flows of a watch, flow by flow. Their bytes are taken out of it.
+pub fn stretches_in(alloc: Global, watch: &mut Watch) -> Result<Vec<Stretch>, NoMemory>
+    requires sizes { length watch.old.flows.items ≡ length watch.old.trails.items }
+    requires bases { (i : ℕ) (t : Trail) → slice_get watch.old.trails.items i ≡ Some t → t.base ≤ 2 ^ 62 }
+    ensures stretches { IfOk result (λ stretches. (scope : Scope) (number : ℕ) (ws : List Watched) (hs : List Heard)
+        → IsWatchOf scope number watch.old ws hs → map stretch_value stretches.items ≡ all_stretches ws (map (λ h. h.value) hs)) }
     ensures flows { watch.new.flows ≡ watch.old.flows }
 {
     let mut stretches = Vec::new(alloc);

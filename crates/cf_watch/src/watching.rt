@@ -1,17 +1,17 @@
 //! The flows of records, taken one after the other.
 //! A packet without text may be a keep-alive, whose number is before the next byte, so it begins no flow amid its stream; what
 //! comes later with a lower number than such a flow's first is none of its first bytes.
-ghost use Rattle.std.specs.Prelude.{◌≡◌, ◌+◌, ◌-◌, ◌*◌, cond, ◌^◌, ◌<◌, ◌≤◌, ◌++◌, ◌∷◌, ◌||◌, List, [], OnOk};
-ghost use Rattle.std.specs.Prelude.{IfOk, IfSome, Some, None, length, slice_get};
-ghost use Rattle.cf_packet.specs.Packet.{packet_answer, packet_value};
+ghost use Rattle.std.specs.Prelude.{◌≡◌, ◌+◌, ◌-◌, ◌*◌, cond, ◌^◌, ◌<◌, ◌≤◌, ◌++◌, ◌∷◌, ◌||◌, ◌≤ℤ◌, ◌-ℤ◌, ℕ, pos, drop, List, [], OnOk};
+ghost use Rattle.std.specs.Prelude.{◌&&◌, ◌⊎◌, IfOk, IfSome, Ok, Some, None, length, nat_le, slice_get, true};
+ghost use Rattle.cf_packet.specs.Packet.{PacketValue, packet_answer, packet_value};
 ghost use Rattle.cf_stream.specs.Stream.{letter_count};
 ghost use Rattle.std.specs.BTreeMap.{get};
 ghost use Rattle.std.specs.Ordering.{is_eq};
-ghost use Rattle.cf_watch.specs.Trail.{HasHeard, IsHeard, IsWatchOf, key_cmp, key_of};
-ghost use Rattle.cf_leg.specs.Segment.{has_ack};
+ghost use Rattle.cf_watch.specs.Trail.{HasHeard, Heard, HearsOn, IsHeard, IsSettled, IsSpare, IsWatchOf, KeepsAll, MayBeGone, TakesRecord, forgets, key_cmp, key_of};
+ghost use Rattle.cf_leg.specs.Segment.{has_ack, has_fin};
 ghost use Rattle.cf_policy.specs.AtEndpoint.{asset_place};
-ghost use Rattle.cf_watch.specs.Seen.{begins_amid, begun_with, goes_from, goes_to_asset, packet_by, with_frame};
-ghost use Rattle.cf_watch.specs.Watched.{Watched, begins_anew, goes_at, with_packet};
+ghost use Rattle.cf_watch.specs.Seen.{begins_amid, begun_with, far as far_below, goes_first, goes_from, goes_to_asset, packet_by, with_frame, with_packet_by};
+ghost use Rattle.cf_watch.specs.Watched.{Watched, begins_anew};
 
 use crate::ahead::Ahead;
 use crate::born::Born;
@@ -20,11 +20,14 @@ use crate::flow::Flow;
 use crate::place::{has, has_fin, is_opening, text_place, top_after};
 use crate::scope::Scope;
 use crate::tag::{untagged, untagged_kind};
-use cf_packet::{ACK, Packet, PacketRefusal, RST, SYN, read_packet, read_recorded};
+use cf_packet::{ACK, Packet, PacketRefusal, RST, SYN, destination, read_packet, read_recorded};
 use cf_policy::Asset;
 use cf_view::{Endpoint, LinkKind, NoMemory, same_endpoint};
 use std::alloc::Global;
 use std::collections::BTreeMap;
+
+/// How far below the newest position the letters of a recording are read: 1 MiB. This project's own.
+pub const REACH: u64 = 1_048_576;
 
 /// What is kept of a flow besides what is told of it.
 #[derive(Drop)]
@@ -35,6 +38,8 @@ pub(crate) struct Trail {
     pub(crate) answered: bool,
     /// One more than the greatest place that was carried.
     pub(crate) top: u64,
+    /// How many of the first bytes of the flow are kept no more.
+    pub(crate) base: u64,
     pub(crate) ahead: Ahead,
 }
 
@@ -59,7 +64,7 @@ pub(crate) struct FlowKey {
 
 /// The flows of the records so far.
 #[derive(Drop)]
-pub(crate) struct Watch {
+pub struct Watch {
     pub(crate) flows: Vec<Flow>,
     pub(crate) trails: Vec<Trail>,
     /// The place of the last flow of each client and asset.
@@ -69,6 +74,7 @@ pub(crate) struct Watch {
 /// Takes a packet of a flow.
 fn hear(
     alloc: Global,
+    scope: Scope,
     flow: &mut Flow,
     trail: &mut Trail,
     number: u64,
@@ -76,26 +82,68 @@ fn hear(
 ) -> Result<(), NoMemory>
     requires number { number < 2 ^ 32 }
     requires low { trail.old.top ≤ 2 ^ 60 }
+    requires gone { MayBeGone scope trail.old.base trail.old.top }
     requires short { length packet.now.text.now ≤ 65535 }
-    ensures heard { OnOk result ((w : Watched) → IsHeard flow.old trail.old w
-        → IsHeard flow.new trail.new (with_packet number (packet_value packet.now) w)) }
+    ensures heard { OnOk result ((w : Watched) (h : Heard) → IsHeard scope flow.old trail.old w h
+        → HearsOn scope number flow.new trail.new (with_packet_by scope number (packet_value packet.now) w) h) }
     ensures low { OnOk result (trail.new.top ≤ trail.old.top + 2 ^ 32) }
+    ensures base { OnOk result (trail.new.base ≡ trail.old.base) }
 {
-    let at = text_place(packet, trail.origin, trail.top);
-    let ended = has_fin(packet);
+    let place = text_place(packet, trail.origin, trail.top);
+    let first = far(scope, trail.top, place);
+    let at = place + first as i64;
+    let text = text_from(packet.text, first);
+    let ended = ends_from(packet, first);
     carry(
         alloc,
         flow,
+        trail.base,
         &mut trail.ahead,
         number,
         at,
-        packet.text,
+        text,
         ended,
     )?;
-    advance(flow, &trail.ahead, number)?;
-    trail.top = top_after(trail.top, at, letters_in(packet.text, ended));
+    advance(flow, trail.base, &trail.ahead, number)?;
+    trail.top = top_after(trail.top, at, letters_in(text, ended));
     trail.answered = is_answered(trail.answered, packet);
     Ok(())
+}
+
+/// How many letters of a packet, from a place on, are not read: of a recording those that stand more than `REACH` places below the newest
+/// position.
+fn far(scope: Scope, top: u64, at: i64) -> u64
+    requires top { top ≤ 2 ^ 60 }
+    requires from { (pos top -ℤ pos (2 ^ 31)) ≤ℤ at }
+    requires to { at ≤ℤ pos (top + 2 ^ 31) }
+    ensures connections { scope ≡ Scope.Connections → result ≡ 0 }
+    ensures recording { scope ≡ Scope.Recording → result ≡ far_below top at }
+    ensures few { result ≤ 2 ^ 31 }
+{
+    match scope {
+        Scope::Connections => 0,
+        Scope::Recording => {
+            let from = top as i64 - REACH as i64;
+            if at < from { (from - at) as u64 } else { 0 }
+        }
+    }
+}
+
+/// A text without its first octets.
+fn text_from(text: &[u8], first: u64) -> &[u8]
+    ensures { result.now ≡ drop first text.now }
+{
+    if first >= text.len() as u64 {
+        return &[];
+    }
+    &text[first as usize..]
+}
+
+/// Whether End stands behind the letters of a packet without its first ones, so many.
+fn ends_from(packet: &Packet<'_>, first: u64) -> bool
+    ensures { result ≡ (has_fin (packet_value packet.now) && nat_le first (length packet.now.text.now)) }
+{
+    has_fin(packet) && first <= packet.text.len() as u64
 }
 
 /// How many letters a text has, with End after it or not.
@@ -143,6 +191,28 @@ fn asset_at(assets: &[Asset], endpoint: &Endpoint) -> Option<usize>
         .position(|asset| same_endpoint(&asset.endpoint, endpoint))
 }
 
+/// Where the segment goes in the octets of a record as they are watched, without its checksums.
+fn destination_by(scope: Scope, link: &LinkKind, octets: &[u8]) -> Option<Endpoint>
+    ensures { (p : PacketValue) → packet_by scope link.now octets.now ≡ Ok p → result ≡ Some p.dest }
+{
+    match scope {
+        Scope::Connections => destination(link, octets),
+        Scope::Recording => destination(&untagged_kind(link, octets), untagged(link, octets)),
+    }
+}
+
+/// The place of the first asset that the segment in the octets of a record is for. Most records of a plant are answers of
+/// controllers, which are for none: so their checksums are not summed.
+fn asset_by(scope: Scope, assets: &[Asset], link: &LinkKind, octets: &[u8]) -> Option<usize>
+    ensures place { (p : PacketValue) → packet_by scope link.now octets.now ≡ Ok p → result ≡ asset_place assets.now p.dest }
+    ensures inside { IfSome result (λ place. place < length assets.now) }
+{
+    match destination_by(scope, link, octets) {
+        Some(dest) => asset_at(assets, &dest),
+        None => None,
+    }
+}
+
 /// Whether a packet begins its flow anew.
 fn begins_anew(trail: &Trail, packet: &Packet<'_>) -> bool
     ensures { (w : Watched) → trail.now.origin ≡ w.origin → trail.now.answered ≡ w.answered
@@ -163,8 +233,9 @@ fn begins_amid(scope: Scope, packet: &Packet<'_>) -> bool
 
 impl Watch {
     /// No flows.
-    pub(crate) fn new(alloc: Global) -> Watch
-        ensures { IsWatchOf 0 result [] }
+    pub fn new(alloc: Global) -> Watch
+        ensures none { (scope : Scope) → IsWatchOf scope 0 result [] [] }
+        ensures all { KeepsAll result }
     {
         Watch {
             flows: Vec::new(alloc),
@@ -173,8 +244,8 @@ impl Watch {
         }
     }
 
-    /// Takes the record of this number.
-    pub(crate) fn take(
+    /// Takes the record of this number, and answers the place of the flow that it is of, if it is of one.
+    pub fn take(
         &mut self,
         alloc: Global,
         scope: Scope,
@@ -182,26 +253,24 @@ impl Watch {
         link: &LinkKind,
         number: u64,
         body: &[u8],
-    ) -> Result<(), NoMemory>
+    ) -> Result<Option<usize>, NoMemory>
         requires assets { length assets.now < 2 ^ 32 }
         requires number { (1 ≤ number) × (number ≤ 2 ^ 27) }
-        requires heard { HasHeard (number - 1) self.old }
-        ensures heard { OnOk result ((ws : List Watched) → IsWatchOf (number - 1) self.old ws
-            → IsWatchOf number self.new (with_frame scope assets.now number (packet_by scope link.now body.now) ws)) }
+        requires heard { HasHeard scope (number - 1) self.old }
+        ensures heard { IfOk result (λ place. (ws : List Watched) (hs : List Heard) → IsWatchOf scope (number - 1) self.old ws hs
+            → TakesRecord scope number place self.new ws (with_frame scope assets.now number (packet_by scope link.now body.now) ws) hs) }
+        ensures all { OnOk result (KeepsAll self.old → KeepsAll self.new) }
     {
-        let Ok(packet) = packet_by(scope, link, body) else {
-            return Ok(());
+        let Some(asset) = asset_by(scope, assets, link, body) else {
+            return Ok(None);
         };
-        match asset_at(assets, &packet.dest) {
-            Some(asset) => {
-                self.take_packet(alloc, scope, number, asset as u32, &packet)?;
-                Ok(())
-            }
-            None => Ok(()),
-        }
+        let Ok(packet) = packet_by(scope, link, body) else {
+            return Ok(None);
+        };
+        self.take_packet(alloc, scope, number, asset as u32, &packet)
     }
 
-    /// Takes a packet to an asset.
+    /// Takes a packet to an asset, and answers the place of its flow, if it is of one.
     fn take_packet(
         &mut self,
         alloc: Global,
@@ -209,12 +278,13 @@ impl Watch {
         number: u64,
         asset: u32,
         packet: &Packet<'_>,
-    ) -> Result<(), NoMemory>
+    ) -> Result<Option<usize>, NoMemory>
         requires number { (1 ≤ number) × (number ≤ 2 ^ 27) }
         requires short { length packet.now.text.now ≤ 65535 }
-        requires heard { HasHeard (number - 1) self.old }
-        ensures heard { OnOk result ((ws : List Watched) → IsWatchOf (number - 1) self.old ws
-            → IsWatchOf number self.new (goes_to_asset scope number (packet_value packet.now) (Some asset) ws)) }
+        requires heard { HasHeard scope (number - 1) self.old }
+        ensures heard { IfOk result (λ place. (ws : List Watched) (hs : List Heard) → IsWatchOf scope (number - 1) self.old ws hs
+            → TakesRecord scope number place self.new ws (goes_to_asset scope number (packet_value packet.now) (Some asset) ws) hs) }
+        ensures all { OnOk result (KeepsAll self.old → KeepsAll self.new) }
     {
         let key = FlowKey {
             address: packet.source.address,
@@ -222,14 +292,8 @@ impl Watch {
             asset,
         };
         match self.last.get(&key).copied() {
-            Some(place) => {
-                self.go_on(alloc, number, asset, place, packet)?;
-                Ok(())
-            }
-            None => {
-                self.begin_first(alloc, scope, number, asset, packet)?;
-                Ok(())
-            }
+            Some(place) => self.go_on(alloc, scope, number, asset, place, packet),
+            None => self.begin_first(alloc, scope, number, asset, packet),
         }
     }
 
@@ -241,11 +305,12 @@ impl Watch {
         number: u64,
         asset: u32,
         packet: &Packet<'_>,
-    ) -> Result<(), NoMemory>
+    ) -> Result<Option<usize>, NoMemory>
         requires number { (1 ≤ number) × (number ≤ 2 ^ 27) }
         requires short { length packet.now.text.now ≤ 65535 }
-        ensures heard { OnOk result ((ws : List Watched) → IsWatchOf (number - 1) self.old ws
-            → IsWatchOf number self.new (goes_from scope number asset (packet_value packet.now) None ws)) }
+        ensures heard { IfOk result (λ place. (ws : List Watched) (hs : List Heard) → IsWatchOf scope (number - 1) self.old ws hs
+            → TakesRecord scope number place self.new ws (goes_first scope number asset (packet_value packet.now) ws) hs) }
+        ensures all { OnOk result (KeepsAll self.old → KeepsAll self.new) }
     {
         if begins_amid(scope, packet) {
             let opening = Opening {
@@ -253,37 +318,40 @@ impl Watch {
                 answered: true,
                 midstream: Some(number),
             };
-            self.begin(alloc, number, asset, opening, packet)?;
-            return Ok(());
+            let place = self.begin(alloc, scope, number, asset, opening, packet)?;
+            return Ok(Some(place));
         }
         if !is_opening(packet) {
-            return Ok(());
+            return Ok(None);
         }
         let opening = Opening {
             origin: packet.seq,
             answered: false,
             midstream: None,
         };
-        self.begin(alloc, number, asset, opening, packet)?;
-        Ok(())
+        let place = self.begin(alloc, scope, number, asset, opening, packet)?;
+        Ok(Some(place))
     }
 
-    /// Takes a packet of the flow at a place, which may begin it anew.
+    /// Takes a packet of the flow at a place, which may begin it anew, and answers the place of the flow that it is of.
     fn go_on(
         &mut self,
         alloc: Global,
+        scope: Scope,
         number: u64,
         asset: u32,
         place: usize,
         packet: &Packet<'_>,
-    ) -> Result<(), NoMemory>
+    ) -> Result<Option<usize>, NoMemory>
         requires number { (1 ≤ number) × (number ≤ 2 ^ 27) }
         requires short { length packet.now.text.now ≤ 65535 }
         requires flow { place < length self.old.flows.items }
         requires trail { place < length self.old.trails.items }
-        requires low { (t : Trail) → slice_get self.old.trails.items place ≡ Some t → t.top ≤ (number - 1) * 2 ^ 32 }
-        ensures heard { OnOk result ((ws : List Watched) → IsWatchOf (number - 1) self.old ws
-            → IsWatchOf number self.new (goes_at number asset (packet_value packet.now) (Some place) ws)) }
+        requires low { (t : Trail) → slice_get self.old.trails.items place ≡ Some t
+            → (t.top ≤ (number - 1) * 2 ^ 32) × MayBeGone scope t.base t.top }
+        ensures heard { IfOk result (λ at. (ws : List Watched) (hs : List Heard) → IsWatchOf scope (number - 1) self.old ws hs
+            → TakesRecord scope number at self.new ws (goes_from scope number asset (packet_value packet.now) (Some place) ws) hs) }
+        ensures all { OnOk result (KeepsAll self.old → KeepsAll self.new) }
     {
         if begins_anew(&self.trails[place], packet) {
             let opening = Opening {
@@ -291,32 +359,37 @@ impl Watch {
                 answered: false,
                 midstream: None,
             };
-            self.begin(alloc, number, asset, opening, packet)?;
-            return Ok(());
+            let at = self.begin(alloc, scope, number, asset, opening, packet)?;
+            return Ok(Some(at));
         }
         hear(
             alloc,
+            scope,
             &mut self.flows[place],
             &mut self.trails[place],
             number,
             packet,
         )?;
-        Ok(())
+        Ok(Some(place))
     }
 
-    /// Begins a flow.
+    /// Begins a flow, and answers its place.
     fn begin(
         &mut self,
         alloc: Global,
+        scope: Scope,
         number: u64,
         asset: u32,
         opening: Opening,
         packet: &Packet<'_>,
-    ) -> Result<(), NoMemory>
+    ) -> Result<usize, NoMemory>
         requires number { (1 ≤ number) × (number ≤ 2 ^ 27) }
+        requires midstream { (opening.midstream ≡ None) ⊎ (opening.midstream ≡ Some number) }
         requires short { length packet.now.text.now ≤ 65535 }
-        ensures heard { OnOk result ((ws : List Watched) → IsWatchOf (number - 1) self.old ws
-            → IsWatchOf number self.new (ws ++ begun_with opening number asset (packet_value packet.now) ∷ [])) }
+        ensures heard { IfOk result (λ place. (ws : List Watched) (hs : List Heard) → IsWatchOf scope (number - 1) self.old ws hs
+            → TakesRecord scope number (Some place) self.new ws
+            (ws ++ begun_with scope opening number asset (packet_value packet.now) ∷ []) hs) }
+        ensures all { OnOk result (KeepsAll self.old → KeepsAll self.new) }
     {
         let mut flow = Flow {
             client: packet.source,
@@ -330,11 +403,13 @@ impl Watch {
             origin: opening.origin,
             answered: opening.answered,
             top: 0,
+            base: 0,
             ahead: BTreeMap::new(alloc),
         };
-        hear(alloc, &mut flow, &mut trail, number, packet)?;
+        hear(alloc, scope, &mut flow, &mut trail, number, packet)?;
+        let place = self.flows.len();
         self.add(flow, trail)?;
-        Ok(())
+        Ok(place)
     }
 
     /// Adds a flow after the others.
@@ -360,5 +435,60 @@ impl Watch {
             Ok(_) => Ok(()),
             Err(_) => Err(NoMemory),
         }
+    }
+
+    /// The flow at a place, with the bytes of it that are kept.
+    pub fn flow(&self, place: usize) -> &Flow
+        requires { place < length self.now.flows.items }
+        ensures { slice_get self.now.flows.items place ≡ Some result.now }
+    {
+        &self.flows[place]
+    }
+
+    /// How many flows there are.
+    pub fn count(&self) -> usize
+        ensures { result ≡ length self.now.flows.items }
+    {
+        self.flows.len()
+    }
+
+    /// How many of the bytes of the flow at a place that are kept, from the first on, stand more than `REACH` places below the newest
+    /// position: no letter is read there any more.
+    pub fn spare(&self, place: usize) -> usize
+        requires flow { place < length self.now.flows.items }
+        requires trail { place < length self.now.trails.items }
+        ensures { IsSpare self.now place result }
+    {
+        let trail = &self.trails[place];
+        let from = trail.top.saturating_sub(REACH).saturating_sub(trail.base);
+        let kept = self.flows[place].bytes.len();
+        if from < kept as u64 {
+            from as usize
+        } else {
+            kept
+        }
+    }
+
+    /// Whether no letter of the flow at a place stands apart from its bytes.
+    pub fn is_settled(&self, place: usize) -> bool
+        requires { place < length self.now.trails.items }
+        ensures { result ≡ true → IsSettled self.now place }
+    {
+        self.trails[place].ahead.is_empty()
+    }
+
+    /// Keeps so many of the first bytes of the flow at a place no more, which stand more than `REACH` places below the newest position.
+    pub fn forget(&mut self, place: usize, count: usize)
+        requires flow { place < length self.old.flows.items }
+        requires trail { place < length self.old.trails.items }
+        requires born { (f : Flow) → slice_get self.old.flows.items place ≡ Some f → length f.born ≡ length f.bytes.items }
+        requires spare { (n : ℕ) × IsSpare self.old place n × (count ≤ n) }
+        requires few { (t : Trail) → slice_get self.old.trails.items place ≡ Some t → t.top ≤ 2 ^ 60 }
+        ensures { (records : ℕ) (ws : List Watched) (hs : List Heard) → IsWatchOf Scope.Recording records self.old ws hs
+            → IsWatchOf Scope.Recording records self.new ws (forgets place count hs) }
+    {
+        let flow = &mut self.flows[place];
+        flow.forget(count);
+        self.trails[place].base += count as u64;
     }
 }

@@ -103,10 +103,10 @@ fn words_of(rt: &(impl Env + AllocGlobal)) -> io::Result<Vec<String>> {
     Ok(words)
 }
 
-/// Status 0, or 4 where printing failed.
+/// Status 0, or that of a write fault where printing failed.
 fn printed(done: io::Result<()>) -> ExitCode {
     match done {
         Ok(()) => ExitCode::from(0),
-        Err(_) => ExitCode::from(4),
+        Err(_) => ExitCode::from(WRITE_FAULT),
     }
 }

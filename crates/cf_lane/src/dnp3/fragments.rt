@@ -1,11 +1,11 @@
 //! What becomes of a segment, and of the fragment that it completes.
-ghost use Rattle.std.specs.Prelude.{◌≡◌, ◌≢◌, ◌+◌, ◌<◌, ◌≤◌, ◌∷◌, [], ℕ, List, true, false, IfOk, OnOk, OnErr, IsErr, length};
+ghost use Rattle.std.specs.Prelude.{◌≡◌, ◌≢◌, ◌+◌, ◌<◌, ◌≤◌, ◌∷◌, [], ℕ, List, true, false, IfOk, OnOk, OnErr, length};
+ghost use Rattle.std.specs.Result.{is_err};
 ghost use Rattle.cf_dnplink.specs.LinkFrame.{IsFrame, frame_value};
 ghost use Rattle.cf_dnplink.specs.UserOctets.{user_of};
 ghost use Rattle.cf_dnptrans.specs.AssemblyValue.{IsAssemblyOf};
 ghost use Rattle.cf_dnptrans.specs.Transport.{answer_to};
 ghost use Rattle.cf_outq.specs.SendQueue.{Queue};
-ghost use Rattle.cf_outside.specs.Faults.{HasCause};
 ghost use Rattle.cf_outside.specs.Desk.{DeskValue};
 ghost use Rattle.cf_lane.specs.Rates.{Says};
 ghost use Rattle.cf_lane.specs.Rings.{IsRulesOf, says_by};
@@ -13,8 +13,9 @@ ghost use Rattle.cf_policy.specs.Within.{IsAssetWithin};
 ghost use Rattle.cf_lane.specs.Dnp3.{drop_why, fragment_reply};
 ghost use Rattle.cf_lane.specs.Fragments.{AddsSegment, MissesSegment, Sends, TakesSegment, completed_by, frames_exist, parts, recut_most};
 ghost use Rattle.cf_lane.specs.Fragments.{sent_most};
-ghost use Rattle.cf_lane.specs.Handled.{Grows, HasRoom, IsOpen, WritesLog};
+ghost use Rattle.cf_lane.specs.Handled.{Grows, HasRoom, IsOpen};
 ghost use Rattle.cf_lane.specs.Kept.{of_side};
+ghost use Rattle.cf_lane.specs.Logging.{LogsLines};
 
 use crate::dnp3::judge::judge_fragment;
 use crate::dnp3::recut::push_fragment;
@@ -78,9 +79,7 @@ impl Fragments {
         ensures client_grows { OnOk result (Grows (sent_most answer.now (of_side side self.old)) 0 0 to_client.old to_client.new) }
         ensures controller_grows { OnOk result (Grows (sent_most answer.now (of_side side self.old)) 0 0 to_controller.old
             to_controller.new) }
-        ensures whole { OnOk result (DeskValue.whole (D.value desk.new) ≡ true) }
-        ensures log { WritesLog (D.value desk.old) (D.value desk.new) }
-        ensures cause { HasCause (DeskValue.faults (D.value desk.old)) (DeskValue.faults (D.value desk.new)) (IsErr result) }
+        ensures desk { LogsLines (D.value desk.old) (D.value desk.new) (is_err result) }
     {
         match *answer {
             SegmentAnswer::More => Ok(Fate::Lengthens),
@@ -141,9 +140,7 @@ impl Fragments {
         ensures client_grows { OnOk result (Grows (recut_most (length self.old.client.octets + 2)) 0 0 to_client.old to_client.new) }
         ensures controller_grows { OnOk result (Grows (recut_most (length self.old.client.octets + 2)) 0 0 to_controller.old
             to_controller.new) }
-        ensures whole { OnOk result (DeskValue.whole (D.value desk.new) ≡ true) }
-        ensures log { WritesLog (D.value desk.old) (D.value desk.new) }
-        ensures cause { HasCause (DeskValue.faults (D.value desk.old)) (DeskValue.faults (D.value desk.new)) (IsErr result) }
+        ensures desk { LogsLines (D.value desk.old) (D.value desk.new) (is_err result) }
     {
         let octets = self.client.fragment();
         if octets.len() < 2 {
@@ -205,9 +202,7 @@ impl Fragments {
             (parts self.old to_client.old to_controller (DeskValue.lines (D.value desk.old)))
             (DeskValue.lines (D.value desk.new)) (DeskValue.line_part (D.value desk.new))) }
         ensures client_grows { OnOk result (Grows (recut_most (length self.old.controller.octets + 2)) 0 0 to_client.old to_client.new) }
-        ensures whole { OnOk result (DeskValue.whole (D.value desk.new) ≡ true) }
-        ensures log { WritesLog (D.value desk.old) (D.value desk.new) }
-        ensures cause { HasCause (DeskValue.faults (D.value desk.old)) (DeskValue.faults (D.value desk.new)) (IsErr result) }
+        ensures desk { LogsLines (D.value desk.old) (D.value desk.new) (is_err result) }
     {
         let octets = self.controller.fragment();
         if octets.len() < 2 {

@@ -1,16 +1,17 @@
 //! What becomes of a frame.
-ghost use Rattle.std.specs.Prelude.{◌≡◌, ◌+◌, ◌*◌, [], true, if◌then◌else◌, IfOk, OnOk, OnErr, IsErr, length};
+ghost use Rattle.std.specs.Prelude.{◌≡◌, ◌+◌, ◌*◌, [], true, if◌then◌else◌, IfOk, OnOk, OnErr, length};
+ghost use Rattle.std.specs.Result.{is_err};
 ghost use Rattle.cf_dnplink.specs.LinkFrame.{IsFrame, frame_value};
 ghost use Rattle.cf_outq.specs.SendQueue.{after_push};
-ghost use Rattle.cf_outside.specs.Faults.{HasCause};
 ghost use Rattle.cf_outside.specs.Desk.{DeskValue};
 ghost use Rattle.cf_lane.specs.Rings.{IsRulesOf, says_by};
 ghost use Rattle.cf_policy.specs.Within.{IsAssetWithin};
 ghost use Rattle.cf_lane.specs.Fragments.{MissesFrame, TakesFrame, parts};
-ghost use Rattle.cf_lane.specs.Handled.{Grows, HasRoom, IsOpen, WritesLog};
+ghost use Rattle.cf_lane.specs.Handled.{Grows, HasRoom, IsOpen};
 ghost use Rattle.cf_lane.specs.History.{is_side};
 ghost use Rattle.cf_lane.specs.Kept.{AreFragments, owed_by};
 ghost use Rattle.cf_lane.specs.Unit.{frame_spelling};
+ghost use Rattle.cf_lane.specs.Logging.{LogsLines};
 
 use crate::dnp3::served::{is_data, stray_of};
 use crate::fate::Fate;
@@ -62,9 +63,7 @@ impl Fragments {
             to_client.new) }
         ensures controller_grows { OnOk result (Grows (2 * length octets.now.bytes) (owed_by self.old) (owed_by self.new) to_controller.old
             to_controller.new) }
-        ensures whole { OnOk result (DeskValue.whole (D.value desk.new) ≡ true) }
-        ensures log { WritesLog (D.value desk.old) (D.value desk.new) }
-        ensures cause { HasCause (DeskValue.faults (D.value desk.old)) (DeskValue.faults (D.value desk.new)) (IsErr result) }
+        ensures desk { LogsLines (D.value desk.old) (D.value desk.new) (is_err result) }
     {
         if let Some(why) = stray_of(asset, side, frame) {
             log_stray(asset, client, moment, side, why, desk)?;

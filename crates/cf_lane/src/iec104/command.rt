@@ -1,14 +1,15 @@
 //! A client's I frame: a command.
-ghost use Rattle.std.specs.Prelude.{◌≡◌, ◌≤◌, ◌+◌, None, OnErr, OnOk, IfOk, IsErr, MatchOption, length, true, false, nat_lt, ◌<◌};
+ghost use Rattle.std.specs.Prelude.{◌≡◌, ◌≤◌, ◌+◌, None, OnErr, OnOk, IfOk, MatchOption, length, true, false, nat_lt, ◌<◌};
 ghost use Rattle.std.specs.Prelude.{if◌then◌else◌};
+ghost use Rattle.std.specs.Result.{is_err};
 ghost use Rattle.cf_apci.specs.Apdu.{Info, spelling};
-ghost use Rattle.cf_lane.specs.Handled.{Grows, HasRoom, WritesLog};
+ghost use Rattle.cf_lane.specs.Handled.{Grows, HasRoom};
 ghost use Rattle.cf_lane.specs.Iec104.{ack_octets};
 ghost use Rattle.cf_lane.specs.Renumbered.{mirror_octets, MissesApdu, TakesApdu, numbered, unless_cut};
 ghost use Rattle.cf_outq.specs.SendQueue.{after_push};
 ghost use Rattle.cf_outside.specs.Desk.{DeskValue};
-ghost use Rattle.cf_outside.specs.Faults.{HasCause};
 ghost use Rattle.cf_lane.specs.Rings.{IsRulesOf, says_by};
+ghost use Rattle.cf_lane.specs.Logging.{LogsLines};
 ghost use Rattle.cf_policy.specs.Within.{IsAssetWithin};
 ghost use Rattle.cf_renumber.specs.Numbers.{IsSmall};
 
@@ -92,9 +93,7 @@ pub(crate) fn take_command<D: Desk>(
         (DeskValue.lines (D.value desk.new)) (DeskValue.line_part (D.value desk.new))) }
     ensures client_grows { IfOk result (λ f. Grows (unless_cut f (length asdu.now.bytes + 6)) 0 0 to_client.old to_client.new) }
     ensures controller_grows { IfOk result (λ f. Grows (unless_cut f (length asdu.now.bytes + 6)) 0 0 to_controller.old to_controller.new) }
-    ensures whole { OnOk result (DeskValue.whole (D.value desk.new) ≡ true) }
-    ensures log { WritesLog (D.value desk.old) (D.value desk.new) }
-    ensures cause { HasCause (DeskValue.faults (D.value desk.old)) (DeskValue.faults (D.value desk.new)) (IsErr result) }
+    ensures desk { LogsLines (D.value desk.old) (D.value desk.new) (is_err result) }
 {
     if !numbers.may_send(Side::Client) {
         return Ok(Fate::Cuts(CutReason::NotStarted(Side::Client)));

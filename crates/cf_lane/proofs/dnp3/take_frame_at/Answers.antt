@@ -1,5 +1,6 @@
 use Rattle.std.proofs.Common.{get_or, refl}
 use Rattle.std.proofs.lemmas.Option.{slice_get-get_or}
+use Rattle.cf_lane.proofs.Dnp3Growth.{grows_at, room_at}
 use Rattle.cf_lane.proofs.Dnp3Steps.{misses_at, still_all}
 use Rattle.cf_lane.proofs.Failing.{on_err}
 use Rattle.cf_lane.proofs.dnp3.take_frame_at.Goals as goal
@@ -24,3 +25,18 @@ returns-in_err-fate-clause-misses g c =
 
 pub returns-clause-are : goal.returns-clause-are
 returns-clause-are g c = still_all c.args.place c.args.all.now c.take_frame.new.self c.requires.inside c.requires.are c.in_ok-fate.ensures.are
+
+pub take_frame-requires-clause-client_room : goal.take_frame-requires-clause-client_room
+take_frame-requires-clause-client_room g c = room_at c.args.all.now c.args.place c.index-all-place.result c.requires.inside _ _ c.requires.client_room
+
+pub take_frame-requires-clause-controller_room : goal.take_frame-requires-clause-controller_room
+take_frame-requires-clause-controller_room g c = room_at c.args.all.now c.args.place c.index-all-place.result c.requires.inside _ _ c.requires.controller_room
+
+pub returns-clause-client_grows : goal.returns-clause-client_grows
+returns-clause-client_grows g c = grows_at c.args.all.now c.args.place c.index-all-place.result c.requires.inside _ _ _ _ c.in_ok-fate.ensures.client_grows
+
+pub returns-clause-controller_grows : goal.returns-clause-controller_grows
+returns-clause-controller_grows g c = grows_at c.args.all.now c.args.place c.index-all-place.result c.requires.inside _ _ _ _ c.in_ok-fate.ensures.controller_grows
+
+pub returns-clause-desk : goal.returns-clause-desk
+returns-clause-desk g c = c.in_ok-fate.ensures.desk

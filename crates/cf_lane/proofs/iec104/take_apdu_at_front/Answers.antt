@@ -1,4 +1,4 @@
-use Rattle.std.proofs.Common.{arith, refl, subst, sym}
+use Rattle.std.proofs.Common.{ap, arith, refl, subst, sym, take, ◌-◌, ◌∙◌, ◌≡◌}
 use Rattle.cf_lane.proofs.Fronts.{few_at}
 use Rattle.cf_lane.proofs.Parting.{within_at}
 use Rattle.cf_lane.specs.Renumbered.{MissesApdu, TakesApdu, numbered}
@@ -9,7 +9,8 @@ use Rattle.cf_apci.specs.Apdu.{apdu_value}
 use Rattle.cf_outside.specs.Desk.{DeskValue}
 use Rattle.cf_lane.proofs.Apdus.{apdu_front, apdu_length, apdu_misses, grows_apdu}
 use Rattle.cf_lane.proofs.Failing.{on_err}
-use Rattle.cf_lane.proofs.Taking.{room_less}
+use Rattle.cf_lane.proofs.Logging.{logs_none}
+use Rattle.cf_lane.proofs.Taking.{grows_same, room_less}
 use Rattle.cf_lane.proofs.Units.{apdus, begins_same, step_breaks, step_waits}
 use Rattle.cf_lane.specs.Handled.{outlets}
 use Rattle.cf_lane.proofs.iec104.take_apdu_at_front.Goals as goal
@@ -86,3 +87,32 @@ pub returns-in_ok-fate-in-Unit-clause-controller_grows : goal.returns-in_ok-fate
 returns-in_ok-fate-in-Unit-clause-controller_grows g c =
     let b = begins_same c.after.ensures.bytes c.in-Unit.ensures.true_answer in
     grows_apdu c.in_ok-fate-in-Unit.fate _ c.in-Unit.used (apdu_length _ _ _ b) _ _ c.in_ok-fate-in-Unit.ensures.controller_grows
+
+pub take_apdu-requires-clause-fits : goal.take_apdu-requires-clause-fits
+take_apdu-requires-clause-fits g c = (begins_same c.after.ensures.bytes c.in-Unit.ensures.true_answer).spells.fits
+
+pub take_apdu-requires-clause-octets : goal.take_apdu-requires-clause-octets
+take_apdu-requires-clause-octets g c =
+    let all : c.in-Unit.used - 0 ≡ c.in-Unit.used = omega arith in
+    c.sub.ensures.bytes ∙ ap (λ n. take n c.args.bytes.now.bytes) all ∙ (begins_same c.after.ensures.bytes c.in-Unit.ensures.true_answer).spells.spelled
+
+pub returns-in-More-clause-client_grows : goal.returns-in-More-clause-client_grows
+returns-in-More-clause-client_grows g c = grows_same _ _ _
+
+pub returns-in-More-clause-controller_grows : goal.returns-in-More-clause-controller_grows
+returns-in-More-clause-controller_grows g c = grows_same _ _ _
+
+pub returns-in-More-clause-desk : goal.returns-in-More-clause-desk
+returns-in-More-clause-desk g c = logs_none _ c.requires.whole
+
+pub returns-in-Broken-clause-client_grows : goal.returns-in-Broken-clause-client_grows
+returns-in-Broken-clause-client_grows g c = grows_same _ _ _
+
+pub returns-in-Broken-clause-controller_grows : goal.returns-in-Broken-clause-controller_grows
+returns-in-Broken-clause-controller_grows g c = grows_same _ _ _
+
+pub returns-in-Broken-clause-desk : goal.returns-in-Broken-clause-desk
+returns-in-Broken-clause-desk g c = logs_none _ c.requires.whole
+
+pub returns-in_ok-fate-in-Unit-clause-desk : goal.returns-in_ok-fate-in-Unit-clause-desk
+returns-in_ok-fate-in-Unit-clause-desk g c = c.in_ok-fate-in-Unit.ensures.desk

@@ -2,6 +2,7 @@ use Rattle.std.proofs.Common.{ap, ◌∙◌}
 use Rattle.std.specs.List.{list_all}
 use Rattle.cf_policy.specs.Names.{is_name_byte}
 use Rattle.cf_lane.proofs.LineFeeds.{asset_plain, decider_plain}
+use Rattle.cf_lane.proofs.Logging.{logs_by}
 use Rattle.cf_lane.proofs.log.log_refusal.Goals as goal
 
 pub put_line-requires-clause-names : goal.put_line-requires-clause-names
@@ -9,3 +10,6 @@ put_line-requires-clause-names g c = (
   ap (list_all is_name_byte) c.as_str.ensures.text ∙ asset_plain c.args.asset.now c.requires.within,
   ap (list_all is_name_byte) c.decider_name.ensures.name ∙ decider_plain c.args.asset.now c.requires.within c.args.refusal.now.decider c.requires.decider,
 )
+
+pub returns-clause-desk : goal.returns-clause-desk
+returns-clause-desk g c = logs_by _ _ _ c.put_line.ensures.whole c.put_line.ensures.log c.put_line.ensures.cause

@@ -1,6 +1,7 @@
 use Rattle.std.proofs.Common.{◌++◌, subst}
 use Rattle.cf_learn.specs.Reading.{HaveSame, TakesFront}
 use Rattle.cf_learn.proofs.Fronts.{takes_behind}
+use Rattle.cf_learn.proofs.Polled.{still}
 use Rattle.cf_learn.proofs.Same.{same_behind, same_then}
 use Rattle.cf_learn.proofs.reading.gather_front.Goals as goal
 
@@ -22,4 +23,6 @@ returns c = record {
             (subst (λ l. HaveSame new (old ++ l)) c.as_slice.ensures.value c.in_ok-add.ensures)
             (same_behind old all fresh same);
       };
+  polls = still (c.args.seen.now.sorted.items ++ c.args.seen.now.loose.items) c.as_slice.result.now (c.add.new.self.sorted.items ++ c.add.new.self.loose.items) c.in_ok-add.ensures
+      c.args.polls.now c.requires.polls;
 }

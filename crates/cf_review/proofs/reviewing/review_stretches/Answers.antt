@@ -5,11 +5,11 @@ use Rattle.cf_policy.specs.Within.{AreAssetsWithin, most_assets}
 use Rattle.cf_watch.specs.FlowValue.{stretch_value}
 use Rattle.cf_review.specs.Remark.{remark_value}
 use Rattle.cf_review.specs.Review.{AddsStretches}
-use Rattle.cf_review.proofs.Behind.{for_stretch, stretches_first, stretches_on}
+use Rattle.cf_review.proofs.Behind.{for_stretch, stretch_told, stretches_first, stretches_on}
 use Rattle.cf_review.proofs.reviewing.review_stretches.Goals as goal
 
 pub loop-stretch-init : goal.loop-stretch-init
-loop-stretch-init c = stretches_first c.args.policy.now.assets c.args.before _
+loop-stretch-init c = record { adds = stretches_first c.args.policy.now.assets c.args.before _; told = λ known are olds. olds }
 
 pub site_at_place-site-requires : goal.site_at_place-site-requires
 site_at_place-site-requires c =
@@ -42,13 +42,16 @@ loop-stretch-preserved c =
     let site = c.site_at_place-site.result in
     let at : site_from assets s.flow.asset ≡ Some site = subst (λ xs. site_from xs s.flow.asset ≡ Some site) c.as_slice-assets.ensures c.site_at_place-site.ensures.site in
     let next = stretches_on assets (map stretch_value (take i stretches)) before c.loop-stretch.admitted c.in_ok-more.more start (map remark_value c.loop-stretch.remarks.items) new (stretch_value s)
-    site c.loop-stretch.invariant at c.in_ok-more.ensures in
+    site c.loop-stretch.invariant.adds at c.in_ok-more.ensures.adds in
     let counted : min (c.loop-stretch.admitted + c.in_ok-more.more) (2 ^ 64 - 1) ≡ c.saturating_add-admitted.result = sym c.saturating_add-admitted.ensures in
-    subst (λ ss. AddsStretches assets ss before start new c.saturating_add-admitted.result) values
-    (subst (λ n. AddsStretches assets (map stretch_value (take i stretches) ++ stretch_value s ∷ []) before start new n) counted next)
+    record {
+      adds = subst (λ ss. AddsStretches assets ss before start new c.saturating_add-admitted.result) values
+          (subst (λ n. AddsStretches assets (map stretch_value (take i stretches) ++ stretch_value s ∷ []) before start new n) counted next);
+      told = λ known are olds. c.in_ok-more.ensures.told known (stretch_told known stretches i s are inside c.stretch-item.is) (c.loop-stretch.invariant.told known are olds);
+    }
 
-pub returns : goal.returns
-returns c =
+pub returns-clause-adds : goal.returns-clause-adds
+returns-clause-adds c =
     let all : map stretch_value (take c.loop-stretch.stretch-index c.args.stretches.now) ≡ map stretch_value c.args.stretches.now =
     ap (map stretch_value) (take_all c.loop-stretch.stretch-index c.args.stretches.now (omega (arith, c.loop-stretch-test.false))) in
-    subst (λ ss. AddsStretches c.args.policy.now.assets ss c.args.before (map remark_value c.args.remarks.now.items) (map remark_value c.loop-stretch.remarks.items) c.loop-stretch.admitted) all c.loop-stretch.invariant
+    subst (λ ss. AddsStretches c.args.policy.now.assets ss c.args.before (map remark_value c.args.remarks.now.items) (map remark_value c.loop-stretch.remarks.items) c.loop-stretch.admitted) all c.loop-stretch.invariant.adds

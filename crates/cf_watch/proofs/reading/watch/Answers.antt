@@ -13,21 +13,21 @@ returns-in-Ok-clause-watched g c =
     let assets = c.args.policy.now.assets in
     let taken = c.in-Ok.ensures.more in
     let none = c.new-recorder.ensures scope.Connections c.as_slice-assets.result.now in
-    let is : IsRecorderFor scope.Connections assets taken.0 c.read.new.self =
-    subst (λ a. IsRecorderFor scope.Connections a taken.0 c.read.new.self) c.as_slice-assets.ensures
-    (subst (λ rs. IsRecorderFor scope.Connections c.as_slice-assets.result.now rs c.read.new.self) (append-nil taken.0) (taken.2 [] none)) in
+    let is : IsRecorderFor scope.Connections assets taken.0 c.hear_capture.new.hearer =
+    subst (λ a. IsRecorderFor scope.Connections a taken.0 c.hear_capture.new.hearer) c.as_slice-assets.ensures
+    (subst (λ rs. IsRecorderFor scope.Connections c.as_slice-assets.result.now rs c.hear_capture.new.hearer) (append-nil taken.0) (taken.2 [] none)) in
     let capture = subst (λ (content : List ℕ → Content). IsCaptureIn set.Plain (content c.args.capture.now) (reverse taken.0)) c.is_long.ensures.reads.same taken.1 in
-    has_flows assets (g.F.Files.content c.args.files.now c.args.capture.now) taken.0 c.read.new.self (c.in-Some-false.ensures.short (let test = c.in-Some-false.field-0-test in cc)) capture is
+    has_flows assets (g.F.Files.content c.args.files.now c.args.capture.now) taken.0 c.hear_capture.new.hearer (c.in-Some-false.ensures.short (let test = c.in-Some-false.field-0-test in cc)) capture is
 
 pub returns-in-Ok-clause-for_assets : goal.returns-in-Ok-clause-for_assets
 returns-in-Ok-clause-for_assets g c =
     let assets = c.args.policy.now.assets in
     let taken = c.in-Ok.ensures.more in
     let none = c.new-recorder.ensures scope.Connections c.as_slice-assets.result.now in
-    let is : IsRecorderFor scope.Connections assets taken.0 c.read.new.self =
-    subst (λ a. IsRecorderFor scope.Connections a taken.0 c.read.new.self) c.as_slice-assets.ensures
-    (subst (λ rs. IsRecorderFor scope.Connections c.as_slice-assets.result.now rs c.read.new.self) (append-nil taken.0) (taken.2 [] none)) in
-    for_assets scope.Connections assets taken.0 c.read.new.self is
+    let is : IsRecorderFor scope.Connections assets taken.0 c.hear_capture.new.hearer =
+    subst (λ a. IsRecorderFor scope.Connections a taken.0 c.hear_capture.new.hearer) c.as_slice-assets.ensures
+    (subst (λ rs. IsRecorderFor scope.Connections c.as_slice-assets.result.now rs c.hear_capture.new.hearer) (append-nil taken.0) (taken.2 [] none)) in
+    for_assets scope.Connections assets taken.0 c.hear_capture.new.hearer is
 
-pub read-requires-clause-recorded : goal.read-requires-clause-recorded
-read-requires-clause-recorded g c = ([], c.new-recorder.ensures scope.Connections c.as_slice-assets.result.now)
+pub hear_capture-requires-clause-heard : goal.hear_capture-requires-clause-heard
+hear_capture-requires-clause-heard g c = ([], c.new-recorder.ensures scope.Connections c.as_slice-assets.result.now)

@@ -1,23 +1,20 @@
-use Rattle.std.proofs.Common.{rules, ◌≡◌, ◌++◌, ◌∷◌, [], ◌∙◌, List, Option, Some, None, if◌then◌else◌, length, map, ℕ, ℤ, pos, reverse, refl, sym, ap, subst, append-nil, append_assoc}
+use Rattle.std.proofs.Common.{rules, ◌≡◌, ◌++◌, ◌∷◌, [], ◌∙◌, List, Option, Some, None, if◌then◌else◌, length, map, ℤ, pos, reverse, refl, sym, ap, append-nil, append_assoc}
 use Rattle.std.proofs.lemmas.List.{map-append, nil_from_length}
 use Rattle.cf_watch.specs.FlowValue.{StretchValue, flow_value, stretch_value}
-use Rattle.cf_watch.specs.Kept.{HasRuns, run_value}
+use Rattle.cf_watch.specs.Kept.{run_value}
 use Rattle.cf_watch.specs.Stretches.{Run, is_nil, stretch_of, stretches_from}
 use Rattle.cf_watch.specs.declared.stretches.Run.{Run as Kept}
-use Rattle.cf_watch.proofs.Runs.{runs_of_flow, stretches_last}
+use Rattle.cf_watch.proofs.Runs.{stretches_heard, stretches_last}
 use Rattle.cf_watch.proofs.stretches.add_stretches.Goals as goal
 
 pub runs-init : goal.runs-init
-runs-init c =
-    let all = reverse (map run_value c.in_ok-runs.runs.items) in
-    let count : c.len.result ≡ length c.args.flow.now.bytes.items = search rules in
-    record { all = all; has = subst (λ (n : ℕ). HasRuns n c.args.trail.now.ahead all) count c.in_ok-runs.ensures; added = refl }
+runs-init c = record { all = reverse (map run_value c.in_ok-runs.runs.items); has = c.in_ok-runs.ensures; added = refl }
 
 pub runs-preserved : goal.runs-preserved
 runs-preserved c =
     let was = c.runs.invariant in
     let f = flow_value c.args.flow.now in
-    let gap = pos (length c.args.flow.now.bytes.items) in
+    let gap = pos c.in_ok-count.count in
     let left = map run_value c.pop.new.self.items in
     let one = run_value c.in-Some.run' in
     let old = map stretch_value c.runs.stretches.items in
@@ -31,12 +28,12 @@ runs-preserved c =
     record { all = was.all; has = was.has; added = both ∙ was.added }
 
 pub returns-in-None : goal.returns-in-None
-returns-in-None c = λ w is.
+returns-in-None c = λ by w h is.
     let was = c.runs.invariant in
     let f = flow_value c.args.flow.now in
-    let count = length c.args.flow.now.bytes.items in
+    let count = c.in_ok-count.count in
     let old = map stretch_value c.runs.stretches.items in
     let zero : length c.runs.runs.items ≡ 0 = search rules in
     let none : c.runs.runs.items ≡ [] = nil_from_length c.runs.runs.items zero in
     sym (append-nil old) ∙ ap (λ (xs : List Kept). old ++ stretches_from f (pos count) (reverse (map run_value xs))) (sym none) ∙ was.added
-    ∙ ap (λ (xs : List Run). map stretch_value c.args.stretches.now.items ++ stretches_from f (pos count) xs) (runs_of_flow w count c.args.trail.now.ahead was.all is.holds was.has)
+    ∙ ap (λ (xs : List StretchValue). map stretch_value c.args.stretches.now.items ++ xs) (stretches_heard by c.args.flow.now c.args.trail.now w h count was.all is c.in_ok-count.ensures.count was.has)

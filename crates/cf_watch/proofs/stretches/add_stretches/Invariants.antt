@@ -8,9 +8,9 @@ use Rattle.cf_watch.proofs.stretches.add_stretches.Given as goal
 abbrev pub invariant-runs : goal.invariant-runs
 invariant-runs l = record {
   all : List Run;
-  has : HasRuns (length l.flow.bytes.items) l.fn.trail.ahead all;
-  added : map stretch_value l.stretches.items ++ stretches_from (flow_value l.flow) (pos (length l.flow.bytes.items)) (reverse (map run_value l.runs.items))
-      ≡ map stretch_value l.fn.stretches.items ++ stretches_from (flow_value l.flow) (pos (length l.flow.bytes.items)) all;
+  has : HasRuns l.count l.fn.trail.ahead all;
+  added : map stretch_value l.stretches.items ++ stretches_from (flow_value l.flow) (pos l.count) (reverse (map run_value l.runs.items))
+      ≡ map stretch_value l.fn.stretches.items ++ stretches_from (flow_value l.flow) (pos l.count) all;
 }
 
 abbrev pub decreases-runs : goal.decreases-runs

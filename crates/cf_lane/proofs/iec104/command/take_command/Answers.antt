@@ -1,11 +1,12 @@
 use Rattle.cf_lane.specs.Rings.{says_by}
 use Rattle.std.proofs.Common.{rules, ◌≡◌, ◌+◌, ◌∷◌, [], List, Bool, ap, arith, length, refl, sym, subst, ◌∙◌, ℕ, false}
 use Rattle.cf_lane.proofs.Failing.{on_err}
-use Rattle.cf_lane.proofs.Taking.{grows_push}
+use Rattle.cf_lane.proofs.Logging.{logs_none}
+use Rattle.cf_lane.proofs.Taking.{grows_push, grows_same, room_less}
 use Rattle.cf_lane.specs.Handled.{Grows, MayHaveMore}
 use Rattle.cf_lane.specs.Iec104.{ack_octets, apdu_octets}
 use Rattle.cf_outq.specs.SendQueue.{Queue}
-use Rattle.cf_lane.proofs.Renumbering.{AreRight, ack_most, does_admitted, does_refused, mirror_most, refused_lines}
+use Rattle.cf_lane.proofs.Renumbering.{AreRight, ack_most, cut_numbers, cut_unstarted, does_admitted, does_cut, does_refused, mirror_most, refused_lines}
 use Rattle.cf_lane.specs.Numbers.{events_of, has_mirror}
 use Rattle.cf_lane.specs.Renumbered.{MissesApdu, mirror_octets, numbered}
 use Rattle.cf_lane.specs.Log.{admission_lines, line_about, refusal_line, with_lines}
@@ -130,3 +131,52 @@ pub returns-in_ok-log_refusal-in-Refused-clause-controller_grows :
 returns-in_ok-log_refusal-in-Refused-clause-controller_grows g c =
     subst (λ (q : Queue). Grows (length c.args.asdu.now.bytes + 6) 0 0 c.args.to_controller.now q) (sym c.push_refused.ensures.controller)
     (grows_push (length c.args.asdu.now.bytes + 6) c.args.to_controller.now (ack_octets c.refused-stamp.result.ack) (omega (arith, ack_most c.refused-stamp.result.ack)))
+
+pub returns-then-not-may_send-clause-client_grows : goal.returns-then-not-may_send-clause-client_grows
+returns-then-not-may_send-clause-client_grows g c = grows_same _ _ _
+
+pub returns-then-not-may_send-clause-controller_grows : goal.returns-then-not-may_send-clause-controller_grows
+returns-then-not-may_send-clause-controller_grows g c = grows_same _ _ _
+
+pub returns-then-not-may_send-clause-desk : goal.returns-then-not-may_send-clause-desk
+returns-then-not-may_send-clause-desk g c = logs_none _ c.requires.whole
+
+pub returns-in-Err-clause-client_grows : goal.returns-in-Err-clause-client_grows
+returns-in-Err-clause-client_grows g c = grows_same _ _ _
+
+pub returns-in-Err-clause-controller_grows : goal.returns-in-Err-clause-controller_grows
+returns-in-Err-clause-controller_grows g c = grows_same _ _ _
+
+pub returns-in-Err-clause-desk : goal.returns-in-Err-clause-desk
+returns-in-Err-clause-desk g c = logs_none _ c.requires.whole
+
+pub returns-in_ok-log_admission-in-Admitted-clause-client_grows : goal.returns-in_ok-log_admission-in-Admitted-clause-client_grows
+returns-in_ok-log_admission-in-Admitted-clause-client_grows g c = grows_same _ _ _
+
+pub returns-in_ok-log_admission-in-Admitted-clause-desk : goal.returns-in_ok-log_admission-in-Admitted-clause-desk
+returns-in_ok-log_admission-in-Admitted-clause-desk g c = c.in_ok-log_admission-in-Admitted.ensures.desk
+
+pub returns-in_ok-log_refusal-in-Refused-clause-desk : goal.returns-in_ok-log_refusal-in-Refused-clause-desk
+returns-in_ok-log_refusal-in-Refused-clause-desk g c = c.in_ok-log_refusal-in-Refused.ensures.desk
+
+pub returns-then-not-may_send-clause-takes : goal.returns-then-not-may_send-clause-takes
+returns-then-not-may_send-clause-takes g c = λ earlier stands ended.
+    does_cut c.args.asset.now (says_by c.args.asset.now c.args.client.now.address c.args.rules.now c.args.moment) c.args.client.now c.args.moment c.args.send c.args.receive c.args.asdu.now.bytes
+    (numbered c.args.numbers.now c.args.to_client.now c.args.to_controller.now (DeskValue.lines (g.D.Desk.value c.args.desk.now))) earlier _ _
+    (cut_unstarted earlier c.args.send c.args.receive (sym (c.may_send.ensures.answer (events_of earlier) stands) ∙ c.if-not-may_send.true))
+
+pub returns-in-Err-clause-takes : goal.returns-in-Err-clause-takes
+returns-in-Err-clause-takes g c = λ earlier stands ended.
+    does_cut c.args.asset.now (says_by c.args.asset.now c.args.client.now.address c.args.rules.now c.args.moment) c.args.client.now c.args.moment c.args.send c.args.receive c.args.asdu.now.bytes
+    (numbered c.args.numbers.now c.args.to_client.now c.args.to_controller.now (DeskValue.lines (g.D.Desk.value c.args.desk.now))) earlier _ _
+    (cut_numbers earlier c.args.send c.args.receive c.in-Err.refusal _ (sym (c.may_send.ensures.answer (events_of earlier) stands) ∙ c.if-not-may_send.false)
+    (c.in-Err.ensures.answer (events_of earlier) stands) c.number_cut.ensures)
+
+pub push_info-requires-clause-room : goal.push_info-requires-clause-room
+push_info-requires-clause-room g c = room_less _ _ _ (omega arith) c.requires.controller_room
+
+pub returns-in_ok-log_admission-in-Admitted-clause-controller_grows :
+    goal.returns-in_ok-log_admission-in-Admitted-clause-controller_grows
+returns-in_ok-log_admission-in-Admitted-clause-controller_grows g c =
+    subst (λ (q : Queue). Grows (length c.args.asdu.now.bytes + 6) 0 0 c.args.to_controller.now q) (sym c.push_info.ensures.queue)
+    (grows_push (length c.args.asdu.now.bytes + 6) c.args.to_controller.now _ (omega arith))

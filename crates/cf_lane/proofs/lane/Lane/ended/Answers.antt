@@ -45,3 +45,15 @@ returns-in_err-log_end-clause-fails_apart g c =
 
 pub log_end-requires-clause-within : goal.log_end-requires-clause-within
 log_end-requires-clause-within g c = subst IsAssetWithin (sym c.first.ensures) (within_at c.args.site.now c.requires.within 0)
+
+pub returns-clause-whole : goal.returns-clause-whole
+returns-clause-whole g c = c.in_ok-log_end.ensures.desk.whole refl
+
+pub returns-clause-log : goal.returns-clause-log
+returns-clause-log g c = c.in_ok-log_end.ensures.desk.log
+
+pub returns-clause-cause : goal.returns-clause-cause
+returns-clause-cause g c = c.in_ok-log_end.ensures.desk.cause
+
+pub returns-in_err-log_end-clause-log : goal.returns-in_err-log_end-clause-log
+returns-in_err-log_end-clause-log g c = c.in_err-log_end.ensures.desk.log

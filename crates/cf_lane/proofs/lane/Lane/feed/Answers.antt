@@ -39,12 +39,12 @@ step-requires-clause-counts g c =
     omega (arith, c.units.invariant.counts, c.requires.counts, c.units.invariant.inside, ap length c.after.ensures.bytes, length-drop c.units.used c.args.bytes.bytes)
 
 pub returns-in_err-step-clause-log : goal.returns-in_err-step-clause-log
-returns-in_err-step-clause-log g c = writes_both _ _ _ c.units.invariant.log c.step.ensures.log
+returns-in_err-step-clause-log g c = writes_both _ _ _ c.units.invariant.log c.step.ensures.desk.log
 
 pub returns-in_err-step-clause-cause : goal.returns-in_err-step-clause-cause
 returns-in_err-step-clause-cause g c =
     let failed : IsErr c.step.result = subst (λ (r : Result Step WriteFault). IsErr r) (sym c.in_err-step.was) refl in
-    let cause = cause_after _ _ _ _ c.units.invariant.log.keeps.later c.step.ensures.cause in
+    let cause = cause_after _ _ _ _ c.units.invariant.log.keeps.later c.step.ensures.desk.cause in
     record { later = cause.later; rose = λ e. cause.rose failed }
 
 pub units-smaller : goal.units-smaller
@@ -63,8 +63,8 @@ units-preserved g c =
       controller_grows = grows_took c.args.site.now c.args.moment c.args.side c.args.bytes.bytes c.after.result.bytes c.units.used c.after.ensures.bytes inv.inside _ _ _ _ _ _ c.in_ok-step.step c.in-Took.n c.in-Took.is inv.controller_grows c.in_ok-step.ensures.controller_grows;
       counts = omega (arith, inv.counts, c.in_ok-step.ensures.counts, ap letters_in c.in-Took.is);
       of_site = c.in_ok-step.ensures.of_site;
-      whole = c.in_ok-step.ensures.whole;
-      log = writes_both _ _ _ inv.log c.step.ensures.log;
+      whole = c.in_ok-step.ensures.desk.whole refl;
+      log = writes_both _ _ _ inv.log c.step.ensures.desk.log;
     }
 
 pub returns-in-More-clause-history : goal.returns-in-More-clause-history
@@ -91,10 +91,13 @@ pub returns-in-More-clause-counts : goal.returns-in-More-clause-counts
 returns-in-More-clause-counts g c = omega (arith, c.units.invariant.counts, c.in_ok-step.ensures.counts, no_letters _ c.in-More.is)
 
 pub returns-in-More-clause-log : goal.returns-in-More-clause-log
-returns-in-More-clause-log g c = writes_both _ _ _ c.units.invariant.log c.step.ensures.log
+returns-in-More-clause-log g c = writes_both _ _ _ c.units.invariant.log c.step.ensures.desk.log
+
+pub returns-in-More-clause-whole : goal.returns-in-More-clause-whole
+returns-in-More-clause-whole g c = c.in_ok-step.ensures.desk.whole refl
 
 pub returns-in-More-clause-cause : goal.returns-in-More-clause-cause
-returns-in-More-clause-cause g c = record { later = omega (arith, c.units.invariant.log.keeps.later, c.step.ensures.log.keeps.later); rose = λ e. cc e }
+returns-in-More-clause-cause g c = record { later = omega (arith, c.units.invariant.log.keeps.later, c.step.ensures.desk.log.keeps.later); rose = λ e. cc e }
 
 pub returns-in-More-clause-left : goal.returns-in-More-clause-left
 returns-in-More-clause-left g c = λ e.

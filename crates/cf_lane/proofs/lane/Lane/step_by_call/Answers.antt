@@ -1,7 +1,9 @@
-use Rattle.std.proofs.Common.{ap, arith}
+use Rattle.std.proofs.Common.{ap, arith, subst}
 use Rattle.cf_outside.specs.Desk.{DeskValue}
-use Rattle.cf_lane.proofs.Fronts.{counted_most, counts_counted, dnp3_wire, fronts_in, grows_counted, grows_in, iec104_wire, inside_counted, is_dnp3, is_iec104, lane_counted, lane_in, lane_of, steps_counted, wire_in}
-use Rattle.cf_lane.specs.Handled.{LaneValue, outlets}
+use Rattle.cf_lane.proofs.Failing.{on_err}
+use Rattle.cf_lane.proofs.Fronts.{are_all, counted_most, counts_counted, dnp3_wire, fronts_in, grows_counted, grows_in, iec104_wire, inside_counted, is_dnp3, is_idle, is_iec104, lane_counted, lane_in, lane_of, misses_in, room_in, rules_in, steps_counted, wire_in}
+use Rattle.cf_lane.proofs.Taking.{room_less}
+use Rattle.cf_lane.specs.Handled.{FewAtFront, LaneValue, outlets}
 use Rattle.cf_lane.specs.declared.wire.Wire.TheVariants as wire
 use Rattle.cf_lane.proofs.lane.Lane.step_by_call.Goals as goal
 
@@ -114,3 +116,55 @@ returns-in_ok-front-in-Iec104-clause-controller_grows g c =
     grows_in c.args.site.now _ _ _ _ _ _ _ c.self.view_is c.in-Iec104.is _ _ _ _
     (grows_counted c.args.side c.args.moment c.in_ok-front-in-Iec104.front (lane_of c.self.inside.client c.self.inside.admitted c.self.inside.refused c.self.inside.rules.items (wire.Iec104 c.take_apdu_at_front.new.numbers))
     c.count_front-in-Iec104.new.self c.count_front-in-Iec104.ensures.counts c.count_front-in-Iec104.result c.count_front-in-Iec104.ensures.step _ _ _ c.in_ok-front-in-Iec104.ensures.controller_grows)
+
+pub take_frame_at_front-requires-clause-dnp3 : goal.take_frame_at_front-requires-clause-dnp3
+take_frame_at_front-requires-clause-dnp3 g c = is_dnp3 c.args.site.now.first.protocol _ _ (wire_in c.args.site.now _ _ _ _ _ _ _ c.self.view_is c.in-Dnp3.is c.requires.of_site)
+
+pub take_frame_at_front-requires-clause-are : goal.take_frame_at_front-requires-clause-are
+take_frame_at_front-requires-clause-are g c = are_all c.args.site.now.first.protocol _ _ (wire_in c.args.site.now _ _ _ _ _ _ _ c.self.view_is c.in-Dnp3.is c.requires.of_site)
+
+pub take_frame_at_front-requires-clause-rules : goal.take_frame_at_front-requires-clause-rules
+take_frame_at_front-requires-clause-rules g c = rules_in c.args.site.now _ _ _ _ _ _ _ c.self.view_is c.in-Dnp3.is c.as_slice.result.now c.as_slice.ensures.value c.requires.of_site
+
+pub take_frame_at_front-requires-clause-client_room : goal.take_frame_at_front-requires-clause-client_room
+take_frame_at_front-requires-clause-client_room g c = room_in c.args.site.now _ _ _ _ _ _ _ c.self.view_is c.in-Dnp3.is _ _ c.requires.client_room
+
+pub take_frame_at_front-requires-clause-controller_room : goal.take_frame_at_front-requires-clause-controller_room
+take_frame_at_front-requires-clause-controller_room g c = room_in c.args.site.now _ _ _ _ _ _ _ c.self.view_is c.in-Dnp3.is _ _ c.requires.controller_room
+
+pub count_front-requires-clause-few : goal.count_front-requires-clause-few
+count_front-requires-clause-few g c = subst (FewAtFront c.in_ok-front-in-Dnp3.front) c.as_slice.ensures.value c.in_ok-front-in-Dnp3.ensures.few
+
+pub returns-in_err-front-in-Dnp3-clause-misses : goal.returns-in_err-front-in-Dnp3-clause-misses
+returns-in_err-front-in-Dnp3-clause-misses g c =
+    on_err _ _ (misses_in c.args.site.now _ _ _ _ _ _ _ c.self.view_is c.in-Dnp3.is c.args.moment c.args.side c.args.bytes.now.bytes (outlets c.args.to_client.now c.args.to_controller.now (DeskValue.lines (g.D.Desk.value c.args.desk.now)))
+    _ _ c.as_slice.result.now c.as_slice.ensures.value c.in_err-front-in-Dnp3.ensures.misses)
+
+pub returns-in_ok-front-in-Dnp3-clause-desk : goal.returns-in_ok-front-in-Dnp3-clause-desk
+returns-in_ok-front-in-Dnp3-clause-desk g c = c.in_ok-front-in-Dnp3.ensures.desk
+
+pub take_apdu_at_front-requires-clause-iec104 : goal.take_apdu_at_front-requires-clause-iec104
+take_apdu_at_front-requires-clause-iec104 g c = is_iec104 c.args.site.now.first.protocol _ _ (wire_in c.args.site.now _ _ _ _ _ _ _ c.self.view_is c.in-Iec104.is c.requires.of_site)
+
+pub take_apdu_at_front-requires-clause-idle : goal.take_apdu_at_front-requires-clause-idle
+take_apdu_at_front-requires-clause-idle g c = is_idle c.args.site.now.first.protocol _ _ (wire_in c.args.site.now _ _ _ _ _ _ _ c.self.view_is c.in-Iec104.is c.requires.of_site)
+
+pub take_apdu_at_front-requires-clause-rules : goal.take_apdu_at_front-requires-clause-rules
+take_apdu_at_front-requires-clause-rules g c = rules_in c.args.site.now _ _ _ _ _ _ _ c.self.view_is c.in-Iec104.is c.as_slice-in-Iec104.result.now c.as_slice-in-Iec104.ensures.value c.requires.of_site
+
+pub take_apdu_at_front-requires-clause-client_room : goal.take_apdu_at_front-requires-clause-client_room
+take_apdu_at_front-requires-clause-client_room g c = room_less _ _ _ (omega arith) (room_in c.args.site.now _ _ _ _ _ _ _ c.self.view_is c.in-Iec104.is _ _ c.requires.client_room)
+
+pub take_apdu_at_front-requires-clause-controller_room : goal.take_apdu_at_front-requires-clause-controller_room
+take_apdu_at_front-requires-clause-controller_room g c = room_less _ _ _ (omega arith) (room_in c.args.site.now _ _ _ _ _ _ _ c.self.view_is c.in-Iec104.is _ _ c.requires.controller_room)
+
+pub count_front-requires-in-Iec104-clause-few : goal.count_front-requires-in-Iec104-clause-few
+count_front-requires-in-Iec104-clause-few g c = subst (FewAtFront c.in_ok-front-in-Iec104.front) c.as_slice-in-Iec104.ensures.value c.in_ok-front-in-Iec104.ensures.few
+
+pub returns-in_err-front-in-Iec104-clause-misses : goal.returns-in_err-front-in-Iec104-clause-misses
+returns-in_err-front-in-Iec104-clause-misses g c =
+    on_err _ _ (misses_in c.args.site.now _ _ _ _ _ _ _ c.self.view_is c.in-Iec104.is c.args.moment c.args.side c.args.bytes.now.bytes (outlets c.args.to_client.now c.args.to_controller.now (DeskValue.lines (g.D.Desk.value c.args.desk.now)))
+    _ _ c.as_slice-in-Iec104.result.now c.as_slice-in-Iec104.ensures.value c.in_err-front-in-Iec104.ensures.misses)
+
+pub returns-in_ok-front-in-Iec104-clause-desk : goal.returns-in_ok-front-in-Iec104-clause-desk
+returns-in_ok-front-in-Iec104-clause-desk g c = c.in_ok-front-in-Iec104.ensures.desk

@@ -1,153 +1,40 @@
-use Rattle.std.proofs.Common.{◌∷◌, [], arith, length, refl, sym, ap, ◌∙◌, subst}
-use Rattle.cf_modbus.specs.Adu.{adu_value, spelling}
+use Rattle.std.proofs.Common.{arith, length, refl, sym, ap, ◌∙◌, subst, ◌≡◌}
+use Rattle.cf_modbus.specs.Adu.{adu_value}
 use Rattle.cf_outq.specs.SendQueue.{after_push}
 use Rattle.cf_outside.specs.Desk.{DeskValue}
-use Rattle.cf_lane.specs.Log.{admission_lines, line_about, refusal_line, is_some_bytes, with_lines}
-use Rattle.cf_lane.specs.Modbus.{adu_reply, HasCommandFate}
-use Rattle.cf_lane.specs.Rings.{IsRulesOf, says_by}
-use Rattle.cf_lane.specs.Judgement.{fate_of_judgement}
-use Rattle.cf_lane.specs.declared.fate.Judgement.{Judgement}
-use Rattle.cf_policy.specs.Within.{IsAssetWithin}
+use Rattle.cf_lane.specs.Acts.{nothing_shown}
+use Rattle.cf_lane.specs.Modbus.{HasCommandFate}
+use Rattle.cf_lane.specs.Rings.{AllGoOn, IsRulesOf, says_by}
 use Rattle.cf_policy.specs.declared.Asset.{Asset}
-use Rattle.cf_lane.specs.Handled.{LaneValue, MayHaveMore}
+use Rattle.cf_lane.specs.Handled.{LaneValue}
 use Rattle.cf_lane.specs.declared.fate.Fate.TheVariants as fate
-use Rattle.cf_lane.proofs.Failing.{on_err, misses_admitted, misses_refused}
-use Rattle.cf_lane.proofs.Fronts.{few_at}
-use Rattle.cf_lane.proofs.Parting.{within_at}
-use Rattle.cf_lane.proofs.Saying.{at_own, lane_on}
-use Rattle.cf_lane.proofs.Taking.{takes_admitted, takes_refused}
+use Rattle.cf_lane.proofs.Handling.{with_lines-nothing}
+use Rattle.cf_lane.proofs.Saying.{all_idle, at_own, lane_on}
+use Rattle.cf_lane.proofs.Taking.{takes_admitted}
 use Rattle.cf_lane.proofs.lane.Lane.take_command.Goals as goal
 
-pub returns-in_ok-log_admission-in-Admitted-clause-takes : goal.returns-in_ok-log_admission-in-Admitted-clause-takes
-returns-in_ok-log_admission-in-Admitted-clause-takes g c =
+pub returns-then-is_plain-clause-takes : goal.returns-then-is_plain-clause-takes
+returns-then-is_plain-clause-takes g c =
     let site = c.args.site.now in
     let place = c.place_for_adu-place.result in
     let own = c.rules_at-rules.result.now in
-    let asset = c.asset-asset.result.now in
-    let is = c.asset-asset.ensures in
+    let asset = c.asset.result.now in
+    let is = c.asset.ensures in
     let a = adu_value c.args.adu.now in
     let moment = c.args.moment in
     let at = at_own _ _ _ place own c.self.view_is c.as_slice.ensures.value c.rules_at-rules.ensures in
     let of = c.requires.of_site.rules.each place own at in
     let client = c.args.self.now.client.address in
-    let used = c.in-Admitted.admission in
-    let text = DeskValue.lines (g.D.Desk.value c.args.desk.now) in
-    let has = subst (λ (j : Judgement). HasCommandFate asset (says_by asset client own moment) a (fate_of_judgement j)) c.in-Admitted.is
-    (c.judge.ensures.fate client (subst (λ (x : Asset). IsRulesOf x client own) (sym is) of)) in
-    takes_admitted site place moment a c.place_for_adu-place.ensures.place _ _ c.admit.ensures.client c.admit.ensures.wire own at of used c.requires.«open»
-    (subst (λ (x : Asset). HasCommandFate x (says_by x client own moment) a (fate.Admitted used)) is has)
-    c.admit.ensures.rules
-    c.admit.ensures.admitted c.admit.ensures.refused
+    let new = ap (λ (l : LaneValue). l.rules) c.admit_plain.ensures in
+    let has = c.is_plain.ensures.fate c.if-is_plain.true client moment (subst (λ (x : Asset). IsRulesOf x client own) (sym is) of) in
+    takes_admitted site place moment a c.place_for_adu-place.ensures.place _ _ (ap (λ (l : LaneValue). l.client) c.admit_plain.ensures)
+    (ap (λ (l : LaneValue). l.wire) c.admit_plain.ensures) own at of nothing_shown c.requires.«open»
+    (subst (λ (x : Asset). HasCommandFate x (says_by x client own moment) a (fate.Admitted nothing_shown)) is has)
+    (all_idle place (fate.Admitted nothing_shown) moment c.args.self.now.rules c.admit_plain.new.self.rules own at (c.is_plain.ensures.unrated c.if-is_plain.true) new)
+    (ap (λ (l : LaneValue). l.admitted) c.admit_plain.ensures) (ap (λ (l : LaneValue). l.refused) c.admit_plain.ensures)
     refl (c.push_octets.ensures.queue ∙ ap (after_push c.args.to_controller.now) c.requires.octets)
-    (c.in_ok-log_admission-in-Admitted.ensures.lines
-    ∙ ap (λ o. with_lines text (admission_lines asset c.self-in-Admitted.inside.client moment o used)) c.requires.octets
-    ∙ ap (λ (l : LaneValue). with_lines text (admission_lines asset l.client moment (spelling a) used)) c.self-in-Admitted.view_is
-    ∙ ap (λ e. with_lines text (admission_lines asset e moment (spelling a) used)) c.admit.ensures.client
-    ∙ ap (λ (x : Asset). with_lines text (admission_lines x c.args.self.now.client moment (spelling a) used)) is)
-
-pub returns-in_ok-log_admission-in-Admitted-clause-of_site : goal.returns-in_ok-log_admission-in-Admitted-clause-of_site
-returns-in_ok-log_admission-in-Admitted-clause-of_site g c =
-    lane_on c.args.site.now c.place_for_adu-place.result (fate.Admitted c.in-Admitted.admission) c.args.moment c.args.self.now c.admit.new.self c.requires.of_site
-    c.admit.ensures.client
-    c.admit.ensures.rules
-    c.admit.ensures.wire
-
-pub returns-in_err-log_admission-in-Admitted-clause-misses : goal.returns-in_err-log_admission-in-Admitted-clause-misses
-returns-in_err-log_admission-in-Admitted-clause-misses g c =
-    let site = c.args.site.now in
-    let place = c.place_for_adu-place.result in
-    let own = c.rules_at-rules.result.now in
-    let asset = c.asset-asset.result.now in
-    let is = c.asset-asset.ensures in
-    let a = adu_value c.args.adu.now in
-    let moment = c.args.moment in
-    let at = at_own _ _ _ place own c.self.view_is c.as_slice.ensures.value c.rules_at-rules.ensures in
-    let of = c.requires.of_site.rules.each place own at in
-    let client = c.args.self.now.client.address in
-    let used = c.in-Admitted.admission in
-    let text = DeskValue.lines (g.D.Desk.value c.args.desk.now) in
-    let log = DeskValue.lines (g.D.Desk.value c.log_admission.new.desk) in
-    let part = DeskValue.line_part (g.D.Desk.value c.log_admission.new.desk) in
-    let has = subst (λ (j : Judgement). HasCommandFate asset (says_by asset client own moment) a (fate_of_judgement j)) c.in-Admitted.is
-    (c.judge.ensures.fate client (subst (λ (x : Asset). IsRulesOf x client own) (sym is) of)) in
-    on_err _ _ (misses_admitted site place moment a c.place_for_adu-place.ensures.place _ _ _ own at of used
-    (subst (λ (x : Asset). HasCommandFate x (says_by x client own moment) a (fate.Admitted used)) is has)
-    (subst (λ (x : Asset). MayHaveMore (admission_lines x c.args.self.now.client moment (spelling a) used) text log part) is
-    (subst (λ e. MayHaveMore (admission_lines asset e moment (spelling a) used) text log part) c.admit.ensures.client
-    (subst (λ (l : LaneValue). MayHaveMore (admission_lines asset l.client moment (spelling a) used) text log part) c.self-in-Admitted.view_is
-    (subst (λ o. MayHaveMore (admission_lines asset c.self-in-Admitted.inside.client moment o used) text log part) c.requires.octets
-    c.in_err-log_admission-in-Admitted.ensures.fails)))))
-
-pub returns-in_ok-log_refusal-in-Refused-clause-takes : goal.returns-in_ok-log_refusal-in-Refused-clause-takes
-returns-in_ok-log_refusal-in-Refused-clause-takes g c =
-    let site = c.args.site.now in
-    let place = c.place_for_adu-place.result in
-    let own = c.rules_at-rules.result.now in
-    let asset = c.asset-asset.result.now in
-    let is = c.asset-asset.ensures in
-    let a = adu_value c.args.adu.now in
-    let moment = c.args.moment in
-    let at = at_own _ _ _ place own c.self.view_is c.as_slice.ensures.value c.rules_at-rules.ensures in
-    let of = c.requires.of_site.rules.each place own at in
-    let client = c.args.self.now.client.address in
-    let r = c.in-Refused.refusal in
-    let text = DeskValue.lines (g.D.Desk.value c.args.desk.now) in
-    let replied = is_some_bytes (adu_reply c.args.to_client.now.ended (fate.Refused r) a) in
-    let has = subst (λ (j : Judgement). HasCommandFate asset (says_by asset client own moment) a (fate_of_judgement j)) c.in-Refused.is
-    (c.judge.ensures.fate client (subst (λ (x : Asset). IsRulesOf x client own) (sym is) of)) in
-    takes_refused site place moment a c.place_for_adu-place.ensures.place _ _ (ap (λ (l : LaneValue). l.client) c.refuse.ensures)
-    (ap (λ (l : LaneValue). l.wire) c.refuse.ensures) own at of r
-    (subst (λ (x : Asset). HasCommandFate x (says_by x client own moment) a (fate.Refused r)) is has) (ap (λ (l : LaneValue). l.rules) c.refuse.ensures)
-    (ap (λ (l : LaneValue). l.admitted) c.refuse.ensures)
-    (ap (λ (l : LaneValue). l.refused) c.refuse.ensures)
-    c.reply-replied.ensures.queue refl
-    (c.in_ok-log_refusal-in-Refused.ensures.lines
-    ∙ ap (λ b. with_lines text (line_about asset c.self.inside.client moment (refusal_line asset r b c.args.octets.bytes) ∷ [])) c.reply-replied.ensures.replied
-    ∙ ap (λ o. with_lines text (line_about asset c.self.inside.client moment (refusal_line asset r replied o) ∷ [])) c.requires.octets
-    ∙ ap (λ (l : LaneValue). with_lines text (line_about asset l.client moment (refusal_line asset r replied (spelling a)) ∷ [])) c.self.view_is
-    ∙ ap (λ (x : Asset). with_lines text (line_about x c.args.self.now.client moment (refusal_line x r replied (spelling a)) ∷ [])) is)
-
-pub returns-in_err-log_refusal-in-Refused-clause-misses : goal.returns-in_err-log_refusal-in-Refused-clause-misses
-returns-in_err-log_refusal-in-Refused-clause-misses g c =
-    let site = c.args.site.now in
-    let place = c.place_for_adu-place.result in
-    let own = c.rules_at-rules.result.now in
-    let asset = c.asset-asset.result.now in
-    let is = c.asset-asset.ensures in
-    let a = adu_value c.args.adu.now in
-    let moment = c.args.moment in
-    let at = at_own _ _ _ place own c.self.view_is c.as_slice.ensures.value c.rules_at-rules.ensures in
-    let of = c.requires.of_site.rules.each place own at in
-    let client = c.args.self.now.client.address in
-    let r = c.in-Refused.refusal in
-    let replied = is_some_bytes (adu_reply c.args.to_client.now.ended (fate.Refused r) a) in
-    let has = subst (λ (j : Judgement). HasCommandFate asset (says_by asset client own moment) a (fate_of_judgement j)) c.in-Refused.is
-    (c.judge.ensures.fate client (subst (λ (x : Asset). IsRulesOf x client own) (sym is) of)) in
-    on_err _ _ (misses_refused site place moment a c.place_for_adu-place.ensures.place _ _ _ own at of r
-    (subst (λ (x : Asset). HasCommandFate x (says_by x client own moment) a (fate.Refused r)) is has)
-    (line_about asset c.self.inside.client moment (refusal_line asset r c.reply-replied.result c.args.octets.bytes))
-    (ap (λ b. line_about asset c.self.inside.client moment (refusal_line asset r b c.args.octets.bytes)) c.reply-replied.ensures.replied
-    ∙ ap (λ o. line_about asset c.self.inside.client moment (refusal_line asset r replied o)) c.requires.octets
-    ∙ ap (λ (l : LaneValue). line_about asset l.client moment (refusal_line asset r replied (spelling a))) c.self.view_is
-    ∙ ap (λ (x : Asset). line_about x c.args.self.now.client moment (refusal_line x r replied (spelling a))) is)
-    c.in_err-log_refusal-in-Refused.ensures.fails)
+    (sym (with_lines-nothing (DeskValue.lines (g.D.Desk.value c.args.desk.now))))
 
 pub rules_at-rules-requires : goal.rules_at-rules-requires
 rules_at-rules-requires g c =
     omega (arith, c.place_for_adu-place.ensures.inside, c.requires.of_site.rules.one_each, ap (λ (l : LaneValue). length l.rules) c.self.view_is, ap length c.as_slice.ensures.value)
-
-pub log_admission-requires-clause-within : goal.log_admission-requires-clause-within
-log_admission-requires-clause-within g c = subst IsAssetWithin (sym c.asset-asset.ensures) (within_at c.args.site.now c.requires.within c.place_for_adu-place.result)
-
-pub log_refusal-requires-clause-within : goal.log_refusal-requires-clause-within
-log_refusal-requires-clause-within g c = subst IsAssetWithin (sym c.asset-asset.ensures) (within_at c.args.site.now c.requires.within c.place_for_adu-place.result)
-
-pub judge-requires-clause-few : goal.judge-requires-clause-few
-judge-requires-clause-few g c =
-    (c.requires.of_site.rules.each c.place_for_adu-place.result c.rules_at-rules.result.now
-    (at_own _ _ _ c.place_for_adu-place.result c.rules_at-rules.result.now c.self.view_is c.as_slice.ensures.value c.rules_at-rules.ensures)).few
-
-pub admit-requires-clause-few : goal.admit-requires-clause-few
-admit-requires-clause-few g c =
-    few_at c.args.site.now c.args.self.now.client.address c.place_for_adu-place.result c.args.self.now.rules c.requires.of_site.rules
-    (omega (arith, c.place_for_adu-place.ensures.inside, c.requires.of_site.rules.one_each))

@@ -7,6 +7,8 @@ use Rattle.cf_outside.specs.Desk.{DeskValue}
 use Rattle.cf_lane.proofs.Dnp3Frames.{misses_data, misses_stray, none_by, takes_data, takes_stray, takes_status}
 use Rattle.cf_lane.proofs.Dnp3Growth.{data_grows, data_room, still_fragments}
 use Rattle.cf_lane.proofs.Failing.{on_err}
+use Rattle.cf_lane.proofs.Logging.{logs_none}
+use Rattle.cf_lane.proofs.Taking.{grows_passed, grows_same, room_less}
 use Rattle.cf_lane.specs.Fragments.{parts}
 use Rattle.cf_lane.specs.Kept.{owed_by}
 use Rattle.cf_lane.specs.Handled.{Grows, HasRoom}
@@ -76,3 +78,39 @@ returns-clause-controller_grows g c =
     subst (λ (xs : List ℕ). Grows (2 * length xs) (owed_by c.args.self.now) (owed_by c.take_answer.new.self) c.args.to_controller.now c.take_answer.new.to_controller) (sym c.requires.octets)
     (data_grows c.args.side (frame_value c.args.frame.now) c.take_segment-answer.result c.args.self.now c.take_segment-answer.new.self c.requires.are c.take_segment-answer.ensures
     c.take_answer.new.self _ _ t.client_part t.controller_part c.in_ok-fate.ensures.controller_grows)
+
+pub returns-in-Some-clause-client_grows : goal.returns-in-Some-clause-client_grows
+returns-in-Some-clause-client_grows g c = grows_same _ _ _
+
+pub returns-in-Some-clause-controller_grows : goal.returns-in-Some-clause-controller_grows
+returns-in-Some-clause-controller_grows g c = grows_same _ _ _
+
+pub returns-in-Some-clause-desk : goal.returns-in-Some-clause-desk
+returns-in-Some-clause-desk g c = c.in_ok-log_stray.ensures.desk
+
+pub pass_on-requires-clause-client_room : goal.pass_on-requires-clause-client_room
+pass_on-requires-clause-client_room g c = room_less _ _ _ (omega arith) c.requires.client_room
+
+pub pass_on-requires-clause-controller_room : goal.pass_on-requires-clause-controller_room
+pass_on-requires-clause-controller_room g c = room_less _ _ _ (omega arith) c.requires.controller_room
+
+pub returns-then-not-is_data-clause-client_grows : goal.returns-then-not-is_data-clause-client_grows
+returns-then-not-is_data-clause-client_grows g c = grows_passed (is_side side.Client c.args.side) _ _ _ _ c.pass_on.ensures.client
+
+pub returns-then-not-is_data-clause-controller_grows : goal.returns-then-not-is_data-clause-controller_grows
+returns-then-not-is_data-clause-controller_grows g c = grows_passed (is_side side.Controller c.args.side) _ _ _ _ c.pass_on.ensures.controller
+
+pub returns-then-not-is_data-clause-desk : goal.returns-then-not-is_data-clause-desk
+returns-then-not-is_data-clause-desk g c = logs_none _ c.requires.desk
+
+pub take_answer-requires-clause-completed : goal.take_answer-requires-clause-completed
+take_answer-requires-clause-completed g c = c.take_segment-answer.ensures.completes
+
+pub take_answer-requires-clause-to_client : goal.take_answer-requires-clause-to_client
+take_answer-requires-clause-to_client g c = omega (arith, c.take_segment-answer.ensures.to_client, c.requires.are.to_client)
+
+pub take_answer-requires-clause-to_controller : goal.take_answer-requires-clause-to_controller
+take_answer-requires-clause-to_controller g c = omega (arith, c.take_segment-answer.ensures.to_controller, c.requires.are.to_controller)
+
+pub returns-clause-desk : goal.returns-clause-desk
+returns-clause-desk g c = c.in_ok-fate.ensures.desk
