@@ -2,14 +2,14 @@
 # The processor time of `cmdwall judge`, `review` and `draft` on captures of Modbus round trips, of reads of 125 registers, ten of them over
 # and over, and of DNP3 polls, beside that of `tcpdump -n -r` and of `tshark` with a display filter that finds the same function codes, on
 # the same file in the same run (each left out where it is missing), and the memory of `judge` beside the text that the flows carry.
-# Ratios, and no promise. Words: the numbers of round trips (300,000), of polls of DNP3 (200,000) and of reads (200,000). CMDWALL in the
+# Ratios, and no promise. Words: the numbers of round trips (300,000), of polls of DNP3 (200,000) and of reads (150,000). CMDWALL in the
 # environment: the program (the one that is built).
 set -eu
 top=$(cd "$(dirname "$0")/.." && pwd)
 work=$(mktemp -d)
 trap 'rm -rf "$work"' EXIT
 [ -n "${CMDWALL:-}" ] || "$top/cmdwall" --version > /dev/null
-PYTHONDONTWRITEBYTECODE=1 python3 - "$top" "$work" "${1:-300000}" "${2:-200000}" "${3:-200000}" <<'PY'
+PYTHONDONTWRITEBYTECODE=1 python3 - "$top" "$work" "${1:-300000}" "${2:-200000}" "${3:-150000}" <<'PY'
 import os, shutil, statistics, struct, subprocess, sys
 
 top, work, trips, polls, reads = sys.argv[1], sys.argv[2], *map(int, sys.argv[3:6])

@@ -4,4 +4,4 @@
 pub(crate) const DATE: &str = "2026-12-02";
 
 /// The first twelve digits of the sum of the source.
-pub(crate) const SOURCE: &str = "b7744b841f0f";
+pub(crate) const SOURCE: &str = "60b2ecacff4b";

@@ -28,6 +28,7 @@ mod Moments
 pub mod Parting
 mod Pieces
 mod Places
+mod Plains
 mod Quiet
 mod Rated
 mod Recuts

@@ -21,6 +21,7 @@ pub mod Output
 pub mod Over
 pub mod Parts
 pub mod Passes
+pub mod Plain
 pub mod Rates
 pub mod Renumbered
 pub mod Ring

@@ -1,5 +1,5 @@
 //! What becomes of a command, and of an item of a stream.
-ghost use Rattle.std.specs.Prelude.{◌≡◌, ◌<◌, ◌≤◌, List, ℕ, false, length, replicate, true};
+ghost use Rattle.std.specs.Prelude.{◌≡◌, ◌<◌, ◌≤◌, ◌∷◌, [], List, ℕ, false, length, replicate};
 ghost use Rattle.std.specs.Option.{option_or};
 ghost use Rattle.cf_modbus.specs.Acts.{acts};
 ghost use Rattle.cf_modbus.specs.Adu.{adu_value};
@@ -9,13 +9,14 @@ ghost use Rattle.cf_policy.specs.Logged.{is_logged};
 ghost use Rattle.cf_policy.specs.Verdict.{verdict_of};
 ghost use Rattle.cf_policy.specs.Within.{most_rated};
 ghost use Rattle.cf_lane.specs.Rings.{IsRulesOf, says_by};
-ghost use Rattle.cf_lane.specs.Acts.{GivesActs, by_refusal, fate_of_acts, first_refusal, nothing_shown, shown_by, unrated};
+ghost use Rattle.cf_lane.specs.Acts.{GivesActs, by_refusal, fate_of_acts, first_refusal, shown_by, unrated};
 ghost use Rattle.cf_lane.specs.Fate.{HasOwnDecider};
 ghost use Rattle.cf_lane.specs.Judgement.{fate_of_judgement};
+ghost use Rattle.cf_lane.specs.Plain.{HasPlainDecider, IsPlainForm, IsPlainOf, plain_of};
 ghost use Rattle.cf_lane.specs.Modbus.{HasCommandFate, station_refusal};
 
 use crate::rules::Rules;
-use crate::run::{judge_runs, takes_any_value};
+use crate::run::{judge_runs, judge_unrated_runs, takes_any_value};
 use cf_audit::{CutReason, Why};
 use cf_modbus::{Adu, Request, act_at, act_count, read_request, single_write};
 use cf_policy::{Asset, CodeIndex, Decider, MOST_RATED, Verdict, is_logged};
@@ -74,6 +75,17 @@ pub(crate) enum Judgement {
     Refused(Refusal),
 }
 
+/// What is known at once of a command.
+#[derive(Clone, Copy)]
+pub(crate) enum Plain {
+    /// It goes on, and nothing of it is put aside.
+    Admitted,
+    /// It is answered in the controller's place, and goes no further.
+    Refused(Refusal),
+    /// Nothing: it has to be judged.
+    Unknown,
+}
+
 /// What becomes of an ADU of the client of the rules, at a moment in microseconds. The station is compared first, then the form is
 /// read, then each act is judged in its order; the first that is not allowed decides. This project's own order. Requests that
 /// write one point are read in one step.
@@ -105,35 +117,73 @@ pub(crate) fn judge(asset: &Asset, rules: &Rules, moment: u64, adu: &Adu<'_>) ->
     judge_form(asset, rules, moment, adu)
 }
 
-/// Whether an ADU is a request of one point that is admitted with nothing to put aside: no rule of its asset has a rate, and the rule
-/// that allows it has no log. Then `judge` answers that it is admitted; else it has to be asked. It is what plants write most.
+/// What becomes of a command of one act for the asset's station, where that is known without a moment and nothing of it is put aside: no
+/// rule of its asset has a rate, and where it is admitted no rule with a log allowed the act. Else it has to be judged. It is what plants
+/// write most.
 #[inline(always)]
-pub(crate) fn is_plain(asset: &Asset, rules: &Rules, adu: &Adu<'_>) -> bool
-    requires at_least { 1 ≤ length adu.now.pdu.bytes }
-    requires at_most { length adu.now.pdu.bytes ≤ 253 }
-    ensures fate { result ≡ true → (client moment : ℕ) → IsRulesOf asset.now client rules.now
-        → HasCommandFate asset.now (says_by asset.now client rules.now moment) (adu_value adu.now) (Fate.Admitted nothing_shown) }
-    ensures unrated { result ≡ true → length rules.now.rings.items ≡ 0 }
+pub(crate) fn plain_act(asset: &Asset, index: &CodeIndex, act: &Act) -> Plain
+    ensures fate { (client : ℕ) → IsIndexOf asset.now client index.now → IsPlainOf asset.now client (act.now ∷ []) result }
+    ensures decider { HasPlainDecider asset.now.rules result }
 {
-    if u16::from(adu.unit) != asset.station || !rules.rings.is_empty() {
-        return false;
-    }
-    match single_write(adu) {
-        Some(act) => is_allowed_unlogged(asset, &rules.index, &act),
-        None => false,
+    match index.verdict(asset, act) {
+        Verdict::Allow(number) => {
+            if is_logged(asset.rules.as_slice(), number) {
+                return Plain::Unknown;
+            }
+            Plain::Admitted
+        }
+        Verdict::Refuse(decider, reason) => Plain::Refused(Refusal {
+            decider,
+            reason,
+            act: *act,
+        }),
     }
 }
 
-/// Whether an act is allowed by a rule that has no log.
-#[inline(always)]
-fn is_allowed_unlogged(asset: &Asset, index: &CodeIndex, act: &Act) -> bool
-    ensures { result ≡ true → (client : ℕ) → IsIndexOf asset.now client index.now
-        → (number : ℕ) × (verdict_of asset.now client act.now ≡ Verdict.Allow number) × (is_logged asset.now.rules number ≡ false) }
+/// The same of an ADU for the asset's station, by its acts. Where its form is wrong it has to be judged.
+#[inline(never)]
+pub(crate) fn plain_form(asset: &Asset, index: &CodeIndex, adu: &Adu<'_>) -> Plain
+    requires at_least { 1 ≤ length adu.now.pdu.bytes }
+    requires at_most { length adu.now.pdu.bytes ≤ 253 }
+    ensures fate { (client : ℕ) → IsIndexOf asset.now client index.now → IsPlainForm asset.now client (adu_value adu.now) result }
+    ensures decider { HasPlainDecider asset.now.rules result }
 {
-    match index.verdict(asset, act) {
-        Verdict::Allow(number) => !is_logged(asset.rules.as_slice(), number),
-        Verdict::Refuse(_, _) => false,
+    match read_request(adu) {
+        Err(_) => Plain::Unknown,
+        Ok(request) => plain_of(&judge_unrated_request(asset, index, &request)),
     }
+}
+
+/// What is known of a command at once that is judged so where no rule has a rate.
+#[inline(always)]
+fn plain_of(judgement: &Judgement) -> Plain
+    ensures { result ≡ plain_of judgement.now }
+{
+    match judgement {
+        Judgement::Admitted(admission) => {
+            if admission.shown.is_some() {
+                return Plain::Unknown;
+            }
+            Plain::Admitted
+        }
+        Judgement::Refused(refusal) => Plain::Refused(*refusal),
+    }
+}
+
+/// What becomes of a request where no rule has a rate.
+#[inline(always)]
+fn judge_unrated_request(asset: &Asset, index: &CodeIndex, request: &Request<'_>) -> Judgement
+    requires read { IsRead (request_value request.now) }
+    ensures fate { (client : ℕ) → IsIndexOf asset.now client index.now
+        → fate_of_judgement result ≡ by_refusal (unrated asset.now.rules (verdict_of asset.now client) (acts (request_value request.now)))
+        (first_refusal (verdict_of asset.now client) (acts (request_value request.now))) }
+    ensures decider { HasOwnDecider asset.now.rules (fate_of_judgement result) }
+{
+    let any_value = takes_any_value(asset, index, request);
+    if any_value || request.values.is_empty() {
+        return judge_unrated_runs(asset, index, request, any_value);
+    }
+    judge_unrated(asset, index, act_count(request), |i| act_at(request, i))
 }
 
 /// What is known of a command of one act where no rule has a rate. Without a log nothing is put aside.

@@ -60,7 +60,7 @@ pub(crate) fn judge_runs(
 
 /// The same where no rule has a rate.
 #[inline(always)]
-fn judge_unrated_runs(
+pub(crate) fn judge_unrated_runs(
     asset: &Asset,
     index: &CodeIndex,
     request: &Request<'_>,

@@ -1,5 +1,5 @@
 -- A flow that is read as its bytes come, after its units were read on.
-use Rattle.std.proofs.Common.{◌≡◌, ◌+◌, ◌-◌, ◌≤◌, ◌⊎◌, ◌∙◌, Bool, ℕ, true, List, [], All, drop, length, map, refl, sym, ap, subst, inl, inr, arith}
+use Rattle.std.proofs.Common.{◌≡◌, ◌+◌, ◌-◌, ◌≤◌, ◌⊎◌, ◌∙◌, Bool, ℕ, true, List, [], All, drop, length, map, sym, ap, subst, inl, inr, arith}
 use Rattle.std.proofs.lemmas.List.{drop-drop}
 use Rattle.std.proofs.lemmas.List.Elements.{All-drop, All-nil}
 use Rattle.cf_judge.specs.Front.{IsReaderOf}

@@ -1,5 +1,5 @@
 -- A flow that was read goes on: what was read of it stays, whatever bytes come.
-use Rattle.std.proofs.Common.{◌≡◌, ◌+◌, ◌<◌, ◌≤◌, ◌∙◌, ℕ, List, [], ◌++◌, length, map, take, drop, replicate, Option, None, Some, refl, sym, ap, subst, inl, inr, arith, append_assoc, length-append}
+use Rattle.std.proofs.Common.{◌≡◌, ◌+◌, ◌<◌, ◌≤◌, ◌∙◌, ℕ, List, [], ◌++◌, length, map, drop, replicate, Option, None, Some, refl, sym, ap, subst, inl, inr, arith, append_assoc, length-append}
 use Rattle.std.proofs.lemmas.List.{drop-append-le, length-replicate, take-append-le}
 use Rattle.cf_judge.specs.Plain.{AreRead, Breaks, Ending}
 use Rattle.cf_judge.specs.declared.front.Reader.{Reader}

@@ -1,12 +1,11 @@
 -- A record was taken, and the flow that it is of is read on: what is kept of it, and which records remarks are or may be of.
-use Rattle.std.proofs.Common.{◌≡◌, ◌≢◌, ◌+◌, ◌-◌, ◌<◌, ◌≤◌, ◌∙◌, ◌⊎◌, ℕ, zero, suc, Bool, true, false, List, [], ◌∷◌, ◌++◌, All, length, map, drop, replicate, slice_get, Option, None, Some, refl, sym, ap, subst, inl, inr, arith, length-append}
+use Rattle.std.proofs.Common.{◌≡◌, ◌≢◌, ◌+◌, ◌-◌, ◌<◌, ◌≤◌, ◌∙◌, ◌⊎◌, ℕ, zero, suc, Bool, true, List, [], ◌∷◌, ◌++◌, All, length, map, drop, replicate, slice_get, Option, None, Some, refl, sym, ap, subst, inl, inr, arith, length-append}
 use Rattle.std.proofs.Math.Seq.{drop-append_seam}
 use Rattle.std.proofs.lemmas.List.{drop-append-le, length-drop}
 use Rattle.std.proofs.lemmas.List.Elements.{All-append, All-drop, All-nil, All-replicate, All-weaker}
 use Rattle.std.proofs.lemmas.Option.{none-some, same_Some, slice_get_within}
 use Rattle.cf_watch.specs.FlowValue.{FlowValue}
 use Rattle.cf_watch.specs.Kept.{with_gone}
-use Rattle.cf_watch.specs.Stretches.{FirstLetter, first_letter, is_own}
 use Rattle.cf_watch.specs.Trail.{GoesOn, Heard, IsConflictNow, IsHeard, IsNew, IsWatchOf}
 use Rattle.cf_watch.specs.Watched.{Watched}
 use Rattle.cf_watch.specs.declared.Conflict.{Conflict}

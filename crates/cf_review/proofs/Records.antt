@@ -1,5 +1,5 @@
 -- What a record adds to the flows that were watched: letters that came with it, and flows to assets of the policy.
-use Rattle.std.proofs.Common.{◌≡◌, ◌≢◌, ◌+◌, ◌<◌, ◌⊎◌, ℕ, zero, suc, Bool, true, false, List, [], ◌∷◌, ◌++◌, length, set, slice_get, Option, None, Some, option_map, Result, Ok, Err, if◌then◌else◌, refl, sym, ap, subst, inl, inr, arith}
+use Rattle.std.proofs.Common.{◌≡◌, ◌+◌, ◌<◌, ◌⊎◌, ℕ, zero, suc, Bool, true, false, List, [], ◌∷◌, ◌++◌, length, set, slice_get, Option, None, Some, option_map, Result, Ok, Err, if◌then◌else◌, refl, sym, ap, subst, inl, inr}
 use Rattle.std.specs.List.{position}
 use Rattle.std.specs.Option.{option_or}
 use Rattle.std.proofs.lemmas.List.Quantifiers.{position-Some}
@@ -10,7 +10,7 @@ use Rattle.cf_packet.specs.declared.packet.PacketRefusal.{PacketRefusal}
 use Rattle.cf_policy.specs.AtEndpoint.{asset_place}
 use Rattle.cf_policy.specs.declared.Asset.{Asset}
 use Rattle.cf_records.specs.Capture.{Record}
-use Rattle.cf_stream.specs.Stream.{Letter, letter_from}
+use Rattle.cf_stream.specs.Stream.{Letter}
 use Rattle.cf_view.specs.Endpoints.{same_endpoint}
 use Rattle.cf_watch.specs.Carried.{Carried, top_of}
 use Rattle.cf_watch.specs.Seen.{begins_amid, begun_with, goes_first, goes_from, goes_in, goes_to_asset, near, opening_amid, opening_by, packet_by, seen_by, with_frame, with_packet_by}

@@ -1,9 +1,7 @@
 -- A reviewer takes one more record: `IsReviewing` of all that it took.
-use Rattle.std.proofs.Common.{◌≡◌, ◌≢◌, ◌+◌, ◌-◌, ◌<◌, ◌≤◌, ◌^◌, ◌∙◌, ◌⊎◌, ℕ, zero, suc, Bool, true, false, List, [], ◌∷◌, ◌++◌, All, length, map, drop, reverse, set, slice_get, Option, None, Some, nat_le, nat_lt, ◌&&◌, refl, sym, ap, subst, inl, inr, arith, length-append}
-use Rattle.std.proofs.lemmas.Bool.{cases_Bool}
+use Rattle.std.proofs.Common.{◌≡◌, ◌≢◌, ◌+◌, ◌-◌, ◌<◌, ◌≤◌, ◌∙◌, ◌⊎◌, ℕ, zero, suc, Bool, true, false, List, [], ◌∷◌, ◌++◌, All, length, map, drop, reverse, set, slice_get, Option, None, Some, refl, sym, ap, subst, inl, inr, arith, length-append}
 use Rattle.std.proofs.lemmas.Bool.Decides.{nat_tests}
 use Rattle.std.proofs.lemmas.List.{append-nil, drop-drop, length-map, length-reverse, length-set, map-append, reverse-append}
-use Rattle.std.proofs.lemmas.List.Elements.{All-nil}
 use Rattle.std.proofs.lemmas.Option.{none-some, same_Some, slice_get_within}
 use Rattle.std.specs.Vec.{with_item}
 use Rattle.std.specs.declared.vec.Vec.{Vec}
@@ -15,7 +13,7 @@ use Rattle.cf_records.specs.Capture.{Record}
 use Rattle.cf_watch.specs.FlowValue.{FlowValue}
 use Rattle.cf_watch.specs.Seen.{packet_by, seen_by, with_frame}
 use Rattle.cf_watch.specs.Stretches.{FirstLetter, first_letter, is_own}
-use Rattle.cf_watch.specs.Trail.{GoesOn, HasHeard, Heard, IsNew, IsSettled, IsWatchOf, Moves, TakesRecord, forgets}
+use Rattle.cf_watch.specs.Trail.{GoesOn, HasHeard, Heard, IsNew, IsSettled, IsWatchOf, TakesRecord, forgets}
 use Rattle.cf_watch.specs.Watched.{Watched}
 use Rattle.cf_watch.specs.declared.Flow.{Flow}
 use Rattle.cf_watch.specs.declared.Scope.{Scope}

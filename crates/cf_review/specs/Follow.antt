@@ -2,7 +2,7 @@
 use Rattle.std.specs.Prelude.{◌≡◌, ◌+◌, ◌-◌, ◌^◌, ◌≤◌, ◌⊎◌, ℕ, Bool, true, List, [], ◌++◌, All, drop, length, map, min, Option, None, Some}
 use Rattle.cf_judge.specs.Front.{IsReaderOf}
 use Rattle.cf_judge.specs.Objections.{admitted_in}
-use Rattle.cf_judge.specs.Plain.{AreRead, Breaks, Ending, Whole}
+use Rattle.cf_judge.specs.Plain.{AreRead, Breaks, Ending}
 use Rattle.cf_judge.specs.declared.front.Reader.{Reader}
 use Rattle.cf_lane.specs.Judged.{Judged, in_turn}
 use Rattle.cf_lane.specs.Unit.{SpellsUnit}

@@ -13,10 +13,14 @@ use cf_view::{NoMemory, View};
 use cf_watch::Flow;
 use std::alloc::Global;
 
+/// A flow with fewer bytes is read where the recording ends, so that what its reader keeps, the rules by code and room for a fragment, is
+/// taken for those flows alone that are long. This project's own.
+const SHORT: usize = 2_048;
+
 /// How far the reading of a flow has come.
 #[derive(Drop)]
 pub(crate) enum Stage {
-    /// No unit of it was read: it begins amid its stream, and what its first byte begins is not known.
+    /// No unit of it was read: it has few bytes, or begins amid its stream, and what its first byte begins is not known.
     Waits,
     /// Its units are read one after the other.
     Reads(Reader),
@@ -84,8 +88,8 @@ impl Following {
         Ok(())
     }
 
-    /// Begins to read a flow of which nothing was read, where its first unit stands at its first byte: where it begins with its SYN, or a
-    /// unit of the protocol begins it.
+    /// Begins to read a flow of which nothing was read, where it has `SHORT` bytes and its first unit stands at the first of them: where it
+    /// begins with its SYN, or a unit of the protocol begins it.
     fn begin(&mut self, alloc: Global, site: &Site<'_>, flow: &Flow) -> Result<(), NoMemory>
         requires within { IsSiteWithin site.now }
         requires begun { (h : Heard) × IsTail h flow.now × IsBegun site.now h self.old }
@@ -96,6 +100,9 @@ impl Following {
         match &self.stage {
             Stage::Reads(_) | Stage::Broke => return Ok(()),
             Stage::Waits => {}
+        }
+        if flow.bytes.len() < SHORT {
+            return Ok(());
         }
         let begins = flow.midstream.is_none()
             || unit_begins(&site.first().protocol, View::one(flow.bytes.as_slice()));

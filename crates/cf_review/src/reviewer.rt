@@ -224,7 +224,7 @@ fn has_unread(following: &Following, flow: &Flow) -> bool
     ensures { result ≡ false → unread following.now.stage following.now.at flow.now ≡ [] }
 {
     match &following.stage {
-        Stage::Waits => true,
+        Stage::Waits => !flow.bytes.is_empty(),
         Stage::Reads(_) => following.at < flow.bytes.len(),
         Stage::Broke => false,
     }

@@ -1,4 +1,4 @@
-use Rattle.std.proofs.Common.{◌-◌, ◌≤◌, length}
+use Rattle.std.proofs.Common.{◌-◌, ◌≤◌}
 use Rattle.cf_draft.proofs.parts.moments_of.Given as goal
 
 abbrev pub invariant-loop-place : goal.invariant-loop-place

@@ -1,4 +1,4 @@
-use Rattle.std.proofs.Common.{◌<◌, ◌≡◌, ℕ, Some, arith, length, slice_get}
+use Rattle.std.proofs.Common.{arith}
 use Rattle.cf_draft.proofs.Allowing.{all_allowed, all_more}
 use Rattle.cf_draft.proofs.shown.allows_all.Goals as goal
 

@@ -1,5 +1,4 @@
 use Rattle.std.proofs.Common.{rules, ◌≡◌, length, inr}
-use Rattle.cf_review.proofs.Taking.{ready}
 use Rattle.cf_review.proofs.reviewer.add_missing.Goals as goal
 
 pub returns : goal.returns

@@ -1,4 +1,4 @@
-use Rattle.std.proofs.Common.{◌≡◌, Bool, ℕ, All, map, subst, sym, true}
+use Rattle.std.proofs.Common.{◌≡◌, ℕ, All, map, subst, sym, true}
 use Rattle.std.proofs.lemmas.List.Elements.{All-append}
 use Rattle.std.proofs.lemmas.Result.{IfOk-weaker, on_ok_weaker}
 use Rattle.cf_policy.specs.declared.Asset.{Asset}

@@ -1,21 +1,22 @@
-use Rattle.std.proofs.Common.{◌∷◌, [], arith, length, refl, sym, ap, ◌∙◌, subst}
+use Rattle.std.proofs.Common.{arith, length, refl, sym, ap, ◌∙◌, subst}
 use Rattle.cf_modbus.specs.Adu.{adu_value, spelling}
 use Rattle.cf_outq.specs.SendQueue.{after_push}
 use Rattle.cf_outside.specs.Desk.{DeskValue}
-use Rattle.cf_lane.specs.Log.{admission_lines, line_about, refusal_line, is_some_bytes, with_lines}
-use Rattle.cf_lane.specs.Modbus.{adu_reply, HasCommandFate}
+use Rattle.cf_lane.specs.Log.{admission_lines, with_lines}
+use Rattle.cf_lane.specs.Modbus.{HasCommandFate}
 use Rattle.cf_lane.specs.Rings.{IsRulesOf, says_by}
 use Rattle.cf_lane.specs.Judgement.{fate_of_judgement}
 use Rattle.cf_lane.specs.declared.fate.Judgement.{Judgement}
 use Rattle.cf_policy.specs.Within.{IsAssetWithin}
+use Rattle.cf_policy.specs.Verdict.{IsOneOf}
 use Rattle.cf_policy.specs.declared.Asset.{Asset}
-use Rattle.cf_lane.specs.Handled.{IsLaneOf, LaneValue, MayHaveMore}
+use Rattle.cf_lane.specs.Handled.{LaneValue, MayHaveMore}
 use Rattle.cf_lane.specs.declared.fate.Fate.TheVariants as fate
-use Rattle.cf_lane.proofs.Failing.{on_err, misses_admitted, misses_refused}
+use Rattle.cf_lane.proofs.Failing.{on_err, misses_admitted}
 use Rattle.cf_lane.proofs.Fronts.{few_at}
 use Rattle.cf_lane.proofs.Parting.{within_at}
 use Rattle.cf_lane.proofs.Saying.{at_own, lane_on}
-use Rattle.cf_lane.proofs.Taking.{grows_pushed, grows_same, room_less, takes_admitted, takes_refused}
+use Rattle.cf_lane.proofs.Taking.{grows_pushed, grows_same, room_less, takes_admitted}
 use Rattle.cf_lane.specs.Fate.{HasOwnDecider}
 use Rattle.cf_lane.proofs.lane.Lane.take_judged.Goals as goal
 
@@ -79,69 +80,12 @@ returns-in_err-log_admission-in-Admitted-clause-misses g c =
     (subst (λ o. MayHaveMore (admission_lines asset c.self-in-Admitted.inside.client moment o used) text log part) c.requires.octets
     c.in_err-log_admission-in-Admitted.ensures.fails)))))
 
-pub returns-in_ok-log_refusal-in-Refused-clause-takes : goal.returns-in_ok-log_refusal-in-Refused-clause-takes
-returns-in_ok-log_refusal-in-Refused-clause-takes g c =
-    let site = c.args.site.now in
-    let place = c.place_for_adu-place.result in
-    let own = c.rules_at-rules.result.now in
-    let asset = c.asset-asset.result.now in
-    let is = c.asset-asset.ensures in
-    let a = adu_value c.args.adu.now in
-    let moment = c.args.moment in
-    let at = at_own _ _ _ place own c.self.view_is c.as_slice.ensures.value c.rules_at-rules.ensures in
-    let of = c.requires.of_site.rules.each place own at in
-    let client = c.args.self.now.client.address in
-    let r = c.in-Refused.refusal in
-    let text = DeskValue.lines (g.D.Desk.value c.args.desk.now) in
-    let replied = is_some_bytes (adu_reply c.args.to_client.now.ended (fate.Refused r) a) in
-    let has = subst (λ (j : Judgement). HasCommandFate asset (says_by asset client own moment) a (fate_of_judgement j)) c.in-Refused.is
-    (c.judge.ensures.fate client (subst (λ (x : Asset). IsRulesOf x client own) (sym is) of)) in
-    takes_refused site place moment a c.place_for_adu-place.ensures.place _ _ (ap (λ (l : LaneValue). l.client) c.refuse.ensures)
-    (ap (λ (l : LaneValue). l.wire) c.refuse.ensures) own at of r
-    (subst (λ (x : Asset). HasCommandFate x (says_by x client own moment) a (fate.Refused r)) is has) (ap (λ (l : LaneValue). l.rules) c.refuse.ensures)
-    (ap (λ (l : LaneValue). l.admitted) c.refuse.ensures)
-    (ap (λ (l : LaneValue). l.refused) c.refuse.ensures)
-    c.reply-replied.ensures.queue refl
-    (c.in_ok-log_refusal-in-Refused.ensures.lines
-    ∙ ap (λ b. with_lines text (line_about asset c.self.inside.client moment (refusal_line asset r b c.args.octets.bytes) ∷ [])) c.reply-replied.ensures.replied
-    ∙ ap (λ o. with_lines text (line_about asset c.self.inside.client moment (refusal_line asset r replied o) ∷ [])) c.requires.octets
-    ∙ ap (λ (l : LaneValue). with_lines text (line_about asset l.client moment (refusal_line asset r replied (spelling a)) ∷ [])) c.self.view_is
-    ∙ ap (λ (x : Asset). with_lines text (line_about x c.args.self.now.client moment (refusal_line x r replied (spelling a)) ∷ [])) is)
-
-pub returns-in_err-log_refusal-in-Refused-clause-misses : goal.returns-in_err-log_refusal-in-Refused-clause-misses
-returns-in_err-log_refusal-in-Refused-clause-misses g c =
-    let site = c.args.site.now in
-    let place = c.place_for_adu-place.result in
-    let own = c.rules_at-rules.result.now in
-    let asset = c.asset-asset.result.now in
-    let is = c.asset-asset.ensures in
-    let a = adu_value c.args.adu.now in
-    let moment = c.args.moment in
-    let at = at_own _ _ _ place own c.self.view_is c.as_slice.ensures.value c.rules_at-rules.ensures in
-    let of = c.requires.of_site.rules.each place own at in
-    let client = c.args.self.now.client.address in
-    let r = c.in-Refused.refusal in
-    let replied = is_some_bytes (adu_reply c.args.to_client.now.ended (fate.Refused r) a) in
-    let has = subst (λ (j : Judgement). HasCommandFate asset (says_by asset client own moment) a (fate_of_judgement j)) c.in-Refused.is
-    (c.judge.ensures.fate client (subst (λ (x : Asset). IsRulesOf x client own) (sym is) of)) in
-    on_err _ _ (misses_refused site place moment a c.place_for_adu-place.ensures.place _ _ _ own at of r
-    (subst (λ (x : Asset). HasCommandFate x (says_by x client own moment) a (fate.Refused r)) is has)
-    (line_about asset c.self.inside.client moment (refusal_line asset r c.reply-replied.result c.args.octets.bytes))
-    (ap (λ b. line_about asset c.self.inside.client moment (refusal_line asset r b c.args.octets.bytes)) c.reply-replied.ensures.replied
-    ∙ ap (λ o. line_about asset c.self.inside.client moment (refusal_line asset r replied o)) c.requires.octets
-    ∙ ap (λ (l : LaneValue). line_about asset l.client moment (refusal_line asset r replied (spelling a))) c.self.view_is
-    ∙ ap (λ (x : Asset). line_about x c.args.self.now.client moment (refusal_line x r replied (spelling a))) is)
-    c.in_err-log_refusal-in-Refused.ensures.fails)
-
 pub rules_at-rules-requires : goal.rules_at-rules-requires
 rules_at-rules-requires g c =
     omega (arith, c.place_for_adu-place.ensures.inside, c.requires.of_site.rules.one_each, ap (λ (l : LaneValue). length l.rules) c.self.view_is, ap length c.as_slice.ensures.value)
 
 pub log_admission-requires-clause-within : goal.log_admission-requires-clause-within
 log_admission-requires-clause-within g c = subst IsAssetWithin (sym c.asset-asset.ensures) (within_at c.args.site.now c.requires.within c.place_for_adu-place.result)
-
-pub log_refusal-requires-clause-within : goal.log_refusal-requires-clause-within
-log_refusal-requires-clause-within g c = subst IsAssetWithin (sym c.asset-asset.ensures) (within_at c.args.site.now c.requires.within c.place_for_adu-place.result)
 
 pub judge-requires-clause-few : goal.judge-requires-clause-few
 judge-requires-clause-few g c =
@@ -156,14 +100,8 @@ admit-requires-clause-few g c =
 pub push_octets-requires-clause-room : goal.push_octets-requires-clause-room
 push_octets-requires-clause-room g c = room_less _ _ _ (omega (arith, ap length c.requires.octets)) c.requires.controller_room
 
-pub reply-replied-requires-clause-room : goal.reply-replied-requires-clause-room
-reply-replied-requires-clause-room g c = room_less _ _ _ (omega arith) c.requires.client_room
-
 pub admit-requires-clause-counts : goal.admit-requires-clause-counts
 admit-requires-clause-counts g c = omega (arith, c.requires.counts)
-
-pub log_refusal-requires-clause-decider : goal.log_refusal-requires-clause-decider
-log_refusal-requires-clause-decider g c = subst (λ (j : Judgement). HasOwnDecider c.asset-asset.result.now.rules (fate_of_judgement j)) c.in-Refused.is c.judge.ensures.decider
 
 pub returns-in_ok-log_admission-in-Admitted-clause-client_grows : goal.returns-in_ok-log_admission-in-Admitted-clause-client_grows
 returns-in_ok-log_admission-in-Admitted-clause-client_grows g c = grows_same _ _ _
@@ -177,17 +115,26 @@ returns-in_ok-log_admission-in-Admitted-clause-counts g c = omega (arith, c.admi
 pub returns-in_ok-log_admission-in-Admitted-clause-desk : goal.returns-in_ok-log_admission-in-Admitted-clause-desk
 returns-in_ok-log_admission-in-Admitted-clause-desk g c = c.in_ok-log_admission-in-Admitted.ensures.desk
 
-pub returns-in_ok-log_refusal-in-Refused-clause-of_site : goal.returns-in_ok-log_refusal-in-Refused-clause-of_site
-returns-in_ok-log_refusal-in-Refused-clause-of_site g c = subst (IsLaneOf c.args.site.now) (sym c.refuse.ensures) (record { rules = c.requires.of_site.rules; wire = c.requires.of_site.wire })
+pub answer-requires-clause-refused : goal.answer-requires-clause-refused
+answer-requires-clause-refused g c =
+    let site = c.args.site.now in
+    let place = c.place_for_adu-place.result in
+    let own = c.rules_at-rules.result.now in
+    let asset = c.asset-asset.result.now in
+    let is = c.asset-asset.ensures in
+    let a = adu_value c.args.adu.now in
+    let moment = c.args.moment in
+    let at = at_own _ _ _ place own c.self.view_is c.as_slice.ensures.value c.rules_at-rules.ensures in
+    let of = c.requires.of_site.rules.each place own at in
+    let client = c.args.self.now.client.address in
+    let has = subst (λ (j : Judgement). HasCommandFate asset (says_by asset client own moment) a (fate_of_judgement j)) c.in-Refused.is
+    (c.judge.ensures.fate client (subst (λ (x : Asset). IsRulesOf x client own) (sym is) of)) in
+    (own, at, subst (λ (x : Asset). HasCommandFate x (says_by x client own moment) a (fate.Refused c.in-Refused.refusal)) is has)
 
-pub returns-in_ok-log_refusal-in-Refused-clause-client_grows : goal.returns-in_ok-log_refusal-in-Refused-clause-client_grows
-returns-in_ok-log_refusal-in-Refused-clause-client_grows g c = c.reply-replied.ensures.grows
+pub answer-requires-clause-decider : goal.answer-requires-clause-decider
+answer-requires-clause-decider g c =
+    subst (λ (x : Asset). IsOneOf x.rules c.in-Refused.refusal.decider) c.asset-asset.ensures
+    (subst (λ (j : Judgement). HasOwnDecider c.asset-asset.result.now.rules (fate_of_judgement j)) c.in-Refused.is c.judge.ensures.decider)
 
-pub returns-in_ok-log_refusal-in-Refused-clause-controller_grows : goal.returns-in_ok-log_refusal-in-Refused-clause-controller_grows
-returns-in_ok-log_refusal-in-Refused-clause-controller_grows g c = grows_same _ _ _
-
-pub returns-in_ok-log_refusal-in-Refused-clause-counts : goal.returns-in_ok-log_refusal-in-Refused-clause-counts
-returns-in_ok-log_refusal-in-Refused-clause-counts g c = omega (arith, ap (λ (l : LaneValue). l.admitted) c.refuse.ensures, ap (λ (l : LaneValue). l.refused) c.refuse.ensures)
-
-pub returns-in_ok-log_refusal-in-Refused-clause-desk : goal.returns-in_ok-log_refusal-in-Refused-clause-desk
-returns-in_ok-log_refusal-in-Refused-clause-desk g c = c.in_ok-log_refusal-in-Refused.ensures.desk
+pub answer-requires-clause-client_room : goal.answer-requires-clause-client_room
+answer-requires-clause-client_room g c = room_less _ _ _ (omega arith) c.requires.client_room

@@ -1,10 +1,9 @@
-use Rattle.std.proofs.Common.{◌≡◌, ◌≤◌, ◌++◌, ◌∙◌, List, [], Ok, map, sym, ap, subst, refl}
+use Rattle.std.proofs.Common.{◌≤◌, ◌++◌, ◌∙◌, [], Ok, map, sym, ap, subst, refl}
 use Rattle.std.proofs.lemmas.List.{append-nil}
 use Rattle.cf_review.proofs.FollowedOn.{breaks_on, read_on, rests, told_broke, told_whole}
 use Rattle.cf_review.specs.Follow.{AllTold, HasBroken, IsAtRest, IsBegun, IsReadWhole}
 use Rattle.cf_review.specs.Remark.{remark_value}
 use Rattle.cf_review.specs.declared.following.Following.{Following}
-use Rattle.cf_review.specs.declared.remark.Remark.{Remark}
 use Rattle.cf_review.proofs.following.Following.follow.Goals as goal
 use Rattle.cf_review.proofs.following.Following.follow.Goals.{in-Reads+in_ok-broke-in-Reads, in-Waits, in-Waits-2}
 

@@ -1,4 +1,4 @@
-use Rattle.std.proofs.Common.{◌≡◌, ◌∙◌, ◌≤◌, ◌^◌, [], length, slice_get, refl, sym, ap, arith}
+use Rattle.std.proofs.Common.{◌∙◌, [], length, slice_get, refl, sym, ap, arith}
 use Rattle.std.proofs.lemmas.Option.{none-some}
 use Rattle.cf_watch.specs.declared.Scope.TheVariants as scope
 use Rattle.cf_review.proofs.reviewer.Reviewer.new.Goals as goal
