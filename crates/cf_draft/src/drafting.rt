@@ -7,9 +7,9 @@ ghost use Rattle.cf_watch.specs.FlowValue.{flow_value};
 ghost use Rattle.cf_draft.specs.Draft.{AreDrafted, IsDraftedAsset};
 
 use crate::parts::Parts;
-use crate::proposal::{Proposal, propose};
 use crate::shown::is_drafted;
 use cf_learn::{LearnFault, learn, site_place};
+use cf_plan::{Proposal, propose};
 use cf_policy::{Asset, Policy};
 use cf_policylang::{PolicyFault, migrated_text, read_policy};
 use cf_view::NoMemory;
@@ -74,11 +74,14 @@ fn proposed(
         AreDrafted (map flow_value parts.now.flows.items) d.widened policy.now.assets d.policy.assets
         × IsWithin d.policy × (text_meaning (string_bytes d.text) ≡ Ok d.policy))) }
 {
-    let Ok(proposal) = propose(alloc, policy, parts, is_wide) else {
+    let assets = policy.assets.as_slice();
+    let flows = parts.flows.as_slice();
+    let moments = parts.moments.as_slice();
+    let Ok(proposal) = propose(alloc, assets, flows, moments, is_wide) else {
         return Err(NoMemory);
     };
     match read_policy(alloc, proposal.text.as_bytes()) {
-        Ok(read) => kept(alloc, policy, parts.flows.as_slice(), proposal, read),
+        Ok(read) => kept(alloc, policy, flows, proposal, read),
         Err(PolicyFault::NoMemory) => Err(NoMemory),
         Err(PolicyFault::Refused(_)) => Ok(None),
     }

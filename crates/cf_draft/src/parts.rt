@@ -5,18 +5,12 @@ ghost use Rattle.cf_review.specs.FirstUnit.{IsReadPart, from_place};
 ghost use Rattle.cf_watch.specs.FlowValue.{AreStretchesFor, IsForAsset, flow_value, stretch_value};
 ghost use Rattle.cf_draft.specs.Parts.{AddsRead, AreReadAs, IsReadAs, parts_of};
 
+use cf_plan::Moment;
 use cf_policy::{Asset, Policy, Protocol};
 use cf_review::first_place;
 use cf_view::NoMemory;
 use cf_watch::{Born, Flow, Recording, Stretch};
 use std::alloc::Global;
-
-/// From a byte on, counted from 0, up to the next moment's, bytes came at this time, in microseconds since the epoch.
-#[derive(Clone, Copy)]
-pub(crate) struct Moment {
-    pub(crate) place: usize,
-    pub(crate) stamp: u64,
-}
 
 /// What is read of a recording.
 #[derive(Drop)]

@@ -1,49 +1,37 @@
 //! What is allowed at a key.
 use crate::naming::Scope;
+use crate::nearest::row_of;
 use crate::unknown::Level;
 use cf_policy::Protocol;
 use cf_policylang::Key;
 use toml::{Table, Value};
 
-/// What is allowed at a key, as a policy's text writes it. Ranges stand as `docs/POLICY.md` has them.
+/// What is allowed at keys, as a policy's text writes it. Ranges stand as `docs/POLICY.md` has them.
+const ALLOWED: &str = "\
+version write version = 1 above the first table, version = 2 where rules name sets of points, or version = 3 where rules have a log or names of codes and groups, or assets one address and port
+set each set of points is a table [[set]] with a name and points, at most 64
+asset each controller is a table [[asset]], at most 256; a policy of none has asset = []
+name a name has 1 to 32 of the letters a to z, the digits, _ and -, as name = \"pump\"
+address an address is four numbers from 0 to 255, without leading zeros, as address = \"10.0.0.9\"
+port a port is a whole number from 1 to 65535, as port = 502
+protocol a protocol is \"modbus\", \"dnp3\" or \"iec104\"
+master a DNP3 asset has its master's link address, 0 to 65519, as master = 1
+rule each rule is a table [[asset.rule]] below its [[asset]], at most 1024 of an asset
+action an action is \"allow\" or \"refuse\"
+clients clients are 1 to 64 addresses or ranges, as clients = [\"10.0.0.5\", \"10.0.0.8..10.0.0.9\"]
+points points are 1 to 64 numbers or ranges from 0 to 4294967295, as points = [\"7\", \"40..49\"]
+most a rule that allows may have a rate, most 1 to 64 in seconds 1 to 86400, as most = 2 and seconds = 60; at most 16 rules
+seconds the time of a rate is 1 to 86400 seconds, as seconds = 60, beside most = 2
+log a rule that allows may have log = true, by which each command that it lets through has a line in the log
+values values are 1 to 64 numbers or ranges from -2147483648 to 4294967295, as values = [\"-5..5\"]";
+
+/// What is allowed at a key.
 pub(crate) fn allowed(key: Key, scope: &Scope, table: &Table) -> &'static str {
     match key {
-        Key::Nothing => "keys are in docs/POLICY.md",
-        Key::Version =>
-            "write version = 1 above the first table, version = 2 where rules name sets of points, or version = 3 where rules have a log or names of codes and groups, or assets one address and port",
-        Key::Set => "each set of points is a table [[set]] with a name and points, at most 64",
-        Key::Asset =>
-            "each controller is a table [[asset]], at most 256; a policy of none has asset = []",
-        Key::Name =>
-            "a name has 1 to 32 of the letters a to z, the digits, _ and -, as name = \"pump\"",
-        Key::Address => {
-            "an address is four numbers from 0 to 255, without leading zeros, as address = \"10.0.0.9\""
-        }
-        Key::Port => "a port is a whole number from 1 to 65535, as port = 502",
-        Key::Protocol => "a protocol is \"modbus\", \"dnp3\" or \"iec104\"",
         Key::Station => station(table),
-        Key::Master => "a DNP3 asset has its master's link address, 0 to 65519, as master = 1",
-        Key::Rule =>
-            "each rule is a table [[asset.rule]] below its [[asset]], at most 1024 of an asset",
-        Key::Action => "an action is \"allow\" or \"refuse\"",
-        Key::Clients => {
-            "clients are 1 to 64 addresses or ranges, as clients = [\"10.0.0.5\", \"10.0.0.8..10.0.0.9\"]"
-        }
         Key::Codes => codes(scope),
         Key::Groups => groups(scope),
-        Key::Points => {
-            "points are 1 to 64 numbers or ranges from 0 to 4294967295, as points = [\"7\", \"40..49\"]"
-        }
-        Key::Most => {
-            "a rule that allows may have a rate, most 1 to 64 in seconds 1 to 86400, as most = 2 and seconds = 60; at most 16 rules"
-        }
-        Key::Seconds =>
-            "the time of a rate is 1 to 86400 seconds, as seconds = 60, beside most = 2",
-        Key::Log =>
-            "a rule that allows may have log = true, by which each command that it lets through has a line in the log",
-        Key::Values => {
-            "values are 1 to 64 numbers or ranges from -2147483648 to 4294967295, as values = [\"-5..5\"]"
-        }
+        _ => row_of(ALLOWED, key.as_str()).unwrap_or("keys are in docs/POLICY.md"),
     }
 }
 

@@ -57,10 +57,9 @@ fn packet_interface<F: Files>(place: u64, file: &str, files: &mut F) -> Option<u
     let mut head = [0u8; 12];
     files.read_at(file, place, &mut head);
     let head = View::one(&head);
-    if u32_at(&head, 0, false) == ENHANCED_PACKET {
-        Some(u32_at(&head, 8, false))
-    } else if u32_at(&head, 0, true) == ENHANCED_PACKET {
-        Some(u32_at(&head, 8, true))
+    let is_big = u32_at(&head, 0, true) == ENHANCED_PACKET;
+    if is_big || u32_at(&head, 0, false) == ENHANCED_PACKET {
+        Some(u32_at(&head, 8, is_big))
     } else {
         None
     }

@@ -2,8 +2,8 @@
 use crate::code_words::code_words;
 use crate::commands::{Found, Shown, first_of_commands};
 use crate::page::Page;
-use crate::policy::push_rule_place;
-use crate::quote::{push_quoted, push_titled};
+use crate::quote::push_titled;
+use crate::seat::{Seat, push_rule_of, push_seat, seat_named};
 use cf_acts::{Groups, Kind, kinds};
 use cf_compare::{CompareFault, Compared, MOST_CELLS};
 use cf_policy::{Asset, Decider, Policy, Protocol, Span, Verdict, verdict};
@@ -45,13 +45,13 @@ fn push_answer(
             other.name,
             " allows",
         ]),
-        Ok(Compared::Missing(place)) => push_missing(out, ours, other, *place),
+        Ok(Compared::Missing(place)) => push_lack(out, ours, other, *place, None),
         Ok(Compared::Shown { asset, client, act }) => {
             let shown = Shown {
                 client: *client,
                 act: *act,
             };
-            push_difference(out, ours, other, *asset, &shown);
+            push_lack(out, ours, other, *asset, Some(&shown));
         }
         Err(CompareFault::Cells(place)) => push_cells(out, ours, other, *place),
         Err(CompareFault::NoMemory) => out.run_out(),
@@ -59,8 +59,13 @@ fn push_answer(
 }
 
 /// The asset at a place of a policy, from 0.
-fn asset_at(policy: &Policy, place: u32) -> Option<&Asset> {
-    policy.assets.as_slice().get(place as usize)
+fn seat_at<'a>(source: &'a PolicyFile<'a>, place: u32) -> Option<Seat<'a>> {
+    let asset = source.policy.assets.as_slice().get(place as usize)?;
+    Some(Seat {
+        source,
+        number: u64::from(place).saturating_add(1),
+        asset,
+    })
 }
 
 /// The asset of a name, with its place from 0.
@@ -75,26 +80,33 @@ pub fn asset_named<'a>(policy: &'a Policy, name: &str) -> Option<(u32, &'a Asset
     None
 }
 
-/// The number, from 1, and the name of an asset.
-pub(crate) fn push_asset(out: &mut Page, place: u32, asset: &Asset) {
-    let number = u64::from(place).saturating_add(1);
-    push_titled(out, "asset ", number, asset.name.as_str());
+/// Why the asset at a place has no partner, or which act it allows that the partner refuses.
+fn push_lack(
+    out: &mut Page,
+    ours: &PolicyFile<'_>,
+    other: &PolicyFile<'_>,
+    place: u32,
+    shown: Option<&Shown>,
+) {
+    let Some(here) = seat_at(&*ours, place) else {
+        return;
+    };
+    let there = seat_named(&*other, here.asset.name.as_str());
+    match shown {
+        Some(shown) => push_difference(out, &here, there, shown),
+        None => push_missing(out, &here, other, there),
+    }
 }
 
 /// That the other policy has no asset of this name, or one that is another controller.
-fn push_missing(out: &mut Page, ours: &PolicyFile<'_>, other: &PolicyFile<'_>, place: u32) {
-    let Some(asset) = asset_at(ours.policy, place) else {
-        return;
-    };
-    out.push_all(&[ours.name, ": "]);
-    push_asset(out, place, asset);
-    out.push_all(&[" has no partner\n  ", other.name, ": "]);
-    match asset_named(other.policy, asset.name.as_str()) {
-        None => out.push("it has no asset of this name"),
-        Some((there, partner)) => {
-            push_asset(out, there, partner);
-            out.push(" has another ");
-            out.push(what_differs(asset, partner));
+fn push_missing(out: &mut Page, here: &Seat<'_>, other: &PolicyFile<'_>, there: Option<Seat<'_>>) {
+    push_seat(out, here);
+    out.push(" has no partner\n  ");
+    match there {
+        None => out.push_all(&[other.name, ": it has no asset of this name"]),
+        Some(there) => {
+            push_seat(out, &there);
+            out.push_all(&[" has another ", what_differs(here.asset, there.asset)]);
         }
     }
 }
@@ -116,131 +128,71 @@ fn what_differs(asset: &Asset, partner: &Asset) -> &'static str {
 
 /// That there is too much to compare.
 fn push_cells(out: &mut Page, ours: &PolicyFile<'_>, other: &PolicyFile<'_>, place: u32) {
-    let Some(asset) = asset_at(ours.policy, place) else {
-        return;
-    };
-    out.push_all(&[ours.name, ": "]);
-    push_asset(out, place, asset);
-    out.push_all(&[
-        ": the ends of the ranges in its rules and in those of ",
-        other.name,
-        " make more than ",
-    ]);
-    out.push_number(MOST_CELLS);
-    out.push(" cells\n  fewer entries in the rules of one code make fewer");
+    if let Some(here) = seat_at(&*ours, place) {
+        push_seat(out, &here);
+        let rules = ": the ends of the ranges in its rules and in those of ";
+        out.push_all(&[rules, other.name]);
+        out.push_number_after(" make more than ", MOST_CELLS);
+        out.push(" cells\n  fewer entries in the rules of one code make fewer");
+    }
 }
 
 /// Which rule of the first policy allows an act, and what of the second refuses it. Where no command has the act, that is said, and
 /// the first that a command has.
-fn push_difference(
-    out: &mut Page,
-    ours: &PolicyFile<'_>,
-    other: &PolicyFile<'_>,
-    place: u32,
-    shown: &Shown,
-) {
-    let Some(asset) = asset_at(ours.policy, place) else {
-        return;
-    };
-    let partner = asset_named(other.policy, asset.name.as_str());
-    push_shown(out, ours, other, (place, asset), partner, shown);
-    if let Some((there, partner)) = partner {
-        if !is_of_command(asset.protocol, &shown.act) {
-            out.push(
-                "\n  no command has this act: a comparison goes over all numbers that rules can name",
-            );
-            push_of_commands(out, ours, other, (place, asset), (there, partner));
-        }
+fn push_difference(out: &mut Page, here: &Seat<'_>, there: Option<Seat<'_>>, shown: &Shown) {
+    push_shown(out, here, there, shown);
+    if let Some(there) = there
+        && !is_of_command(here.asset.protocol, &shown.act)
+    {
+        out.push(
+            "\n  no command has this act: a comparison goes over all numbers that rules can name",
+        );
+        push_of_commands(out, here, there);
     }
 }
 
 /// An act, the rule that allows it there, and what refuses it here.
-pub(crate) fn push_shown(
-    out: &mut Page,
-    ours: &PolicyFile<'_>,
-    other: &PolicyFile<'_>,
-    (place, asset): (u32, &Asset),
-    partner: Option<(u32, &Asset)>,
-    shown: &Shown,
-) {
-    push_decider(out, ours, place, asset, shown);
-    push_act(out, asset.protocol, shown);
+pub(crate) fn push_shown(out: &mut Page, here: &Seat<'_>, there: Option<Seat<'_>>, shown: &Shown) {
+    push_decider(out, here, shown);
+    push_act(out, here.asset.protocol, shown);
     out.push("\n  ");
-    if let Some((there, partner)) = partner {
-        push_decider(out, other, there, partner, shown);
+    if let Some(there) = there {
+        push_decider(out, &there, shown);
         out.push("it");
     }
 }
 
 /// The first act of a command that is allowed there and refused here, or that this asset has none.
-fn push_of_commands(
-    out: &mut Page,
-    ours: &PolicyFile<'_>,
-    other: &PolicyFile<'_>,
-    (place, asset): (u32, &Asset),
-    (there, partner): (u32, &Asset),
-) {
-    match first_of_commands(out.alloc, asset, partner) {
-        Ok(Found::Beyond(shown)) => {
+fn push_of_commands(out: &mut Page, here: &Seat<'_>, there: Seat<'_>) {
+    match first_of_commands(out, here.asset, there.asset) {
+        Found::Beyond(shown) => {
             out.push("\n  the first that a command has:\n");
-            push_shown(
-                out,
-                ours,
-                other,
-                (place, asset),
-                Some((there, partner)),
-                &shown,
-            );
+            push_shown(out, here, Some(there), &shown);
         }
-        Ok(Found::Nothing) => {
+        Found::Nothing => {
             out.push("\n  of the acts that commands have, this asset allows none beyond");
         }
-        Ok(Found::TooMany) => {
+        Found::TooMany => {
             out.push("\n  the acts that commands have are too many to look at: some may differ");
         }
-        Err(_) => out.run_out(),
     }
 }
 
 /// The file, with line and column where a rule decides, the asset, and the rule and what it does, or that none allows.
-fn push_decider(out: &mut Page, source: &PolicyFile<'_>, place: u32, asset: &Asset, shown: &Shown) {
-    match verdict(asset, shown.client, &shown.act) {
-        Verdict::Allow(number) => push_rule(out, source, place, asset, number, " allows "),
-        Verdict::Refuse(Decider::Rule(number), _) => {
-            push_rule(out, source, place, asset, number, " refuses ");
-        }
+fn push_decider(out: &mut Page, seat: &Seat<'_>, shown: &Shown) {
+    match verdict(seat.asset, shown.client, &shown.act) {
+        Verdict::Allow(index) => push_rule(out, seat, index, " allows "),
+        Verdict::Refuse(Decider::Rule(index), _) => push_rule(out, seat, index, " refuses "),
         Verdict::Refuse(_, reason) => {
-            out.push_all(&[source.name, ": "]);
-            push_asset(out, place, asset);
+            push_seat(out, seat);
             out.push_all(&[": ", lacking(reason), ", so default refuses "]);
         }
     }
 }
 
-/// A rule, by its number from 0, and what it does.
-fn push_rule(
-    out: &mut Page,
-    source: &PolicyFile<'_>,
-    place: u32,
-    asset: &Asset,
-    number: usize,
-    does: &str,
-) {
-    let rule_number = (number as u64).saturating_add(1);
-    out.push(source.name);
-    push_rule_place(
-        out,
-        source.text,
-        u64::from(place).saturating_add(1),
-        rule_number,
-    );
-    out.push(": ");
-    push_asset(out, place, asset);
-    out.push_number_after(", rule ", rule_number);
-    if let Some(rule) = asset.rules.as_slice().get(number) {
-        out.push(" ");
-        push_quoted(out, rule.name.as_str());
-    }
+/// The rule at an index, and what it does.
+fn push_rule(out: &mut Page, seat: &Seat<'_>, index: usize, does: &str) {
+    push_rule_of(out, seat, ": asset ", index);
     out.push(does);
 }
 

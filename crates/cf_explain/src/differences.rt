@@ -1,12 +1,22 @@
 //! Where else one policy is not included in another: of each asset and code the first act of a command. This project's own.
-use crate::commands::{MOST_OF_CODES, firsts_of_commands};
-use crate::difference::{PolicyFile, asset_named, push_shown};
+use crate::commands::{CODES, Found, MOST_OF_CODES, Search};
+use crate::difference::{PolicyFile, push_shown};
 use crate::page::Page;
+use crate::seat::{Seat, seat_named};
 use cf_compare::partner_of;
+use cf_policy::Asset;
 use std::alloc::{AllocError, Global};
 
 /// How many differences are written out.
-const MOST: usize = 20;
+const MOST: u64 = 20;
+
+/// How many differences are written out so far, and how many acts may still be looked at.
+#[derive(Drop)]
+struct Told {
+    lines: Page,
+    count: u64,
+    left: u64,
+}
 
 /// Two lines for each code of each asset of the first policy of which a command has an act that the asset allows and its partner refuses:
 /// the first such act by client, group, point and value, the rule that allows it, and what refuses it. They stand in the order of the
@@ -19,39 +29,69 @@ pub fn differences_text(
     other: &PolicyFile<'_>,
     from: u32,
 ) -> Result<String, AllocError> {
-    let mut lines = Page::new(alloc);
-    lines.push_all(&[
-        ours.name,
-        " allows more that ",
-        other.name,
-        " refuses; of each code of an asset the first act that a command has, at most ",
-    ]);
-    lines.push_number(MOST as u64);
-    lines.push(":\n");
-    let mut count = 0usize;
-    let mut left = MOST_OF_CODES;
-    let mut place = 0u32;
+    let mut told = Told {
+        lines: Page::new(alloc),
+        count: 0,
+        left: MOST_OF_CODES,
+    };
+    let what = " refuses; of each code of an asset the first act that a command has, at most ";
+    told.lines
+        .push_all(&[ours.name, " allows more that ", other.name]);
+    told.lines.push_number_after(what, MOST);
+    told.lines.push(":\n");
+    push_assets(&mut told, ours, other, u64::from(from));
+    if told.count < 2 {
+        told.lines.clear();
+    } else if told.left == 0 {
+        let most = "there may be more: no more acts are looked at than ";
+        told.lines.push_number_after(most, MOST_OF_CODES);
+        told.lines.push("\n");
+    }
+    told.lines.finish()
+}
+
+/// The differences of the assets that have a partner, but for the first ones.
+fn push_assets(told: &mut Told, ours: &PolicyFile<'_>, other: &PolicyFile<'_>, from: u64) {
+    let mut number = 0u64;
     for asset in ours.policy.assets.as_slice() {
-        if place >= from
+        number = number.saturating_add(1);
+        if number > from
             && let Some(partner) = partner_of(asset, other.policy)
         {
-            let there = asset_named(other.policy, asset.name.as_str());
-            let most = MOST.saturating_sub(count);
-            for shown in firsts_of_commands(alloc, asset, partner, most, &mut left)?.iter() {
-                push_shown(&mut lines, ours, other, (place, asset), there, shown);
-                lines.push("\n");
-                count = count.saturating_add(1);
+            let here = Seat {
+                source: &*ours,
+                number,
+                asset,
+            };
+            push_codes(told, &here, other, partner);
+        }
+    }
+}
+
+/// The differences of an asset from its partner, by codes.
+fn push_codes(told: &mut Told, here: &Seat<'_>, other: &PolicyFile<'_>, partner: &Asset) {
+    let mut search = Search {
+        ours: here.asset,
+        other: partner,
+        left: told.left,
+    };
+    let there = seat_named(&*other, here.asset.name.as_str());
+    for code in 0..CODES {
+        if told.count >= MOST {
+            break;
+        }
+        match search.of_code(&mut told.lines, code) {
+            Found::Beyond(shown) => {
+                push_shown(&mut told.lines, here, there, &shown);
+                told.lines.push("\n");
+                told.count = told.count.saturating_add(1);
+            }
+            Found::Nothing => {}
+            Found::TooMany => {
+                search.left = 0;
+                break;
             }
         }
-        place = place.saturating_add(1);
     }
-    if count < 2 {
-        return Ok(String::new(alloc));
-    }
-    if left == 0 {
-        lines.push("there may be more: no more acts are looked at than ");
-        lines.push_number(MOST_OF_CODES);
-        lines.push("\n");
-    }
-    lines.finish()
+    told.left = search.left;
 }

@@ -9,6 +9,28 @@ use toml::Value;
 /// Words for every number of a list, which some write in its place.
 const EVERY: &str = "any, all, every, *";
 
+/// How a text begins that is no number.
+const FRONTS: &str = "\
+^+|a number has no plus sign
+^0x|numbers are decimal
+^0b|numbers are decimal
+^0o|numbers are decimal";
+
+/// What a text has that is no number.
+const SIGNS: &str = "\
+.|numbers are whole, without a decimal point
+^@|sets are named in the points of rules alone, and in versions 2 and 3
+-|a range has two points between its numbers, as 40..49
+ |there are no spaces in it
+,|each number or range is a text of its own
+_|a number has no underscores";
+
+/// What a text has that is no address.
+const NO_ADDRESS: &str = "\
+:|the port is a key of its own, and addresses of IPv6 are not served
+/|one address stands there, and no network: leave out the slash and what is behind it
+..|one address stands there, and no range";
+
 /// Why a text is no number from `low` to `high` as it is printed, if it is none.
 fn number_fault(key: Key, low: i64, high: i64, text: &str) -> Option<&'static str> {
     match front_fault(text) {
@@ -24,16 +46,30 @@ fn number_fault(key: Key, low: i64, high: i64, text: &str) -> Option<&'static st
 fn front_fault(text: &str) -> Option<&'static str> {
     if text.is_empty() {
         Some("a number is missing")
-    } else if text.starts_with("+") {
-        Some("a number has no plus sign")
-    } else if text.starts_with("0x") || text.starts_with("0b") || text.starts_with("0o") {
-        Some("numbers are decimal")
     } else if text == "-0" {
         Some("0 has no sign")
     } else if has_leading_zero(text) {
         Some("a number has no leading zero")
     } else {
-        None
+        said_of(FRONTS, text)
+    }
+}
+
+/// What is said of the first of the signs that a text has, which stand in rows before a bar; behind ^ is one that it begins with.
+fn said_of(rows: &'static str, text: &str) -> Option<&'static str> {
+    for row in rows.lines() {
+        let (sign, said) = row.split_once('|')?;
+        if has_sign(text, sign) {
+            return Some(said);
+        }
+    }
+    None
+}
+
+fn has_sign(text: &str, sign: &str) -> bool {
+    match sign.strip_prefix('^') {
+        Some(front) => text.starts_with(front),
+        None => text.contains(sign),
     }
 }
 
@@ -56,57 +92,38 @@ fn outside(low: i64, high: i64, number: i64) -> Option<&'static str> {
 
 /// What a text may be that is no number.
 fn misread(key: Key, text: &str) -> &'static str {
-    if key == Key::Groups && (text.contains(".") || text.starts_with("g")) {
+    if key == Key::Groups && (text.contains('.') || text.starts_with('g')) {
         "a group of DNP3 is 256 times the object group, and the variation: 3073 for g12v1"
-    } else if text.contains(".") {
-        "numbers are whole, without a decimal point"
-    } else if text.starts_with("@") {
-        "sets are named in the points of rules alone, and in versions 2 and 3"
-    } else if text.contains("-") {
-        "a range has two points between its numbers, as 40..49"
-    } else if text.contains(" ") {
-        "there are no spaces in it"
-    } else if text.contains(",") {
-        "each number or range is a text of its own"
-    } else if text.contains("_") {
-        "a number has no underscores"
     } else {
-        no_number(text)
+        said_of(SIGNS, text).unwrap_or(if is_digits(text) {
+            "the number is too high"
+        } else {
+            "it is no number"
+        })
     }
 }
 
-/// What a text is that is no number, and has none of the parts by which one is misread.
-fn no_number(text: &str) -> &'static str {
-    if is_digits(text) {
-        "the number is too high"
-    } else {
-        "it is no number"
-    }
-}
-
-/// Why a text is no number and no range of numbers from `low` to `high`, if it is neither.
-fn span_fault(key: Key, low: i64, high: i64, text: &str) -> Option<&'static str> {
+/// Why a text is no number or group and no range of those that a key's list has, if it is neither.
+fn span_fault(key: Key, scope: &Scope, text: &str) -> Option<&'static str> {
     let (first, last) = text.split_once("..").unwrap_or((text, text));
-    let fault = number_fault(key, low, high, first).or(number_fault(key, low, high, last));
-    if fault.is_some() {
-        return fault;
+    if let Some(fault) = end_fault(key, scope, first) {
+        return Some(fault);
     }
-    match (first.parse::<i64>(), last.parse::<i64>()) {
-        (Ok(first), Ok(last)) if first > last => Some("the first number is above the second"),
-        _ => None,
+    if let Some(fault) = end_fault(key, scope, last) {
+        return Some(fault);
     }
-}
-
-/// Why a text is no group and no range of groups, by numbers or by names, if it is neither.
-fn groups_fault(scope: &Scope, text: &str) -> Option<&'static str> {
-    let (first, last) = text.split_once("..").unwrap_or((text, text));
-    let fault = group_end_fault(scope, first).or(group_end_fault(scope, last));
-    if fault.is_some() {
-        return fault;
-    }
-    match (group_number(scope, first), group_number(scope, last)) {
+    match (end_number(scope, first), end_number(scope, last)) {
         (Some(first), Some(last)) if first > last => Some("the first number is above the second"),
         _ => None,
+    }
+}
+
+/// Why a text is no number or group of those that a key's list has, if it is none.
+fn end_fault(key: Key, scope: &Scope, text: &str) -> Option<&'static str> {
+    match key {
+        Key::Groups => group_end_fault(scope, text),
+        Key::Points => number_fault(key, 0, HIGHEST_POINT, text),
+        _ => number_fault(key, LOWEST_VALUE, HIGHEST_VALUE, text),
     }
 }
 
@@ -119,8 +136,8 @@ fn group_end_fault(scope: &Scope, text: &str) -> Option<&'static str> {
     Some(group_fault(scope, text).unwrap_or(fault))
 }
 
-/// The number of a group.
-fn group_number(scope: &Scope, text: &str) -> Option<i64> {
+/// A number, or that of a group by its name.
+fn end_number(scope: &Scope, text: &str) -> Option<i64> {
     match text.parse::<i64>() {
         Ok(number) => Some(number),
         Err(_) => Some(i64::from(group_named(scope.protocol?, text)?)),
@@ -129,14 +146,14 @@ fn group_number(scope: &Scope, text: &str) -> Option<i64> {
 
 /// Why a text is no address and no range of addresses, if it is neither.
 fn client_fault(text: &str) -> Option<&'static str> {
-    if text.contains("/") {
+    if text.contains('/') {
         return Some("a network is written as a range, as 10.0.0.0..10.0.0.255");
     }
     let (first, last) = text.split_once("..").unwrap_or((text, text));
     match (address(first), address(last)) {
         (Some(first), Some(last)) if first > last => Some("the first address is above the second"),
         (Some(_), Some(_)) => None,
-        _ if text.contains("-") => {
+        _ if text.contains('-') => {
             Some("a range has two points between its addresses, as 10.0.0.5..10.0.0.9")
         }
         _ => Some("it is no address"),
@@ -152,10 +169,10 @@ fn set_fault(name: &str) -> Option<&'static str> {
 }
 
 /// Why a text is no point, no range of points and, where sets may be named, no set, if it is none.
-fn point_fault(names_sets: bool, text: &str) -> Option<&'static str> {
+fn point_fault(scope: &Scope, text: &str) -> Option<&'static str> {
     match text.strip_prefix("@") {
-        Some(name) if names_sets => set_fault(name),
-        _ => span_fault(Key::Points, 0, HIGHEST_POINT, text),
+        Some(name) if scope.names_sets => set_fault(name),
+        _ => span_fault(Key::Points, scope, text),
     }
 }
 
@@ -202,9 +219,8 @@ fn text_fault(key: Key, scope: &Scope, text: &str) -> Option<&'static str> {
     match key {
         Key::Codes => code_fault(scope, text),
         Key::Clients => client_fault(text),
-        Key::Groups => groups_fault(scope, text),
-        Key::Points => point_fault(scope.names_sets, text),
-        Key::Values => span_fault(key, LOWEST_VALUE, HIGHEST_VALUE, text),
+        Key::Points => point_fault(scope, text),
+        Key::Groups | Key::Values => span_fault(key, scope, text),
         _ => None,
     }
 }
@@ -228,40 +244,27 @@ pub(crate) fn first_fault<'a>(
 /// Why a text is no name, if it is none.
 pub(crate) fn name_fault(text: &str) -> Option<&'static str> {
     if text.is_empty() {
-        return Some("it is empty");
+        Some("it is empty")
+    } else if text.bytes().any(is_capital) {
+        Some("it has capital letters")
+    } else if text.contains(' ') {
+        Some("it has a space")
+    } else if !text.bytes().all(is_of_name) {
+        Some("it has a character that names do not have")
+    } else if text.len() > LONGEST_NAME {
+        Some("it is too long")
+    } else {
+        None
     }
-    if has_capital(text) {
-        return Some("it has capital letters");
-    }
-    if text.contains(" ") {
-        return Some("it has a space");
-    }
-    if !has_name_bytes(text) {
-        return Some("it has a character that names do not have");
-    }
-    if text.len() > LONGEST_NAME {
-        return Some("it is too long");
-    }
-    None
 }
 
-fn has_capital(text: &str) -> bool {
-    for byte in text.bytes() {
-        if byte.is_ascii_uppercase() {
-            return true;
-        }
-    }
-    false
+fn is_capital(byte: u8) -> bool {
+    byte.is_ascii_uppercase()
 }
 
-/// Whether each byte of a text is one that names have.
-fn has_name_bytes(text: &str) -> bool {
-    for byte in text.bytes() {
-        if !matches!(byte, b'a'..=b'z' | b'0'..=b'9' | b'_' | b'-') {
-            return false;
-        }
-    }
-    true
+/// Whether a byte is one that names have.
+fn is_of_name(byte: u8) -> bool {
+    matches!(byte, b'a'..=b'z' | b'0'..=b'9' | b'_' | b'-')
 }
 
 /// Why a text is no address, if it is none.
@@ -269,29 +272,25 @@ pub(crate) fn address_fault(text: &str) -> Option<&'static str> {
     if address(text).is_some() {
         return None;
     }
-    if text.contains(":") {
-        return Some("the port is a key of its own, and addresses of IPv6 are not served");
+    match said_of(NO_ADDRESS, text) {
+        Some(said) => Some(said),
+        None => Some(part_fault(text)),
     }
-    if text.contains("/") {
-        return Some(
-            "one address stands there, and no network: leave out the slash and what is behind it",
-        );
-    }
-    if text.contains("..") {
-        return Some("one address stands there, and no range");
-    }
-    if text.split(".").count() != 4 {
-        return Some("it has not four numbers");
-    }
-    Some(part_fault(text))
 }
 
-/// Why one of four numbers with points between them is none of an address.
+/// Why a text is not four numbers with points between them, as an address has them.
 fn part_fault(text: &str) -> &'static str {
-    for part in text.split(".") {
-        if part.len() > 1 && part.starts_with("0") {
-            return "a number has no leading zero";
-        }
+    let mut count = 0u32;
+    let mut has_zero = false;
+    for part in text.split('.') {
+        count = count.saturating_add(1);
+        has_zero |= part.len() > 1 && part.starts_with('0');
     }
-    "one of its four numbers is not from 0 to 255"
+    if count != 4 {
+        "it has not four numbers"
+    } else if has_zero {
+        "a number has no leading zero"
+    } else {
+        "one of its four numbers is not from 0 to 255"
+    }
 }

@@ -82,10 +82,32 @@ fn gather_rule(
     requires earlier { IsTold asset.now.rules number earlier.now }
 {
     let found = findings(alloc, asset, earlier, number)?;
-    let others = beside(alloc, asset, earlier, number, found.as_slice())?;
     put_found(all, asset_number, number, found.as_slice())?;
-    for told in &others {
-        put(all, asset_number, number, *told)?;
+    if is_never_met(found.as_slice()) {
+        return Ok(());
+    }
+    gather_beside(alloc, all, asset_number, asset, earlier, number)
+}
+
+/// Adds what is warned of a rule beside what is found of it.
+fn gather_beside(
+    alloc: Global,
+    all: &mut Vec<Warned>,
+    asset_number: usize,
+    asset: &Asset,
+    earlier: &Earlier<'_>,
+    number: usize,
+) -> Result<(), AllocError>
+    requires inside { number < length asset.now.rules }
+    requires earlier { IsTold asset.now.rules number earlier.now }
+{
+    if let Earlier::Common(others) = earlier {
+        let rule = &asset.rules.as_slice()[number];
+        let behind = cover_of(alloc, asset, others.as_slice(), number)?;
+        let slip = likely_slip(asset.protocol, rule);
+        put(all, asset_number, number, behind.map(Warning::Behind))?;
+        put(all, asset_number, number, points_told(asset, rule))?;
+        put(all, asset_number, number, slip.map(Warning::Slip))?;
     }
     Ok(())
 }
@@ -112,30 +134,6 @@ fn put(
         all.push(Warned { asset, rule, told })?;
     }
     Ok(())
-}
-
-/// What is warned of a rule beside what is found of it.
-fn beside(
-    alloc: Global,
-    asset: &Asset,
-    earlier: &Earlier<'_>,
-    number: usize,
-    found: &[What],
-) -> Result<[Option<Warning>; 3], AllocError>
-    requires inside { number < length asset.now.rules }
-    requires earlier { IsTold asset.now.rules number earlier.now }
-{
-    let others = match earlier {
-        Earlier::Common(others) if !is_never_met(found) => others,
-        _ => return Ok([None, None, None]),
-    };
-    let rule = &asset.rules.as_slice()[number];
-    let behind = cover_of(alloc, asset, others.as_slice(), number)?;
-    Ok([
-        behind.map(Warning::Behind),
-        points_told(asset, rule),
-        likely_slip(asset.protocol, rule).map(Warning::Slip),
-    ])
 }
 
 /// Whether what is found says that a rule has no act of a command.

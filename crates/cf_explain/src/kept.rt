@@ -1,28 +1,10 @@
 //! Which rates and logs of rules differ between a policy and one that it is included in: no comparison looks at them.
-use crate::difference::{PolicyFile, asset_named, push_asset};
+use crate::difference::PolicyFile;
 use crate::page::Page;
-use crate::policy::push_rule_place;
-use crate::quote::push_titled;
+use crate::report::Report;
+use crate::seat::{Seat, push_rule_of, seat_named};
 use cf_policy::{Asset, Rate, Rule};
 use std::alloc::{AllocError, Global};
-
-/// How many rules are written out.
-const MOST: u32 = 20;
-
-/// Lines so far, and how many rules they are about.
-#[derive(Drop)]
-struct Report {
-    lines: Page,
-    count: u32,
-}
-
-/// An asset of a policy's file, with its place from 0.
-#[derive(Clone, Copy)]
-struct Seat<'a> {
-    source: &'a PolicyFile<'a>,
-    place: u32,
-    asset: &'a Asset,
-}
 
 /// A line for each rule whose rate or log is not that of the rule of its name in the asset of that name of the other policy, where one
 /// of the two has a rate or a log: by assets of the first policy, of each the rules of the first, then those of the second alone.
@@ -32,33 +14,21 @@ pub fn kept_text(
     ours: &PolicyFile<'_>,
     other: &PolicyFile<'_>,
 ) -> Result<String, AllocError> {
-    let mut report = Report {
-        lines: Page::new(alloc),
-        count: 0,
-    };
-    let mut place = 0u32;
+    let mut report = Report::new(alloc);
+    let mut number = 0u64;
     for asset in ours.policy.assets.as_slice() {
-        if let Some((there, partner)) = asset_named(other.policy, asset.name.as_str()) {
-            let ours = Seat {
+        number = number.saturating_add(1);
+        if let Some(there) = seat_named(&*other, asset.name.as_str()) {
+            let here = Seat {
                 source: &*ours,
-                place,
+                number,
                 asset,
             };
-            let other = Seat {
-                source: &*other,
-                place: there,
-                asset: partner,
-            };
-            push_rules(&mut report, &ours, &other, Side::First);
-            push_rules(&mut report, &other, &ours, Side::Second);
+            push_rules(&mut report, &here, &there, Side::First);
+            push_rules(&mut report, &there, &here, Side::Second);
         }
-        place = place.saturating_add(1);
     }
-    if report.count > MOST {
-        report.lines.push_all(&[ours.name, ": note: and "]);
-        report.lines.push_number(u64::from(report.count - MOST));
-        report.lines.push(" more\n");
-    }
+    report.push_more(ours.name, ": note:");
     report.lines.finish()
 }
 
@@ -79,11 +49,10 @@ fn push_rules(report: &mut Report, here: &Seat<'_>, there: &Seat<'_>, side: Side
             (Side::Second, Some(_)) => false,
             (_, None) => rule.rate.is_some() || rule.log,
         };
-        if is_told {
-            if report.count < MOST {
-                push_line(&mut report.lines, here, there, index, rule, twin);
-            }
-            report.count = report.count.saturating_add(1);
+        if is_told && report.takes() {
+            push_rule_of(&mut report.lines, here, ": note: asset ", index);
+            push_kept(&mut report.lines, " has ", rule);
+            push_twin(&mut report.lines, there.source.name, twin);
         }
     }
 }
@@ -110,24 +79,9 @@ fn numbers_of(rate: Option<Rate>) -> (u32, u32) {
     }
 }
 
-/// What a rule, by its number from 0, has here, and what the one of its name there.
-fn push_line(
-    out: &mut Page,
-    here: &Seat<'_>,
-    there: &Seat<'_>,
-    number: usize,
-    rule: &Rule,
-    twin: Option<&Rule>,
-) {
-    let rule_number = (number as u64).saturating_add(1);
-    let asset_number = u64::from(here.place).saturating_add(1);
-    out.push(here.source.name);
-    push_rule_place(out, here.source.text, asset_number, rule_number);
-    out.push(": note: ");
-    push_asset(out, here.place, here.asset);
-    push_titled(out, ", rule ", rule_number, rule.name.as_str());
-    push_kept(out, " has ", rule);
-    out.push_all(&["; in ", there.source.name]);
+/// What the rule of the same name has in the other policy.
+fn push_twin(out: &mut Page, file: &str, twin: Option<&Rule>) {
+    out.push_all(&["; in ", file]);
     match twin {
         Some(twin) => push_kept(out, " it has ", twin),
         None => out.push(" the asset has no rule of this name"),

@@ -24,6 +24,8 @@ mod page;
 mod place;
 mod policy;
 mod quote;
+mod report;
+mod seat;
 mod sets;
 mod unknown;
 mod unlogged;

@@ -1,13 +1,11 @@
 //! The names of codes and groups: whose name a text is, and which it may have been meant for.
-use crate::nearest::nearest;
+use crate::nearest::{is_nearer, most_edits};
 use crate::page::Page;
 use crate::place::table_at;
+use crate::sets::text_at;
 use cf_policy::Protocol;
 use cf_policylang::{Key, code_name, code_named, group_named};
 use toml::{Table, Value};
-
-/// The causes of transmission that have names.
-const CAUSES: [&str; 3] = ["request", "activation", "deactivation"];
 
 /// What the entries of the lists at a place of a document may name.
 #[derive(Clone, Copy)]
@@ -39,13 +37,10 @@ impl Scope {
 }
 
 fn protocol_at(document: &Table, asset: u32) -> Option<Protocol> {
-    match table_at(document, asset, 0)?.get("protocol") {
-        Some(Value::String(text)) => match text.as_str() {
-            "modbus" => Some(Protocol::Modbus),
-            "dnp3" => Some(Protocol::Dnp3),
-            "iec104" => Some(Protocol::Iec104),
-            _ => None,
-        },
+    match text_at(table_at(document, asset, 0)?, "protocol") {
+        "modbus" => Some(Protocol::Modbus),
+        "dnp3" => Some(Protocol::Dnp3),
+        "iec104" => Some(Protocol::Iec104),
         _ => None,
     }
 }
@@ -149,52 +144,39 @@ pub(crate) fn push_near_name(out: &mut Page, key: Key, scope: &Scope, entry: &Va
     let (Some(own), Value::String(text)) = (scope.protocol, entry) else {
         return;
     };
-    if !scope.names_codes || name_hint(key, scope, text.as_str()).is_some() {
-        return;
-    }
-    let names = names_of(out, key, own);
-    let near = match same_letters(names.as_slice(), text.as_str()) {
-        Some(name) => Some(name),
-        None => nearest(out, text.as_str(), names.as_slice()),
-    };
-    if let Some(name) = near {
+    let text = text.as_str();
+    if scope.names_codes
+        && name_hint(key, scope, text).is_none()
+        && let Some(name) = near_name(out, key, own, text)
+    {
         out.push_all(&["; did you mean \"", name, "\"?"]);
     }
 }
 
-/// The names of a protocol's codes or groups, where they are few.
-fn names_of(out: &mut Page, key: Key, protocol: Protocol) -> Vec<&'static str> {
-    let mut names = Vec::new(out.alloc);
-    match (key, protocol) {
-        (Key::Codes, _) => {
-            for code in 0..256u16 {
-                if let Some(name) = code_name(protocol, code) {
-                    put(out, &mut names, name);
-                }
+/// The name of a code or a group of a protocol that a text is but for its case; else the first of the nearest.
+fn near_name(out: &mut Page, key: Key, protocol: Protocol, text: &str) -> Option<&'static str> {
+    let mut best = None;
+    let mut least = most_edits(text);
+    for number in 0..256u16 {
+        if let Some(name) = name_of(key, protocol, number) {
+            if name.eq_ignore_ascii_case(text) {
+                return Some(name);
+            }
+            if is_nearer(out, text, name, &mut least) {
+                best = Some(name);
             }
         }
-        (Key::Groups, Protocol::Iec104) => {
-            for name in CAUSES {
-                put(out, &mut names, name);
-            }
-        }
-        _ => {}
     }
-    names
+    best
 }
 
-fn put(out: &mut Page, names: &mut Vec<&'static str>, name: &'static str) {
-    if names.push(name).is_err() {
-        out.run_out();
+/// The name of the code or the group of a number, where names are few.
+fn name_of(key: Key, protocol: Protocol, number: u16) -> Option<&'static str> {
+    match (key, protocol, number) {
+        (Key::Codes, _, _) => code_name(protocol, number),
+        (Key::Groups, Protocol::Iec104, 5) => Some("request"),
+        (Key::Groups, Protocol::Iec104, 6) => Some("activation"),
+        (Key::Groups, Protocol::Iec104, 8) => Some("deactivation"),
+        _ => None,
     }
-}
-
-/// The name that a text is but for its case.
-fn same_letters(names: &[&'static str], text: &str) -> Option<&'static str> {
-    for name in names {
-        if name.eq_ignore_ascii_case(text) {
-            return Some(*name);
-        }
-    }
-    None
 }

@@ -8,21 +8,8 @@ const LONGEST: usize = 32;
 /// The most edits between a word and what was meant.
 const EDITS: usize = 2;
 
-/// The first of the known words that are nearest to this one: at most two letters are added, left out, changed or swapped,
-/// and fewer than it has. Where memory runs out, the text does not become whole.
-pub(crate) fn nearest<'a>(out: &mut Page, word: &str, known: &[&'a str]) -> Option<&'a str> {
-    let mut best = None;
-    let mut least = most_edits(word);
-    for candidate in known {
-        if is_nearer(out, word, candidate, &mut least) {
-            best = Some(*candidate);
-        }
-    }
-    best
-}
-
 /// How many edits are too many between a word and what was meant by it: any, where the word is too long.
-fn most_edits(word: &str) -> usize {
+pub(crate) fn most_edits(word: &str) -> usize {
     if word.len() > LONGEST {
         0
     } else {
@@ -31,7 +18,7 @@ fn most_edits(word: &str) -> usize {
 }
 
 /// Whether fewer edits lie between two words than the least so far, which then are the least.
-fn is_nearer(out: &mut Page, word: &str, other: &str, least: &mut usize) -> bool {
+pub(crate) fn is_nearer(out: &mut Page, word: &str, other: &str, least: &mut usize) -> bool {
     if *least == 0 {
         return false;
     }
@@ -67,7 +54,8 @@ pub(crate) fn push_meant(out: &mut Page, word: &str, known: &str, mark: &str) {
     }
 }
 
-/// The same of known words with commas between them.
+/// The first of the known words, with commas between them, that are nearest to this one: at most two letters are added, left out,
+/// changed or swapped, and fewer than it has. Where memory runs out, the text does not become whole.
 fn nearest_listed<'a>(out: &mut Page, word: &str, known: &'a str) -> Option<&'a str> {
     let mut best = None;
     let mut least = most_edits(word);
@@ -87,4 +75,16 @@ pub(crate) fn has_word(known: &str, word: &str) -> bool {
         }
     }
     false
+}
+
+/// What stands behind a word and a space in one of some rows.
+pub(crate) fn row_of(rows: &'static str, word: &str) -> Option<&'static str> {
+    for row in rows.lines() {
+        if let Some((first, rest)) = row.split_once(' ') {
+            if first == word {
+                return Some(rest);
+            }
+        }
+    }
+    None
 }

@@ -94,7 +94,7 @@ fn push_assets(out: &mut Page, assets: &[Asset]) {
     } else {
         "\n  it has"
     });
-    for asset in assets.iter().take(NAMES) {
+    for asset in assets.get(..NAMES).unwrap_or(assets) {
         out.push_all(&[" ", asset.name.as_str()]);
     }
     if assets.len() > NAMES {

@@ -30,14 +30,19 @@ impl Page {
         }
     }
 
-    /// Whether memory did not run out.
-    pub(crate) fn is_whole(&self) -> bool {
-        self.is_whole
+    /// Takes all of the text away.
+    pub(crate) fn clear(&mut self) {
+        self.text.clear();
     }
 
     /// Notes that memory ran out.
     pub(crate) fn run_out(&mut self) {
         self.is_whole = false;
+    }
+
+    /// Notes that memory ran out, if it did.
+    pub(crate) fn keep(&mut self, is_done: bool) {
+        self.is_whole &= is_done;
     }
 
     /// Puts a piece; from where memory ran out on nothing more is put.

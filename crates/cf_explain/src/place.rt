@@ -43,17 +43,12 @@ pub(crate) struct Target<'a> {
 
 /// The table of the document (0 and 0), of a set (the asset 0), of an asset (its rule 0) or of a rule.
 pub(crate) fn table_at(document: &Table, asset: u32, rule: u32) -> Option<&Table> {
-    if asset == 0 && rule == 0 {
-        return Some(document);
+    match (asset, rule) {
+        (0, 0) => Some(document),
+        (0, _) => entry_at(document, "set", rule),
+        (_, 0) => entry_at(document, "asset", asset),
+        _ => entry_at(entry_at(document, "asset", asset)?, "rule", rule),
     }
-    if asset == 0 {
-        return entry_at(document, "set", rule);
-    }
-    let asset = entry_at(document, "asset", asset)?;
-    if rule == 0 {
-        return Some(asset);
-    }
-    entry_at(asset, "rule", rule)
 }
 
 /// The table of a number, from 1, in the list at a key.
@@ -117,26 +112,27 @@ enum Look<'a> {
 
 fn look_of(line: &str) -> Look<'_> {
     let line = line.trim();
-    if let Some(name) = line.strip_prefix("[") {
-        return match name.trim_start_matches("[").split_once("]") {
+    if line.starts_with('[') {
+        match line.trim_start_matches('[').split_once(']') {
             Some((name, _)) => Look::Header(name.trim()),
             None => Look::Other,
-        };
-    }
-    match line.split_once("=") {
-        Some((key, _)) => Look::Pair(key.trim()),
-        None => Look::Other,
+        }
+    } else {
+        match line.split_once('=') {
+            Some((key, _)) => Look::Pair(key.trim()),
+            None => Look::Other,
+        }
     }
 }
 
 /// A key without the quotation marks that it may stand in.
 fn unquoted(key: &str) -> &str {
-    key.trim_matches("\"").trim_matches("'")
+    key.trim_matches('"').trim_matches('\'')
 }
 
 /// The last part of a header's name.
 fn last_part(name: &str) -> &str {
-    match name.rsplit_once(".") {
+    match name.rsplit_once('.') {
         Some((_, last)) => unquoted(last.trim()),
         None => unquoted(name),
     }
@@ -181,18 +177,18 @@ impl Section {
         }
     }
 
-    /// Whether a line of this section, which ends in another, may be where the target stands.
-    fn may_have(self, look: Look<'_>, target: &Target<'_>) -> bool {
-        let is_there = self.asset == target.asset && self.rule == target.rule;
+    fn is_at(self, target: &Target<'_>) -> bool {
+        self.asset == target.asset && self.rule == target.rule
+    }
+
+    /// Whether a line of this section may be where the target stands. `next` is the section after it.
+    fn may_have(self, look: Look<'_>, next: Section, target: &Target<'_>) -> bool {
         match (look, target.key) {
-            (Look::Pair(key), Some(wanted)) => is_there && unquoted(key) == wanted,
+            (Look::Pair(key), Some(wanted)) => self.is_at(target) && unquoted(key) == wanted,
             (Look::Header(name), Some(wanted)) => {
                 (target.asset == 0 || self.asset == target.asset) && last_part(name) == wanted
             }
-            (Look::Header("set" | "asset" | "asset.rule"), None) => {
-                let next = self.behind(look);
-                next.asset == target.asset && next.rule == target.rule
-            }
+            (Look::Header(_), None) => next.is_at(target) && !self.is_at(target),
             _ => false,
         }
     }
@@ -215,13 +211,14 @@ pub(crate) fn find_place(alloc: Global, text: &[u8], target: &Target<'_>) -> Opt
     let mut start = 0usize;
     for line in text.split(is_line_end) {
         let look = look_of(std::str::from_utf8(line).unwrap_or(""));
-        if section.may_have(look, target) && tries > 0 {
+        let next = section.behind(look);
+        if tries > 0 && section.may_have(look, next, target) {
             tries -= 1;
             if let Some(place) = place_at(alloc, text, start, line, look, target) {
                 return Some(place);
             }
         }
-        section = section.behind(look);
+        section = next;
         start = start.saturating_add(line.len()).saturating_add(1);
     }
     None

@@ -74,13 +74,13 @@ fn push_toml_fault(out: &mut Page, text: &[u8], start: usize, message: &str) {
 
 /// What is often meant by a line that is no TOML.
 fn toml_hint(line: &str) -> Option<&'static str> {
-    if line.contains("\u{201c}") || line.contains("\u{201d}") {
+    if line.contains('\u{201c}') || line.contains('\u{201d}') {
         return Some("quotation marks are the straight ones, as \"allow\"");
     }
-    if line.starts_with("[") {
+    if line.starts_with('[') {
         return Some("write [[asset]] and [[asset.rule]] with two brackets each time");
     }
-    let (_, value) = line.split_once("=")?;
+    let (_, value) = line.split_once('=')?;
     match value.trim().as_bytes().first() {
         Some(first) if first.is_ascii_alphabetic() => {
             Some("a text stands between quotation marks, as \"allow\"")

@@ -7,11 +7,14 @@ const SHOWN: usize = 48;
 
 /// A text cut after `SHOWN` characters. A control character stands as its escape.
 pub(crate) fn push_shown(out: &mut Page, text: &str) {
-    for character in text.chars().take(SHOWN) {
+    let mut left = SHOWN;
+    for character in text.chars() {
+        if left == 0 {
+            out.push("..");
+            return;
+        }
         push_character(out, character);
-    }
-    if text.chars().nth(SHOWN).is_some() {
-        out.push("..");
+        left -= 1;
     }
 }
 

@@ -23,13 +23,18 @@ fn list_of<'a>(entry: &'a Value, key: &str) -> &'a [Value] {
     }
 }
 
+/// The text at a key; an empty one where there is none.
+pub(crate) fn text_at<'a>(table: &'a Table, key: &str) -> &'a str {
+    match table.get(key) {
+        Some(Value::String(text)) => text.as_str(),
+        _ => "",
+    }
+}
+
 /// The name of a set.
 pub(crate) fn name_of(set: &Value) -> &str {
     match set {
-        Value::Table(table) => match table.get("name") {
-            Some(Value::String(name)) => name.as_str(),
-            _ => "",
-        },
+        Value::Table(table) => text_at(table, "name"),
         _ => "",
     }
 }
@@ -49,10 +54,10 @@ pub(crate) fn is_named(document: &Table, name: &str) -> bool {
 /// Whether a rule names a set.
 fn names(rule: &Value, name: &str) -> bool {
     for entry in list_of(rule, "points") {
-        if let Value::String(text) = entry {
-            if text.strip_prefix("@") == Some(name) {
-                return true;
-            }
+        if let Value::String(text) = entry
+            && text.strip_prefix('@') == Some(name)
+        {
+            return true;
         }
     }
     false

@@ -13,6 +13,14 @@ const ASSET_KEYS: &str = "name, address, port, protocol, station, master, rule";
 
 const RULE_KEYS: &str = "name, action, clients, codes, groups, points, values, most, seconds, log";
 
+/// What keys stand in, the keys, and what is said where they stand in something else.
+const HOMES: &str = "\
+a rule:action, clients, codes, groups, points, values, most, seconds, log;: it stands in a rule, below [[asset.rule]]
+an asset:rule;: a rule is a table [[asset.rule]]
+an asset:name, address, port, protocol, station, master;: it stands in an asset, below [[asset]] and above its first [[asset.rule]]
+the document:set;: a set of points is a table [[set]]
+the document:version, asset;: it stands above the first [[asset]]";
+
 /// What a key stands in.
 #[derive(Clone, Copy)]
 pub(crate) enum Level {
@@ -121,20 +129,12 @@ fn other_level(level: Level, key: &str) -> Option<&'static str> {
             ": it has one, as station = 1; in version 3 several assets may have one address and port",
         );
     }
-    if !matches!(level, Level::Rule) && key != "name" && has_word(RULE_KEYS, key) {
-        return Some(": it stands in a rule, below [[asset.rule]]");
-    }
-    if !matches!(level, Level::Asset) && key == "rule" {
-        return Some(": a rule is a table [[asset.rule]]");
-    }
-    if !matches!(level, Level::Asset) && has_word(ASSET_KEYS, key) {
-        return Some(": it stands in an asset, below [[asset]] and above its first [[asset.rule]]");
-    }
-    if !matches!(level, Level::Document) && key == "set" {
-        return Some(": a set of points is a table [[set]]");
-    }
-    if !matches!(level, Level::Document) && has_word(DOCUMENT_KEYS, key) {
-        return Some(": it stands above the first [[asset]]");
+    for home in HOMES.lines() {
+        let (place, rest) = home.split_once(':')?;
+        let (keys, said) = rest.split_once(';')?;
+        if place != level.name() && has_word(keys, key) {
+            return Some(said);
+        }
     }
     None
 }

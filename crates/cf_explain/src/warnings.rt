@@ -1,4 +1,5 @@
 //! What `check` warns of: sets that no rule names, assets that nothing reaches, and rules that decide nothing, or less than they seem to.
+use crate::difference::PolicyFile;
 use crate::found::What;
 use crate::gathered::{Silence, Warned, Warning, gathered, silence_about};
 use crate::naming::Scope;
@@ -6,6 +7,8 @@ use crate::page::Page;
 use crate::place::is_line_end;
 use crate::policy::push_rule_place;
 use crate::quote::push_titled;
+use crate::report::Report;
+use crate::seat::{Seat, push_rule_of};
 use crate::sets::{is_named, name_of, sets_of, twin_of};
 use crate::unlogged::push_unlogged;
 use crate::unmet::{Unmet, reaches_place};
@@ -16,9 +19,6 @@ use cf_view::same_endpoint;
 use std::alloc::{AllocError, Global};
 use toml::{Table, Value};
 
-/// How many warnings are written out.
-const MOST: u32 = 20;
-
 /// That a rule whose rate is spent decides all the same: it refuses, and no later rule is asked.
 const SPENT: &str = ", also while its rate is spent";
 
@@ -28,27 +28,12 @@ const SETS: &[u8] = b"set";
 /// The key of a document's version.
 const VERSION: &[u8] = b"version";
 
-/// A policy's file: its name and its text.
-#[derive(Clone, Copy)]
-struct Source<'a> {
-    file: &'a str,
-    text: &'a [u8],
-}
-
-/// A rule that is warned of, with its number and that of its asset, both from 1.
+/// A rule that is warned of: its asset, its index, and the rule.
 #[derive(Clone, Copy)]
 struct Subject<'a> {
-    asset_number: u64,
-    asset: &'a Asset,
-    rule_number: u64,
+    seat: &'a Seat<'a>,
+    index: usize,
     rule: &'a Rule,
-}
-
-/// Warnings so far: their lines, and how many there are.
-#[derive(Drop)]
-struct Report {
-    lines: Page,
-    count: u32,
 }
 
 /// A line for each warning about a policy that was read from a text: first the refusals after rules that allow all that they name;
@@ -63,17 +48,18 @@ pub fn policy_warnings(
     text: &[u8],
     policy: &Policy,
 ) -> Result<String, AllocError> {
-    let source = Source { file, text };
-    let all = gathered(alloc, policy)?;
-    let mut report = Report {
-        lines: Page::new(alloc),
-        count: 0,
+    let source = PolicyFile {
+        name: file,
+        text,
+        policy,
     };
-    push_rules(&mut report, &source, policy, &all, Order::Silent);
-    push_strict(&mut report, &source, policy);
+    let all = gathered(alloc, policy)?;
+    let mut report = Report::new(alloc);
+    push_rules(&mut report, &source, &all, Order::Silent);
+    push_strict(&mut report, &source);
     let has_logs = push_stated(&mut report, &source);
-    push_rules(&mut report, &source, policy, &all, Order::Other);
-    push_more(&mut report, file);
+    push_rules(&mut report, &source, &all, Order::Other);
+    report.push_more(file, ": warning:");
     if has_logs {
         push_unlogged(&mut report.lines, file, policy);
     }
@@ -81,7 +67,7 @@ pub fn policy_warnings(
 }
 
 /// The warnings about the sets that a text has; and whether it is of version 3, in which rules have logs.
-fn push_stated(report: &mut Report, source: &Source<'_>) -> bool {
+fn push_stated(report: &mut Report, source: &PolicyFile<'_>) -> bool {
     if !may_have_sets(source.text) && !may_have_logs(source.text) {
         return false;
     }
@@ -98,13 +84,26 @@ fn push_stated(report: &mut Report, source: &Source<'_>) -> bool {
 }
 
 /// The warnings about assets without a rule that allows.
-fn push_strict(report: &mut Report, source: &Source<'_>, policy: &Policy) {
-    for (index, asset) in policy.assets.as_slice().iter().enumerate() {
-        if !allows_something(asset) {
-            let so = what_follows(policy, asset);
-            push_strict_asset(report, source, (index as u64).saturating_add(1), asset, so);
+fn push_strict(report: &mut Report, source: &PolicyFile<'_>) {
+    let mut number = 0u64;
+    for asset in source.policy.assets.as_slice() {
+        number = number.saturating_add(1);
+        if !allows_something(asset) && report.takes() {
+            push_beginning(&mut report.lines, source, number, 0);
+            push_titled(&mut report.lines, "asset ", number, asset.name.as_str());
+            report.lines.push_all(&[
+                " has no rule that allows: each command is refused",
+                what_follows(source.policy, asset),
+            ]);
         }
     }
+}
+
+/// The file, with line and column where the table of an asset, or of asset 0 that of a set, begins.
+fn push_beginning(out: &mut Page, source: &PolicyFile<'_>, asset: u64, set: u64) {
+    out.push(source.name);
+    push_rule_place(out, source.text, asset, set);
+    out.push(": warning: ");
 }
 
 fn allows_something(asset: &Asset) -> bool {
@@ -123,25 +122,6 @@ fn what_follows(policy: &Policy, asset: &Asset) -> &'static str {
 
 fn is_allowing(rule: &Rule) -> bool {
     rule.action == Action::Allow
-}
-
-/// The warning about an asset, by its number from 1, that no rule allows anything, and what follows.
-fn push_strict_asset(
-    report: &mut Report,
-    source: &Source<'_>,
-    number: u64,
-    asset: &Asset,
-    so: &str,
-) {
-    if report.count < MOST {
-        let out = &mut report.lines;
-        out.push(source.file);
-        push_rule_place(out, source.text, number, 0);
-        push_titled(out, ": warning: asset ", number, asset.name.as_str());
-        out.push(" has no rule that allows: each command is refused");
-        out.push(so);
-    }
-    report.count = report.count.saturating_add(1);
 }
 
 /// Whether a document may have sets: its text has their key, which no letter stands before, or an escape, by which a key may be
@@ -163,12 +143,11 @@ fn may_be_third(line: &[u8]) -> bool {
 }
 
 fn has_version(line: &[u8]) -> bool {
-    for octets in line.windows(VERSION.len()) {
-        if octets == VERSION {
-            return true;
-        }
-    }
-    false
+    line.windows(VERSION.len()).any(is_version)
+}
+
+fn is_version(octets: &[u8]) -> bool {
+    octets == VERSION
 }
 
 /// Whether octets end with the key of sets and begin with none that a longer key would have there.
@@ -179,69 +158,46 @@ fn ends_with_sets(octets: &[u8]) -> bool {
     }
 }
 
-/// How many warnings there are beside those that are written out.
-fn push_more(report: &mut Report, file: &str) {
-    if report.count > MOST {
-        report.lines.push_all(&[file, ": warning: and "]);
-        report.lines.push_number(u64::from(report.count - MOST));
-        report.lines.push(" more\n");
-    }
-}
-
 /// The warnings about a document's sets.
-fn push_sets(report: &mut Report, source: &Source<'_>, document: &Table) {
+fn push_sets(report: &mut Report, source: &PolicyFile<'_>, document: &Table) {
     let sets = sets_of(document);
-    push_set_count(&mut report.lines, source.file, sets.len());
-    for (index, set) in sets.iter().enumerate() {
-        let number = index.saturating_add(1);
-        if !is_named(document, name_of(set)) {
-            push_set(report, source, number, set, None);
+    push_set_count(&mut report.lines, source.name, sets.len());
+    let mut number = 0usize;
+    for set in sets {
+        let earlier = sets.get(..number).unwrap_or(sets);
+        number = number.saturating_add(1);
+        if !is_named(document, name_of(set)) && report.takes() {
+            push_set(&mut report.lines, source, number, set);
+            report.lines.push(": no rule names it\n");
         }
-        let twin = twin_of(sets.get(..index).unwrap_or(sets), set);
-        if twin.is_some() {
-            push_set(report, source, number, set, twin);
+        if let Some((twin, other)) = twin_of(earlier, set)
+            && report.takes()
+        {
+            push_set(&mut report.lines, source, number, set);
+            report.lines.push(": it has the points of ");
+            push_set_name(&mut report.lines, twin, other);
+            report.lines.push("\n");
         }
     }
 }
 
 /// How many sets there are, if there are some.
 fn push_set_count(out: &mut Page, file: &str, count: usize) {
-    if count == 0 {
-        return;
+    if count > 0 {
+        out.push(file);
+        out.push_number_after(": note: ", count as u64);
+        out.push(if count == 1 {
+            " set of points\n"
+        } else {
+            " sets of points\n"
+        });
     }
-    out.push_all(&[file, ": note: "]);
-    out.push_number(count as u64);
-    out.push(if count == 1 {
-        " set of points\n"
-    } else {
-        " sets of points\n"
-    });
 }
 
-/// The warning about a set, by its number from 1: that it has the points of an earlier one, or that no rule names it.
-fn push_set(
-    report: &mut Report,
-    source: &Source<'_>,
-    number: usize,
-    set: &Value,
-    twin: Option<(usize, &Value)>,
-) {
-    if report.count < MOST {
-        let out = &mut report.lines;
-        out.push(source.file);
-        push_rule_place(out, source.text, 0, number as u64);
-        out.push(": warning: ");
-        push_set_name(out, number, set);
-        match twin {
-            Some((earlier, other)) => {
-                out.push(": it has the points of ");
-                push_set_name(out, earlier, other);
-            }
-            None => out.push(": no rule names it"),
-        }
-        out.push("\n");
-    }
-    report.count = report.count.saturating_add(1);
+/// What a warning about a set begins with, by its number from 1.
+fn push_set(out: &mut Page, source: &PolicyFile<'_>, number: usize, set: &Value) {
+    push_beginning(out, source, 0, number as u64);
+    push_set_name(out, number, set);
 }
 
 fn push_set_name(out: &mut Page, number: usize, set: &Value) {
@@ -258,75 +214,45 @@ enum Order {
 }
 
 /// The warnings about rules, of one order.
-fn push_rules(
-    report: &mut Report,
-    source: &Source<'_>,
-    policy: &Policy,
-    all: &[Warned],
-    order: Order,
-) {
+fn push_rules(report: &mut Report, source: &PolicyFile<'_>, all: &[Warned], order: Order) {
     for warned in all {
-        if let Some(subject) = subject_of(policy, warned) {
-            let silence = silence_about(subject.asset, warned);
-            if silence.is_some() == matches!(order, Order::Silent) {
-                push_rule(report, source, &subject, warned.told, silence);
-            }
+        if let Some(asset) = source.policy.assets.as_slice().get(warned.asset) {
+            let seat = Seat {
+                source: &*source,
+                number: (warned.asset as u64).saturating_add(1),
+                asset,
+            };
+            push_warned(report, &seat, warned, order);
         }
     }
 }
 
-fn subject_of<'a>(policy: &'a Policy, warned: &Warned) -> Option<Subject<'a>> {
-    let asset = policy.assets.as_slice().get(warned.asset)?;
-    let rule = asset.rules.as_slice().get(warned.rule)?;
-    Some(Subject {
-        asset_number: (warned.asset as u64).saturating_add(1),
-        asset,
-        rule_number: (warned.rule as u64).saturating_add(1),
-        rule,
-    })
-}
-
-/// The warning about one rule.
-fn push_rule(
-    report: &mut Report,
-    source: &Source<'_>,
-    subject: &Subject<'_>,
-    told: Warning,
-    silence: Option<Silence>,
-) {
-    if report.count < MOST {
-        let out = &mut report.lines;
-        push_subject(out, source, subject);
+/// The warning about one rule of an asset, if it is of an order.
+fn push_warned(report: &mut Report, seat: &Seat<'_>, warned: &Warned, order: Order) {
+    let silence = silence_about(seat.asset, warned);
+    if let Some(rule) = seat.asset.rules.as_slice().get(warned.rule)
+        && silence.is_some() == matches!(order, Order::Silent)
+        && report.takes()
+    {
+        let index = warned.rule;
+        push_rule_of(&mut report.lines, seat, ": warning: asset ", index);
+        let subject = Subject {
+            seat: &*seat,
+            index,
+            rule,
+        };
         match silence {
-            Some(silence) => push_silence(out, subject, silence),
-            None => push_told(out, subject, told),
+            Some(silence) => push_silence(&mut report.lines, &subject, silence),
+            None => push_told(&mut report.lines, &subject, warned.told),
         }
-        out.push("\n");
+        report.lines.push("\n");
     }
-    report.count = report.count.saturating_add(1);
 }
 
-fn push_subject(out: &mut Page, source: &Source<'_>, subject: &Subject<'_>) {
-    out.push(source.file);
-    push_rule_place(out, source.text, subject.asset_number, subject.rule_number);
-    let name = subject.asset.name.as_str();
-    push_titled(out, ": warning: asset ", subject.asset_number, name);
-    push_titled(
-        out,
-        ", rule ",
-        subject.rule_number,
-        subject.rule.name.as_str(),
-    );
-}
-
-/// An earlier rule by its number, from 0.
-fn push_earlier(out: &mut Page, number: usize, rule: &Rule) {
-    push_titled(
-        out,
-        "rule ",
-        (number as u64).saturating_add(1),
-        rule.name.as_str(),
-    );
+/// An earlier rule by its index.
+fn push_earlier(out: &mut Page, index: usize, rule: &Rule) {
+    let number = (index as u64).saturating_add(1);
+    push_titled(out, "rule ", number, rule.name.as_str());
 }
 
 /// That a rule never refuses anything.
@@ -354,7 +280,7 @@ fn push_silence(out: &mut Page, subject: &Subject<'_>, silence: Silence) {
 
 /// The rule that allows all that a later one names.
 fn push_allowance(out: &mut Page, subject: &Subject<'_>, number: usize, but: &str) {
-    if let Some(first) = subject.asset.rules.as_slice().get(number) {
+    if let Some(first) = subject.seat.asset.rules.as_slice().get(number) {
         push_earlier(out, number, first);
         out.push(" before it allows all that it names");
         if first.rate.is_some() {
@@ -386,8 +312,8 @@ fn push_together(out: &mut Page, subject: &Subject<'_>) {
 
 /// Whether some rule before this one has a rate.
 fn some_rated(subject: &Subject<'_>) -> bool {
-    let before = (subject.rule_number as usize).saturating_sub(1);
-    for rule in subject.asset.rules.as_slice().iter().take(before) {
+    let rules = subject.seat.asset.rules.as_slice();
+    for rule in rules.get(..subject.index).unwrap_or(rules) {
         if rule.rate.is_some() {
             return true;
         }
@@ -488,7 +414,7 @@ fn push_what(out: &mut Page, subject: &Subject<'_>, what: What) {
 /// That an earlier rule has all that this one has.
 fn push_covered(out: &mut Page, subject: &Subject<'_>, earlier: usize) {
     out.push("it decides nothing: ");
-    if let Some(first) = subject.asset.rules.as_slice().get(earlier) {
+    if let Some(first) = subject.seat.asset.rules.as_slice().get(earlier) {
         push_earlier(out, earlier, first);
         out.push(before_it(earlier, first.action, subject.rule.action));
         if first.rate.is_some() {
@@ -520,7 +446,7 @@ fn before_it(number: usize, first: Action, later: Action) -> &'static str {
 
 /// Why no act with a code meets a rule, with what acts of that code have.
 fn push_reason(out: &mut Page, subject: &Subject<'_>, code: u16, why: Unmet) {
-    let protocol = subject.asset.protocol;
+    let protocol = subject.seat.asset.protocol;
     let kinds = kinds(protocol, code);
     out.push_number_after("code ", u64::from(code));
     out.push(lack(why));

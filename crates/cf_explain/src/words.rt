@@ -1,8 +1,9 @@
 //! Words that are no command.
 use crate::entries::address_fault;
-use crate::nearest::push_meant;
+use crate::nearest::{push_meant, row_of};
 use crate::page::Page;
 use crate::quote::push_quoted;
+use cf_policylang::address;
 use std::alloc::{AllocError, Global};
 
 /// What a word after a command is.
@@ -48,52 +49,41 @@ relay POLICY ASSET PORT IDLES LOG
 serve POLICY SECONDS LOG NAME=A.B.C.D:PORT..
 world SEED SESSIONS POLICY CAPTURE OUT LOG";
 
-/// What help calls the words after a command, with a space between two, if it is one; of one at most there may be more.
-fn form_of(command: &str) -> Option<&'static str> {
-    for line in FORMS.lines() {
-        let (name, form) = line.split_once(' ').unwrap_or((line, ""));
-        if name == command {
-            return Some(form);
-        }
-    }
-    None
-}
-
 /// How many words a form has.
 fn count_of(form: &str) -> usize {
     form.split(' ').count()
 }
 
-/// What help calls the word at an index of so many words, which have a form.
-fn name_at(form: &str, count: usize, index: usize) -> &str {
-    let place = place_in(form, count, index);
-    let name = form.split(' ').nth(place).unwrap_or("");
-    name.strip_suffix(MORE).unwrap_or(name)
+/// A word after a command: what help calls it, what it is, and its text.
+#[derive(Clone, Copy)]
+struct Word<'a> {
+    name: &'static str,
+    role: Role,
+    text: &'a str,
 }
 
-/// The place in a form of the word at an index: those that there are more of stand at one place.
-fn place_in(form: &str, count: usize, index: usize) -> usize {
-    let first = place_of_more(form);
-    let more = count.saturating_sub(count_of(form));
-    if index <= first {
-        index
-    } else if index <= first.saturating_add(more) {
-        first
-    } else {
-        index.saturating_sub(more)
-    }
-}
-
-/// The place of the word of which there may be more, or the number of words.
-fn place_of_more(form: &str) -> usize {
+/// The words that have a form: those that there are more of stand at one place of it.
+fn named<'a>(out: &mut Page, form: &'static str, words: &'a [String]) -> Vec<Word<'a>> {
+    let mut named = Vec::new(out.alloc);
+    let mut more = words.len().saturating_sub(count_of(form));
     let mut place = 0usize;
-    for name in form.split(' ') {
-        if name.ends_with(MORE) {
-            return place;
+    for word in words {
+        let name = form.split(' ').nth(place).unwrap_or("");
+        if more > 0 && name.ends_with(MORE) {
+            more -= 1;
+        } else {
+            place = place.saturating_add(1);
         }
-        place = place.saturating_add(1);
+        let word = word_of(name, word.as_str());
+        out.keep(named.push(word).is_ok());
     }
-    place
+    named
+}
+
+fn word_of<'a>(name: &'static str, text: &'a str) -> Word<'a> {
+    let name = name.strip_suffix(MORE).unwrap_or(name);
+    let role = role_of(name);
+    Word { name, role, text }
 }
 
 /// What a word is, by what help calls it.
@@ -134,7 +124,7 @@ fn push_asked(out: &mut Page, word: &str, rest: &[String]) {
 }
 
 fn push_command(out: &mut Page, command: &str, words: &[String]) {
-    match form_of(command) {
+    match row_of(FORMS, command) {
         Some(form) => push_command_fault(out, command, form, words),
         None => push_no_command(out, command),
     }
@@ -153,36 +143,21 @@ fn push_no_command(out: &mut Page, word: &str) {
 }
 
 /// What is wrong with the words after a command, and its form.
-fn push_command_fault(out: &mut Page, command: &str, form: &str, words: &[String]) {
+fn push_command_fault(out: &mut Page, command: &str, form: &'static str, words: &[String]) {
     let wanted = count_of(form);
-    let goes_on = goes_on(form);
-    if wanted == words.len() || (goes_on && wanted < words.len()) {
-        push_words_fault(out, command, form, words);
+    if wanted == words.len() || (wanted < words.len() && form.contains(MORE)) {
+        let named = named(out, form, words);
+        push_words_fault(out, command, form, named.as_slice());
     } else {
         push_wrong_count(out, command, form, words.len());
     }
     out.push_all(&["\n  cmdwall ", command, " ", form]);
 }
 
-/// Whether there may be more words.
-fn goes_on(form: &str) -> bool {
-    form.contains(MORE)
-}
-
-/// Whether there may be more captures.
-fn has_captures(form: &str) -> bool {
-    form.contains("CAPTURE..")
-}
-
-/// Whether there may be more places.
-fn has_places(form: &str) -> bool {
-    form.contains("PORT..")
-}
-
 /// Too few or too many words.
 fn push_wrong_count(out: &mut Page, command: &str, form: &str, count: usize) {
     let wanted = count_of(form);
-    let takes = if goes_on(form) {
+    let takes = if form.contains(MORE) {
         " takes at least "
     } else {
         " takes "
@@ -197,24 +172,23 @@ fn push_wrong_count(out: &mut Page, command: &str, form: &str, count: usize) {
     out.push_number_after(has, count as u64);
 }
 
-/// The first of these that holds: a word that is none of its role, two files of one name.
-fn push_words_fault(out: &mut Page, command: &str, form: &str, words: &[String]) {
-    if !push_word_faults(out, form, words)
-        && !push_twins(out, form, words)
-        && !push_same_places(out, form, words)
-        && !push_many_captures(out, form, words)
+/// The first of these that holds: a word that is none of its role, two files of one name, one place twice, too many of a kind.
+fn push_words_fault(out: &mut Page, command: &str, form: &str, words: &[Word<'_>]) {
+    if !push_word_faults(out, words)
+        && !push_twins(out, words)
+        && !push_again(out, words)
+        && !push_too_many(out, form, words.len())
     {
         out.push_all(&["the words behind ", command, " have no form"]);
     }
 }
 
 /// Says what is wrong with the first word that is none of its role, if there is one, and whether it did.
-fn push_word_faults(out: &mut Page, form: &str, words: &[String]) -> bool {
-    for (index, word) in words.iter().enumerate() {
-        let name = name_at(form, words.len(), index);
-        if !has_role(role_of(name), word.as_str()) {
-            push_word_fault(out, name, word.as_str());
-            push_exchange(out, form, words, name, word.as_str());
+fn push_word_faults(out: &mut Page, words: &[Word<'_>]) -> bool {
+    for word in words {
+        if !has_role(word.role, word.text) {
+            push_word_fault(out, word);
+            push_exchange(out, words, word);
             return true;
         }
     }
@@ -226,50 +200,61 @@ fn has_role(role: Role, word: &str) -> bool {
     match role {
         Role::Asset => true,
         Role::File => !word.is_empty(),
-        Role::Client => address_fault(word).is_none(),
+        Role::Client => address(word).is_some(),
         Role::Number(low, high) => is_number(low, high, word),
-        Role::Place => endpoint_of(word).is_some(),
+        Role::Place => is_place(word),
     }
 }
 
-/// What stands behind the name of a place, if that is an address and a port.
-fn endpoint_of(word: &str) -> Option<&str> {
-    let (_, endpoint) = word.split_once("=")?;
-    let (host, port) = endpoint.split_once(":")?;
-    if address_fault(host).is_none() && is_number(1, 65_535, port) {
-        Some(endpoint)
-    } else {
-        None
+/// Whether a word is a name, an address and a port.
+fn is_place(word: &str) -> bool {
+    match endpoint_of(word).split_once(':') {
+        Some((host, port)) => address(host).is_some() && is_number(1, 65_535, port),
+        None => false,
+    }
+}
+
+/// What stands behind the name of a place; an empty text where it has none.
+fn endpoint_of(word: &str) -> &str {
+    match word.split_once('=') {
+        Some((_, endpoint)) => endpoint,
+        None => "",
     }
 }
 
 /// Says what is wrong with a word.
-fn push_word_fault(out: &mut Page, name: &str, word: &str) {
-    if word.is_empty() && is_file(name) {
-        out.push_all(&["the name of ", name, " is empty"]);
+fn push_word_fault(out: &mut Page, word: &Word<'_>) {
+    if word.text.is_empty() && is_file(word) {
+        out.push_all(&["the name of ", word.name, " is empty"]);
         return;
     }
-    out.push_all(&[name, " is "]);
-    push_quoted(out, word);
-    push_role(out, role_of(name), word);
+    out.push_all(&[word.name, " is "]);
+    push_quoted(out, word.text);
+    push_role(out, word.role, word.text);
 }
 
 /// Asks whether a word that is none of its role was exchanged with that of a file or an asset: each can be what the other is not.
-fn push_exchange(out: &mut Page, form: &str, words: &[String], name: &str, word: &str) {
-    for (index, other) in words.iter().enumerate() {
-        let place = name_at(form, words.len(), index);
-        if is_free(place) && !word.is_empty() && has_role(role_of(name), other.as_str()) {
-            out.push_all(&["; ", place, " is "]);
-            push_quoted(out, other.as_str());
+fn push_exchange(out: &mut Page, words: &[Word<'_>], word: &Word<'_>) {
+    if word.text.is_empty() {
+        return;
+    }
+    for other in words {
+        if is_free(other) && has_role(word.role, other.text) {
+            out.push_all(&["; ", other.name, " is "]);
+            push_quoted(out, other.text);
             out.push(": are the two exchanged?");
             return;
         }
     }
 }
 
-/// Whether any word, if it is not empty, can stand where help has this one.
-fn is_free(name: &str) -> bool {
-    matches!(role_of(name), Role::File | Role::Asset)
+/// Whether any word, if it is not empty, can stand where this one does.
+fn is_free(word: &Word<'_>) -> bool {
+    matches!(word.role, Role::File | Role::Asset)
+}
+
+fn is_file(word: &Word<'_>) -> bool {
+    matches!(word.role, Role::File)
 }
 
 /// What a word has to be that is an address or a number.
@@ -301,16 +286,12 @@ fn is_number(low: u64, high: u64, word: &str) -> bool {
 }
 
 /// Says which two files have one name, if two have, and whether it did.
-fn push_twins(out: &mut Page, form: &str, words: &[String]) -> bool {
+fn push_twins(out: &mut Page, words: &[Word<'_>]) -> bool {
     for (index, word) in words.iter().enumerate() {
-        if let Some(earlier) = twin_of(form, words, index) {
-            out.push_all(&[
-                name_at(form, words.len(), earlier),
-                " and ",
-                name_at(form, words.len(), index),
-                " are both ",
-            ]);
-            push_quoted(out, word.as_str());
+        let earlier = words.get(..index).unwrap_or(words);
+        if let Some(name) = twin_of(earlier, word) {
+            out.push_all(&[name, " and ", word.name, " are both "]);
+            push_quoted(out, word.text);
             out.push(", and each file has a name of its own");
             return true;
         }
@@ -318,89 +299,67 @@ fn push_twins(out: &mut Page, form: &str, words: &[String]) -> bool {
     false
 }
 
-/// Says that there are too many captures, and whether it did.
-fn push_many_captures(out: &mut Page, form: &str, words: &[String]) -> bool {
-    if !has_captures(form) || words.len().saturating_sub(2) <= CAPTURE_LIMIT {
-        return false;
-    }
-    out.push("there are more than 64 captures");
-    true
-}
-
-/// Says which asset or endpoint stands twice among the places, or that there are too many, and whether it did.
-fn push_same_places(out: &mut Page, form: &str, words: &[String]) -> bool {
-    if !has_places(form) {
-        return false;
-    }
-    let places = match words.get(count_of(form).saturating_sub(1)..) {
-        Some(places) => places,
-        None => return false,
-    };
-    if let Some(part) = first_again(places) {
-        push_quoted(out, part);
-        out.push(" stands twice among the places");
-        return true;
-    }
-    if places.len() > PLACE_LIMIT {
-        out.push("there are more than 256 places");
-        return true;
-    }
-    false
-}
-
-/// The first asset or endpoint of a place that an earlier place has.
-fn first_again(places: &[String]) -> Option<&str> {
-    for (index, word) in places.iter().enumerate() {
-        let earlier = places.get(..index)?;
-        for part in [name_of(word.as_str()), endpoint_of(word.as_str())] {
-            if some_has(earlier, part) {
-                return Some(part.unwrap_or(""));
-            }
+/// What help calls the first earlier word that is the same, if both are files.
+fn twin_of(earlier: &[Word<'_>], word: &Word<'_>) -> Option<&'static str> {
+    for other in earlier {
+        if other.text == word.text {
+            let are_files = is_file(other) && is_file(word);
+            return are_files.then_some(other.name);
         }
     }
     None
 }
 
-/// Whether one of the places has this asset or endpoint.
-fn some_has(places: &[String], part: Option<&str>) -> bool {
-    for place in places {
-        if name_of(place.as_str()) == part || endpoint_of(place.as_str()) == part {
+/// Says that there are too many captures or places, and whether it did.
+fn push_too_many(out: &mut Page, form: &str, count: usize) -> bool {
+    let many = count.saturating_sub(count_of(form)).saturating_add(1);
+    let said = if many > PLACE_LIMIT && form.contains("PORT..") {
+        "there are more than 256 places"
+    } else if many > CAPTURE_LIMIT && form.contains("CAPTURE..") {
+        "there are more than 64 captures"
+    } else {
+        return false;
+    };
+    out.push(said);
+    true
+}
+
+/// Says which asset or endpoint stands twice among the places, and whether it did.
+fn push_again(out: &mut Page, words: &[Word<'_>]) -> bool {
+    for (index, word) in words.iter().enumerate() {
+        let earlier = words.get(..index).unwrap_or(words);
+        if let Some(part) = again(earlier, word) {
+            push_quoted(out, part);
+            out.push(" stands twice among the places");
             return true;
         }
     }
     false
 }
 
-/// The name of a place's asset.
-fn name_of(word: &str) -> Option<&str> {
-    let (name, _) = word.split_once("=")?;
-    Some(name)
-}
-
-/// The first file before that of an index that has the same name.
-fn twin_of(form: &str, words: &[String], index: usize) -> Option<usize> {
-    let earlier = first_equal(words, words.get(index)?.as_str())?;
-    let count = words.len();
-    if earlier < index
-        && is_file(name_at(form, count, index))
-        && is_file(name_at(form, count, earlier))
-    {
-        Some(earlier)
+/// The asset of a place that an earlier place has, else such an endpoint.
+fn again<'a>(earlier: &[Word<'_>], word: &Word<'a>) -> Option<&'a str> {
+    let (name, endpoint) = word.text.split_once('=')?;
+    if !matches!(word.role, Role::Place) {
+        None
+    } else if some_has(earlier, name) {
+        Some(name)
+    } else if some_has(earlier, endpoint) {
+        Some(endpoint)
     } else {
         None
     }
 }
 
-/// The index of the first word that is this one.
-fn first_equal(words: &[String], word: &str) -> Option<usize> {
-    for (index, other) in words.iter().enumerate() {
-        if other.as_str() == word {
-            return Some(index);
+/// Whether one of the places has this asset or endpoint.
+fn some_has(words: &[Word<'_>], part: &str) -> bool {
+    for word in words {
+        if let Role::Place = word.role {
+            let (name, endpoint) = word.text.split_once('=').unwrap_or((part, part));
+            if name == part || endpoint == part {
+                return true;
+            }
         }
     }
-    None
-}
-
-fn is_file(name: &str) -> bool {
-    matches!(role_of(name), Role::File)
+    false
 }

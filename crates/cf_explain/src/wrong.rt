@@ -165,7 +165,7 @@ fn is_set(sets: &[Value], name: &str) -> bool {
 /// The name after `@` of an entry that names a set.
 fn set_named(entry: &Value) -> Option<&str> {
     match entry {
-        Value::String(text) => text.strip_prefix("@"),
+        Value::String(text) => text.strip_prefix('@'),
         _ => None,
     }
 }
@@ -248,20 +248,16 @@ fn earlier_same(case: &Case<'_>, keys: &[&str]) -> Option<u32> {
         case.rule
     };
     for number in 1..end {
-        if are_same(case.table, earlier_at(case, number), keys) {
+        let place = if case.rule == 0 {
+            (number, 0)
+        } else {
+            (case.asset, number)
+        };
+        if are_same(case.table, table_at(case.document, place.0, place.1), keys) {
             return Some(number);
         }
     }
     None
-}
-
-/// The table of the set, the asset, or the rule of this asset, of a number.
-fn earlier_at<'a>(case: &Case<'a>, number: u32) -> Option<&'a Table> {
-    if case.rule == 0 {
-        table_at(case.document, number, 0)
-    } else {
-        table_at(case.document, case.asset, number)
-    }
 }
 
 /// Whether another table has the same values at keys.
@@ -322,28 +318,17 @@ fn push_long_list(out: &mut Page, name: &str, value: &Value) {
     }
 }
 
-/// The name of a table, if it states one.
-pub(crate) fn push_named(out: &mut Page, table: Option<&Table>) {
-    let Some(table) = table else {
-        return;
-    };
-    if let Some(Value::String(name)) = table.get("name") {
-        out.push(" ");
-        push_quoted(out, name.as_str());
-    }
-}
-
 /// The set, or the asset and the rule, of a refusal, by number and name.
 pub(crate) fn push_where(out: &mut Page, document: &Table, refusal: &PolicyRefusal) {
     let (asset, rule) = (refusal.asset, refusal.rule);
-    match Level::of(asset, rule) {
+    let level = Level::of(asset, rule);
+    match level {
         Level::Document => return,
         Level::Set => push_table(out, "set ", rule, table_at(document, 0, rule)),
-        Level::Asset => push_table(out, "asset ", asset, table_at(document, asset, 0)),
-        Level::Rule => {
-            push_table(out, "asset ", asset, table_at(document, asset, 0));
-            push_table(out, ", rule ", rule, table_at(document, asset, rule));
-        }
+        _ => push_table(out, "asset ", asset, table_at(document, asset, 0)),
+    }
+    if let Level::Rule = level {
+        push_table(out, ", rule ", rule, table_at(document, asset, rule));
     }
     out.push(": ");
 }
@@ -351,5 +336,10 @@ pub(crate) fn push_where(out: &mut Page, document: &Table, refusal: &PolicyRefus
 /// A table by its number, and its name if it states one.
 fn push_table(out: &mut Page, word: &str, number: u32, table: Option<&Table>) {
     out.push_number_after(word, u64::from(number));
-    push_named(out, table);
+    if let Some(table) = table
+        && let Some(Value::String(name)) = table.get("name")
+    {
+        out.push(" ");
+        push_quoted(out, name.as_str());
+    }
 }

@@ -1,7 +1,7 @@
 //! What standard error says after work that was done: what a run cannot know, and why a capture shows nothing.
 
 use crate::compared::explain_comparison;
-use crate::say::{print_lines, say_lines};
+use crate::say::{print_lines, say_lines, say_of};
 use crate::why::policy_again;
 use cf_ending::{Denial, Done, Stop};
 use cf_explain::policy_warnings;
@@ -101,9 +101,8 @@ fn warn<R: FileSystem + Eprint + AllocGlobal>(
 
 /// What a learned policy is not.
 fn warn_of_learned<R: Eprint>(rt: &R, out: &str) -> io::Result<()> {
-    eprintln!(rt;
-        "cmdwall: {out} also allows what an intruder did while the capture was taken: read it before use"
-    )
+    let also = " also allows what an intruder did while the capture was taken: read it before use";
+    say_of(rt, "", out, also)
 }
 
 /// That a draft has assets that were widened, if it has.
@@ -111,9 +110,9 @@ fn remark_on_drafted<R: Eprint>(rt: &R, out: &str, widened: u64) -> io::Result<(
     if widened == 0 {
         return Ok(());
     }
-    eprintln!(rt;
-        "cmdwall: {out} allows more than was recorded, of each asset that would have more than 32 rules: its comments say what was widened"
-    )
+    let more =
+        " allows more than was recorded, of each asset that would have more than 32 rules: its comments say what was widened";
+    say_of(rt, "", out, more)
 }
 
 /// Says what a run cannot know of its capture, by what it counted. CAPTURE is read again only where records were dropped, for why they
@@ -197,8 +196,9 @@ fn remark_on_judged<R: FileSystem + Eprint + AllocGlobal>(
     files: &mut RealFiles<'_, R>,
 ) -> io::Result<()> {
     if flows == 0 {
-        eprintln!(rt;
-            "cmdwall: note: no connection to an asset of POLICY begins in CAPTURE: no SYN goes to an asset's address and port"
+        print_lines(
+            rt,
+            "note: no connection to an asset of POLICY begins in CAPTURE: no SYN goes to an asset's address and port",
         )?;
     }
     remark_on_capture(rt, policy, capture, Reading::FromSyn, files)
@@ -214,8 +214,9 @@ fn remark_on_reviewed<R: FileSystem + Eprint + AllocGlobal>(
     files: &mut RealFiles<'_, R>,
 ) -> io::Result<()> {
     if flows == 0 {
-        eprintln!(rt;
-            "cmdwall: note: no connection to an asset of POLICY is in CAPTURE: neither a SYN nor data goes to an asset's address and port"
+        print_lines(
+            rt,
+            "note: no connection to an asset of POLICY is in CAPTURE: neither a SYN nor data goes to an asset's address and port",
         )?;
     }
     match policy_again(rt, policy, files) {
@@ -235,7 +236,7 @@ fn remark_on_each<R: FileSystem + Eprint + AllocGlobal>(
         let name = capture.as_str();
         if let Some(text) = unread_text(rt, assets, name, files) {
             if captures.len() > 1 && !text.is_empty() {
-                eprintln!(rt; "cmdwall: note: of {name}, read by itself:")?;
+                say_of(rt, "note: of ", name, ", read by itself:")?;
             }
             print_lines(rt, &text)?;
         }
@@ -267,8 +268,9 @@ fn remark_on_learned<R: FileSystem + Eprint + AllocGlobal>(
     files: &mut RealFiles<'_, R>,
 ) -> io::Result<()> {
     if rules == 0 {
-        eprintln!(rt;
-            "cmdwall: note: nothing is learned: no command that can be read goes to an asset of POLICY in a connection that begins in CAPTURE"
+        print_lines(
+            rt,
+            "note: nothing is learned: no command that can be read goes to an asset of POLICY in a connection that begins in CAPTURE",
         )?;
     }
     remark_on_capture(rt, policy, capture, Reading::FromSyn, files)?;
@@ -282,7 +284,7 @@ fn remark_on_learned<R: FileSystem + Eprint + AllocGlobal>(
 }
 
 /// Whether a name is that of a file that can be read again.
-fn is_file<R: FileSystem>(rt: &R, name: &str) -> bool {
+pub(crate) fn is_file<R: FileSystem>(rt: &R, name: &str) -> bool {
     match fs::metadata(rt, name) {
         Ok(known) => known.is_file(),
         Err(_) => false,
@@ -290,7 +292,6 @@ fn is_file<R: FileSystem>(rt: &R, name: &str) -> bool {
 }
 
 fn say_unread<R: Eprint>(rt: &R, name: &str) -> io::Result<()> {
-    eprintln!(rt;
-        "cmdwall: note: {name}: it cannot be read again, so it is not said why records were dropped"
-    )
+    let so = ": it cannot be read again, so it is not said why records were dropped";
+    say_of(rt, "note: ", name, so)
 }

@@ -1,9 +1,10 @@
 //! What standard error says of a service as it begins, and as it ended.
 
 use crate::help::version_text;
-use crate::say::say;
+use crate::remark::is_file;
+use crate::say::{print_lines, say};
 use crate::why::{expect_policy, explain_fault, explain_policy, explain_words, policy_again};
-use cf_explain::{asset_message, own_endpoint_message, same_site_message};
+use cf_explain::{asset_message, asset_named, own_endpoint_message, same_site_message};
 use cf_machine::{Announcement, RealFiles};
 use cf_outside::read_whole;
 use cf_policy::{Action, Asset, Policy};
@@ -12,9 +13,9 @@ use cf_view::same_endpoint;
 use cf_words::printed_number_in;
 use cf_words::status::{NO_MEMORY, POLICY_REFUSED, READ_FAULT, UNKNOWN_ASSET, USAGE, WRITE_FAULT};
 use std::alloc::Global;
+use std::io;
 use std::net::Ipv4Addr;
 use std::rt::Files as FileSystem;
-use std::{fs, io};
 
 /// Notes which files the names of a service's policy and log stand for, and that what is read of the policy is kept.
 pub fn expect_service_files<R: FileSystem>(
@@ -37,18 +38,13 @@ pub fn announce_service<R: FileSystem + AllocGlobal>(
     words: &[String],
     files: &mut RealFiles<'_, R>,
 ) -> io::Result<Announcement> {
-    let alloc = rt.alloc();
-    let mut announced = Announcement {
-        places: Vec::new(alloc),
-        rest: Vec::new(alloc),
-    };
-    announced.rest.push(version_text(alloc)?)?;
-    if let [_, name, _, _, places @ ..] = words {
-        let policy = policy_before(rt, name.as_str(), files);
-        announce_places(alloc, &policy, places, &mut announced.places)?;
-        announce_unserved(alloc, name.as_str(), &policy, places, &mut announced.rest)?;
+    match words {
+        [_, name, _, _, places @ ..] => {
+            let policy = policy_before(rt, name.as_str(), files);
+            announcement(rt.alloc(), name.as_str(), policy.as_ref(), places)
+        }
+        _ => announcement(rt.alloc(), "", None, &[]),
     }
-    Ok(announced)
 }
 
 /// The policy, where it can be read now and again.
@@ -57,34 +53,48 @@ fn policy_before<R: FileSystem + AllocGlobal>(
     name: &str,
     files: &mut RealFiles<'_, R>,
 ) -> Option<Policy> {
-    if !fs::metadata(rt, name).ok()?.is_file() {
+    if !is_file(rt, name) || read_whole(rt.alloc(), name, LONGEST_TEXT as u64, files).is_err() {
         return None;
     }
-    read_whole(rt.alloc(), name, LONGEST_TEXT as u64, files).ok()?;
     policy_again(rt, name, files)
 }
 
-/// What each place is for: the assets behind one address and port, and these.
-fn announce_places(
+fn announcement(
     alloc: Global,
-    policy: &Option<Policy>,
+    file: &str,
+    policy: Option<&Policy>,
     places: &[String],
-    out: &mut Vec<String>,
-) -> io::Result<()> {
-    for place in places {
-        let name = asset_of(place.as_str());
-        out.push(place_line(alloc, policy, name)?)?;
-    }
-    Ok(())
+) -> io::Result<Announcement> {
+    let lines = place_lines(alloc, policy, places)?;
+    Ok(Announcement {
+        places: lines,
+        rest: rest_lines(alloc, file, policy, places)?,
+    })
 }
 
-fn place_line(alloc: Global, policy: &Option<Policy>, name: &str) -> io::Result<String> {
-    let Some(policy) = policy else {
-        return Ok(String::from_str(alloc, name)?);
-    };
-    let Some(asset) = asset_named(policy, name) else {
-        return Ok(String::from_str(alloc, name)?);
-    };
+/// What each place is for: the assets behind one address and port, and these.
+fn place_lines(
+    alloc: Global,
+    policy: Option<&Policy>,
+    places: &[String],
+) -> io::Result<Vec<String>> {
+    let mut lines = Vec::new(alloc);
+    for place in places {
+        lines.push(place_line(alloc, policy, asset_of(place.as_str()))?)?;
+    }
+    Ok(lines)
+}
+
+fn place_line(alloc: Global, policy: Option<&Policy>, name: &str) -> io::Result<String> {
+    if let Some(policy) = policy
+        && let Some((_, asset)) = asset_named(policy, name)
+    {
+        return site_line(alloc, policy, asset);
+    }
+    Ok(String::from_str(alloc, name)?)
+}
+
+fn site_line(alloc: Global, policy: &Policy, asset: &Asset) -> io::Result<String> {
     let names = site_names(alloc, policy, asset)?;
     let address = Ipv4Addr::from_bits(asset.endpoint.address);
     let port = asset.endpoint.port;
@@ -105,74 +115,83 @@ fn site_names(alloc: Global, policy: &Policy, asset: &Asset) -> io::Result<Strin
     Ok(names)
 }
 
-/// Which assets of the policy no place is for, and of which no rule allows anything.
-fn announce_unserved(
+/// The program's version, and which assets of the policy no place is for, and of which no rule allows anything.
+fn rest_lines(
     alloc: Global,
     file: &str,
-    policy: &Option<Policy>,
+    policy: Option<&Policy>,
+    places: &[String],
+) -> io::Result<Vec<String>> {
+    let mut lines = Vec::new(alloc);
+    lines.push(version_text(alloc)?)?;
+    if let Some(policy) = policy {
+        push_unserved(alloc, file, policy, places, &mut lines)?;
+    }
+    Ok(lines)
+}
+
+fn push_unserved(
+    alloc: Global,
+    file: &str,
+    policy: &Policy,
     places: &[String],
     out: &mut Vec<String>,
 ) -> io::Result<()> {
-    let Some(policy) = policy else {
-        return Ok(());
-    };
     for asset in policy.assets.as_slice() {
-        let name = asset.name.as_str();
-        if !has_place(policy, asset, places) {
-            out.push(format!(in alloc;
-                "{file}: asset \"{name}\" has no place, and is not served"
-            )?)?;
-        } else if !allows_something(asset) {
-            let so = what_follows(policy, asset);
-            out.push(format!(in alloc;
-                "{file}: asset \"{name}\" has no rule that allows, so {so}"
-            )?)?;
+        if let Some(lack) = lack_of(policy, asset, places) {
+            let name = asset.name.as_str();
+            out.push(format!(in alloc; "{file}: asset \"{name}\" has no {lack}")?)?;
         }
     }
     Ok(())
 }
 
+/// What an asset has none of, if it has no place or no rule that allows, and what follows.
+fn lack_of(policy: &Policy, asset: &Asset, places: &[String]) -> Option<&'static str> {
+    if !has_place(policy, asset, places) {
+        Some("place, and is not served")
+    } else if !allows_something(asset) {
+        Some(what_follows(policy, asset))
+    } else {
+        None
+    }
+}
+
 /// What follows where no rule of an asset allows anything: a client that a rule of another asset of its site names is taken.
 fn what_follows(policy: &Policy, asset: &Asset) -> &'static str {
-    let site_allows = policy.assets.as_slice().iter().any(|other| {
-        same_endpoint(&other.endpoint, &asset.endpoint) && allows_something(other)
-    });
-    if site_allows {
-        "each command to it is refused"
-    } else {
-        "each client is closed as it comes"
+    for other in policy.assets.as_slice() {
+        if same_endpoint(&other.endpoint, &asset.endpoint) && allows_something(other) {
+            return "rule that allows, so each command to it is refused";
+        }
     }
+    "rule that allows, so each client is closed as it comes"
 }
 
 /// Whether one of the places is for the asset: it has the name of an asset of its endpoint.
 fn has_place(policy: &Policy, asset: &Asset, places: &[String]) -> bool {
-    places
-        .iter()
-        .any(|place| is_for(policy, place.as_str(), asset))
+    for place in places {
+        if is_for(policy, asset_of(place.as_str()), asset) {
+            return true;
+        }
+    }
+    false
 }
 
-/// Whether a place is for the asset.
-fn is_for(policy: &Policy, place: &str, asset: &Asset) -> bool {
-    match asset_named(policy, asset_of(place)) {
-        Some(named) => same_endpoint(&named.endpoint, &asset.endpoint),
+/// Whether the asset of a name has the endpoint of this one.
+fn is_for(policy: &Policy, name: &str, asset: &Asset) -> bool {
+    match asset_named(policy, name) {
+        Some((_, named)) => same_endpoint(&named.endpoint, &asset.endpoint),
         None => false,
     }
 }
 
 fn allows_something(asset: &Asset) -> bool {
-    asset
-        .rules
-        .as_slice()
-        .iter()
-        .any(|rule| rule.action == Action::Allow)
-}
-
-fn asset_named<'a>(policy: &'a Policy, name: &str) -> Option<&'a Asset> {
-    policy
-        .assets
-        .as_slice()
-        .iter()
-        .find(|asset| asset.name.as_str() == name)
+    for rule in asset.rules.as_slice() {
+        if rule.action == Action::Allow {
+            return true;
+        }
+    }
+    false
 }
 
 /// Says why a service ended with this status. What the links met was said as they met it.
@@ -190,7 +209,7 @@ pub fn explain_service<R: FileSystem + Eprint + AllocGlobal>(
         READ_FAULT | WRITE_FAULT => explain_fault(rt, files),
         POLICY_REFUSED => explain_policy(rt, policy.as_str(), files),
         UNKNOWN_ASSET => explain_places(rt, policy.as_str(), places, files),
-        NO_MEMORY => eprintln!(rt; "cmdwall: memory ran out"),
+        NO_MEMORY => print_lines(rt, "memory ran out"),
         _ => Ok(()),
     }
 }
@@ -231,11 +250,14 @@ fn same_site<'a>(policy: &Policy, places: &'a [String]) -> Option<(&'a str, &'a 
 /// The first place of another name that is for the assets of this one's controller.
 fn other_of_site<'a>(policy: &Policy, place: &str, places: &'a [String]) -> Option<&'a str> {
     let name = asset_of(place);
-    let asset = asset_named(policy, name)?;
-    let other = places.iter().find(|other| {
-        asset_of(other.as_str()) != name && is_for(policy, other.as_str(), asset)
-    })?;
-    Some(other.as_str())
+    let (_, asset) = asset_named(policy, name)?;
+    for other in places {
+        let named = asset_of(other.as_str());
+        if named != name && is_for(policy, named, asset) {
+            return Some(other.as_str());
+        }
+    }
+    None
 }
 
 /// The asset whose controller is at a place.
@@ -243,9 +265,12 @@ fn asset_at<'a>(policy: &'a Policy, place: &str) -> Option<&'a Asset> {
     let (_, at) = place.split_once("=")?;
     let (host, port) = at.split_once(":")?;
     let (host, port) = (address(host)?, printed_number_in(1, 65_535, port)?);
-    policy.assets.as_slice().iter().find(|asset| {
-        asset.endpoint.address == host && u64::from(asset.endpoint.port) == port
-    })
+    for asset in policy.assets.as_slice() {
+        if asset.endpoint.address == host && u64::from(asset.endpoint.port) == port {
+            return Some(asset);
+        }
+    }
+    None
 }
 
 /// The first place whose asset the policy does not have.
@@ -269,7 +294,7 @@ fn explain_missing<R: Eprint + AllocGlobal>(
 ) -> io::Result<()> {
     for place in places {
         let asset = asset_of(place.as_str());
-        if !has_asset(policy, asset) {
+        if asset_named(policy, asset).is_none() {
             return say(rt, asset_message(rt.alloc(), name, policy, asset));
         }
     }
@@ -282,12 +307,4 @@ fn asset_of(word: &str) -> &str {
         Some((asset, _)) => asset,
         None => "",
     }
-}
-
-fn has_asset(policy: &Policy, name: &str) -> bool {
-    policy
-        .assets
-        .as_slice()
-        .iter()
-        .any(|asset| asset.name.as_str() == name)
 }

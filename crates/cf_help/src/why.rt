@@ -4,7 +4,7 @@ ghost use Rattle.cf_policy.specs.Within.{IsWithin};
 
 use crate::compared::explain_comparison;
 use crate::remark::{remark, remark_on_objected};
-use crate::say::say;
+use crate::say::{print_lines, say, say_of};
 use cf_ending::{Denial, Done, Stop};
 use cf_explain::{asset_message, capture_message, outputs_message, policy_message, words_message};
 use cf_machine::{LinkFault, Part, RealFiles, Withheld};
@@ -166,7 +166,7 @@ fn explain_words_of<R: Eprint>(rt: &R, stop: &Stop) -> io::Result<()> {
             "the asset would have more than 1,024 rules; a capture of fewer clients and acts has fewer",
         _ => return Ok(()),
     };
-    eprintln!(rt; "cmdwall: {words}")
+    print_lines(rt, words)
 }
 
 /// That memory ran out, and what stands in the files that the command makes.
@@ -175,7 +175,7 @@ fn explain_lack<R: FileSystem + Eprint + AllocGlobal>(
     command: &Command<'_>,
     files: &RealFiles<'_, R>,
 ) -> io::Result<()> {
-    eprintln!(rt; "cmdwall: memory ran out")?;
+    print_lines(rt, "memory ran out")?;
     explain_outputs(rt, command, files)
 }
 
@@ -243,7 +243,7 @@ pub(crate) fn explain_fault<R: FileSystem + Eprint>(
             let error = &fault.error;
             eprintln!(rt; "cmdwall: {name}: {error}")
         }
-        None => eprintln!(rt; "cmdwall: standard output could not be written"),
+        None => print_lines(rt, "standard output could not be written"),
     }
 }
 
@@ -254,12 +254,13 @@ fn explain_withheld<R: Eprint>(rt: &R, withheld: &Withheld) -> io::Result<()> {
             let other = twins.other.as_str();
             eprintln!(rt; "cmdwall: {name} and {other} are one file; it was left as it is")
         }
-        Withheld::Dash => { eprintln!(rt; "cmdwall: '-' is no output; a file of this name is ./-") }
-        Withheld::Printed(name) => {
-            eprintln!(rt;
-                "cmdwall: {name} is where standard output goes, which has the result; name a file or a pipe of its own"
-            )
-        }
+        Withheld::Dash => print_lines(rt, "'-' is no output; a file of this name is ./-"),
+        Withheld::Printed(name) => say_of(
+            rt,
+            "",
+            name.as_str(),
+            " is where standard output goes, which has the result; name a file or a pipe of its own",
+        ),
     }
 }
 
@@ -383,7 +384,7 @@ fn explain_captures<R: FileSystem + Eprint + AllocGlobal>(
                     "cmdwall: capture {number} of the words, {name}, is at fault; nothing was written"
                 )?;
             }
-            return eprintln!(rt; "cmdwall: {message}");
+            return say(rt, Ok(message));
         }
     }
     Ok(())
@@ -415,11 +416,12 @@ fn explain_watched<R: FileSystem + Eprint + AllocGlobal>(
 ) -> io::Result<()> {
     let mut octet = [0u8; 1];
     match files.read_at(name, CAPTURE_LIMIT, &mut octet) {
-        ReadAnswer::Got(_) => {
-            eprintln!(rt;
-                "cmdwall: {name}: it has more than 67,108,864 bytes, and no longer capture is watched"
-            )
-        }
+        ReadAnswer::Got(_) => say_of(
+            rt,
+            "",
+            name,
+            ": it has more than 67,108,864 bytes, and no longer capture is watched",
+        ),
         ReadAnswer::End | ReadAnswer::Failed => {
             explain_capture(rt, LinkSet::Plain, name, false, files)
         }
@@ -435,7 +437,7 @@ fn explain_capture<R: FileSystem + Eprint + AllocGlobal>(
     files: &mut RealFiles<'_, R>,
 ) -> io::Result<()> {
     match capture_message(rt.alloc(), kinds, name, has_moments, files)? {
-        Some(message) => eprintln!(rt; "cmdwall: {message}"),
+        Some(message) => say(rt, Ok(message)),
         None => Ok(()),
     }
 }

@@ -1,5 +1,5 @@
 -- A side that is given what is queued for it, and closed where that is all.
-use Rattle.std.proofs.Common.{Bool, Err, List, Ok, Result, ap, arith, cond, length, refl, subst, sym, ℕ, ◌+◌, ◌<◌, ◌∙◌, ◌∷◌, ◌≡◌, ◌≤◌, []}
+use Rattle.std.proofs.Common.{Bool, Err, List, Ok, Result, ap, arith, cond, length, refl, subst, sym, true, ℕ, ◌+◌, ◌<◌, ◌∙◌, ◌∷◌, ◌≡◌, ◌≤◌, []}
 use Rattle.std.specs.Prelude.{IfErr, OnOk}
 use Rattle.std.specs.Result.{IsErrAnd}
 use Rattle.std.proofs.lemmas.List.{length-append}
@@ -7,7 +7,7 @@ use Rattle.cf_lane.specs.Handled.{IsLaneOf, LaneValue}
 use Rattle.cf_lane.specs.Output.{other}
 use Rattle.cf_lane.specs.declared.limit.TheConstants.{LETTER_LIMIT}
 use Rattle.cf_links.specs.LinkValue.{LinkValue}
-use Rattle.cf_links.specs.Links.{SessionTold}
+use Rattle.cf_links.specs.Links.{LinksPlace, SessionTold}
 use Rattle.cf_outq.specs.SendQueue.{IsQueueOf, Queue, queue_length}
 use Rattle.cf_outside.specs.Desk.{DeskValue}
 use Rattle.cf_outside.specs.Pair.{Entry, FaultsBy}
@@ -23,7 +23,7 @@ use Rattle.cf_relay.specs.Gave.{FinishesBy, Gave, GaveBy}
 use Rattle.cf_relay.specs.Relaying.{IsSound, RelayingValue, ServesOrRests, is_closed, letters_from, queue_to, relaying_value}
 use Rattle.cf_relay.specs.Scene.{DoesBetween, RoseBy, Scene, StopsBetween, StopsBy, scene}
 use Rattle.cf_relay.specs.Sides.{of_side, with_side}
-use Rattle.cf_relay.specs.Taken.{KeepsLane}
+use Rattle.cf_relay.specs.Taken.{KeepsLane, StaysWhole}
 use Rattle.cf_relay.specs.Turn.{Finishing, Giving}
 use Rattle.cf_relay.specs.declared.relaying.Relaying.{Relaying}
 use Rattle.cf_relay.specs.declared.sides.Sides.{Sides}
@@ -34,6 +34,24 @@ use Rattle.cf_relay.specs.declared.stop.Stop.TheVariants as stop
 pub handed_on : {T : Type 0} (r : Result T Stop) (e : Stop) (P : Stop → Type 0) → IsErrAnd r (λ x. x ≡ e) → P e → IfErr r P
 handed_on (Ok x) e P is p = tt
 handed_on (Err x) e P is p = subst P (sym is) p
+
+-- where it hands on an error there is no success
+pub not_ok : {T : Type 0} (r : Result T Stop) (e : Stop) (P : Type 0) → IsErrAnd r (λ x. x ≡ e) → OnOk r P
+not_ok (Ok x) e P is = absurd is
+not_ok (Err x) e P is = tt
+
+-- a desk that is whole, however a call ends
+pub whole_any : (r : Result (Unit {0}) Stop) (desk : DeskValue) → desk.whole ≡ true → StaysWhole r desk
+whole_any (Ok x) desk is = is
+whole_any (Err stop.Idle) desk is = is
+whole_any (Err stop.Link) desk is = is
+whole_any (Err stop.Write) desk is = tt
+whole_any (Err (stop.Cut reason)) desk is = is
+
+-- what it hands on leaves the desk as the call did
+pub whole_on : (r : Result (Unit {0}) Stop) (e : Stop) (desk : DeskValue) → IsErrAnd r (λ x. x ≡ e) → StaysWhole (Err e) desk → StaysWhole r desk
+whole_on (Ok x) e desk is whole = absurd is
+whole_on (Err x) e desk is whole = subst (λ e. StaysWhole (Err e) desk) (sym is) whole
 
 -- a lane that stays as it was is one of the site still
 pub keeps_any : (site : SiteValue) (old new : LaneValue) (e : Stop) → new ≡ old → IsLaneOf site old → KeepsLane site new e

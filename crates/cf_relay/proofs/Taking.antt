@@ -1,8 +1,9 @@
 -- An answer to a side that was asked for bytes.
-use Rattle.std.proofs.Common.{Err, List, None, Ok, Option, Result, arith, inr, length, refl, sym, ap, subst, take, ℕ, ◌++◌, ◌+◌, ◌<◌, ◌^◌, ◌∙◌, ◌≡◌, ◌≤◌, []}
+use Rattle.std.proofs.Common.{Bool, Err, false, true, List, None, Ok, Option, Result, arith, inr, length, refl, sym, ap, subst, take, ℕ, ◌++◌, ◌+◌, ◌<◌, ◌^◌, ◌∙◌, ◌≡◌, ◌≤◌, []}
 use Rattle.std.specs.Prelude.{OnErr, OnOk}
+use Rattle.std.proofs.lemmas.Bool.{false≢true}
 use Rattle.std.proofs.Math.Bool.{or-false}
-use Rattle.std.proofs.lemmas.List.{append-nil, length-take-le}
+use Rattle.std.proofs.lemmas.List.{append-nil, length-append, length-take-le}
 use Rattle.cf_audit.specs.declared.line.CutReason.{CutReason}
 use Rattle.cf_driver.specs.Takes.{OnlyPushed, Takes}
 use Rattle.cf_lane.specs.Follows.{Follows, Rests, over, rest_of, with_rest}
@@ -11,7 +12,10 @@ use Rattle.cf_lane.specs.History.{Element}
 use Rattle.cf_links.specs.Links.{SessionTold, with_entry}
 use Rattle.cf_outq.specs.SendQueue.{Queue, queue_length}
 use Rattle.cf_outside.specs.Desk.{DeskValue}
-use Rattle.cf_outside.specs.Pair.{Ended, Entry, Got, Idle}
+use Rattle.cf_outside.specs.Faults.{HasCause}
+use Rattle.cf_outside.specs.Pair.{Ended, Entry, FaultsBy, Got, Idle}
+use Rattle.cf_outside.specs.declared.pair.TakeAnswer.{TakeAnswer}
+use Rattle.cf_outside.specs.declared.pair.TakeAnswer.TheVariants as taken
 use Rattle.cf_policy.specs.Site.{SiteValue}
 use Rattle.cf_view.specs.declared.Side.{Side}
 use Rattle.cf_view.specs.declared.Side.TheVariants as side
@@ -19,6 +23,7 @@ use Rattle.cf_relay.proofs.Lined.{lines_none}
 use Rattle.cf_relay.proofs.Lists.{own_bytes, own_end}
 use Rattle.cf_relay.specs.declared.limit.TheConstants.{MOST_BYTES}
 use Rattle.cf_relay.specs.Answers.{element_of}
+use Rattle.cf_relay.specs.Scene.{RoseBy}
 use Rattle.cf_relay.specs.Taken.{AnswersTo, MayTakeNow, TakeState, TakesAnswer, TakesBy, take_state}
 use Rattle.cf_relay.specs.declared.directions.Directions.{Directions}
 use Rattle.cf_relay.specs.declared.stop.Stop.{Stop}
@@ -95,3 +100,67 @@ takes_as site moment s answer cut why old new is answers hears = record {
 pub may_end : (s : Side) (c k : Queue) → queue_length c < 2 ^ 30 → queue_length k < 2 ^ 30 → MayEnd s c k
 may_end side.Client c k few less = omega (arith, less)
 may_end side.Controller c k few less = omega (arith, few)
+
+-- ---- what a call of a side comes to where the call did not fail, or nothing was written
+
+abbrev pub is_failed : TakeAnswer → Bool
+is_failed (taken.Got n) = false
+is_failed taken.Idle = false
+is_failed taken.End = false
+is_failed taken.Failed = true
+
+abbrev pub is_link : Result Unit Stop → Bool
+is_link (Err stop.Link) = true
+is_link r = false
+
+abbrev pub is_write : Result Unit Stop → Bool
+is_write (Err stop.Write) = true
+is_write r = false
+
+apart : {A : Type 0} (f : A → Bool) (x y : A) → f x ≡ false → f y ≡ true → x ≡ y → ⊥
+apart f x y is_not is same = false≢true (sym is_not ∙ ap f same ∙ is)
+
+link_by : (a b : ℕ) (P Q : Type 0) → FaultsBy a b P → (P → ⊥) → (Q → ⊥) → FaultsBy a b Q
+link_by a b P Q h other never = record { later = h.later; rose = λ is. absurd (never is); still = λ _. h.still other }
+
+write_by : (a b : ℕ) (Q : Type 0) → a ≤ b → (Q → ⊥) → HasCause a b Q
+write_by a b Q later never = record { later = later; rose = λ is. absurd (never is) }
+
+-- it is no failure of the links
+pub no_link : (a b : ℕ) (t : TakeAnswer) (r : Result Unit Stop) → FaultsBy a b (t ≡ taken.Failed) → is_failed t ≡ false → is_link r ≡ false → FaultsBy a b (r ≡ Err stop.Link)
+no_link a b t r h came other =
+    link_by a b (t ≡ taken.Failed) (r ≡ Err stop.Link) h (apart is_failed t taken.Failed came refl) (apart is_link r (Err stop.Link) other refl)
+
+-- it is no failure of the log
+pub no_write : (a b : ℕ) (r : Result Unit Stop) → a ≤ b → is_write r ≡ false → HasCause a b (r ≡ Err stop.Write)
+no_write a b r later other = write_by a b (r ≡ Err stop.Write) later (apart is_write r (Err stop.Write) other refl)
+
+-- it is one
+pub is_lost : (a b : ℕ) (P Q : Type 0) → HasCause a b P → P → HasCause a b Q
+is_lost a b P Q h is = record { later = h.later; rose = λ _. h.rose is }
+
+-- the count of the answers Idle begins anew, or is as it was
+pub idles_anew : (n i j : ℕ) → i ≤ j → (start : ℕ) → RoseBy n start i → RoseBy 0 start j
+idles_anew n i j later start r = omega (arith, r, later)
+
+pub idles_stay : (n i j : ℕ) → i ≤ j → (start : ℕ) → RoseBy n start i → RoseBy n start j
+idles_stay n i j later start r = omega (arith, r, later)
+
+-- a count that stops at its number stops for nothing else
+idle_no_link : (r : Result Unit Stop) → OnErr r (r ≡ Err stop.Idle) → is_link r ≡ false
+idle_no_link (Ok x) error = refl
+idle_no_link (Err x) error = ap is_link error
+
+idle_no_write : (r : Result Unit Stop) → OnErr r (r ≡ Err stop.Idle) → is_write r ≡ false
+idle_no_write (Ok x) error = refl
+idle_no_write (Err x) error = ap is_write error
+
+pub idle_link : (a b : ℕ) (t : TakeAnswer) (r : Result Unit Stop) → OnErr r (r ≡ Err stop.Idle) → FaultsBy a b (t ≡ taken.Failed) → is_failed t ≡ false → FaultsBy a b (r ≡ Err stop.Link)
+idle_link a b t r error h came = no_link a b t r h came (idle_no_link r error)
+
+pub idle_write : (a : ℕ) (r : Result Unit Stop) → OnErr r (r ≡ Err stop.Idle) → HasCause a a (r ≡ Err stop.Write)
+idle_write a r error = no_write a a r (omega arith) (idle_no_write r error)
+
+-- what is fed is too little for a count to overflow
+pub fed_little : (a k n : ℕ) (rest buf : List ℕ) → a < 2 ^ k → 2 ^ k ≤ 2 ^ 63 → length rest < 300 → n ≤ length buf → length buf ≡ MOST_BYTES → a + length (rest ++ take n buf) < 2 ^ 64
+fed_little a k n rest buf few small little inside size = omega (arith, few, small, length-append rest (take n buf), length-take-le n buf inside, little, inside, size)

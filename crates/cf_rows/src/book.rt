@@ -1,7 +1,7 @@
 //! What rows may name: units, policies and exchanges.
 
 use crate::fault::{Fault, Wanted};
-use crate::octets::octets;
+use crate::octets::push_octets;
 use std::alloc::Global;
 use std::collections::BTreeMap;
 
@@ -30,25 +30,36 @@ impl Book {
     pub fn take(&mut self, block: &str) -> Result<(), Fault> {
         let (head, body) = block.split_once('\n').unwrap_or((block, ""));
         let (kind, name) = head.split_once(' ').unwrap_or((head, ""));
-        let name = String::from_str(self.alloc, name.trim())?;
         match kind {
-            "unit" => {
-                let spelled = body.replace(self.alloc, '\n', " ")?;
-                let unit = octets(self, spelled.trim())?;
-                self.units.insert(name, unit)?;
-            }
-            "policy" => {
-                let mut policy = String::from_str(self.alloc, body.trim())?;
-                policy.push('\n')?;
-                self.policies.insert(name, policy)?;
-            }
-            "exchange" => {
-                let exchange = String::from_str(self.alloc, body)?;
-                self.exchanges.insert(name, exchange)?;
-            }
-            "" | "#" => {}
-            _ => return Err(Fault::Wanted(Wanted::Block)),
+            "unit" => self.take_unit(name.trim(), body),
+            "policy" => self.take_policy(name.trim(), body.trim()),
+            "exchange" => self.take_exchange(name.trim(), body),
+            "" | "#" => Ok(()),
+            _ => Err(Fault::Wanted(Wanted::Block)),
         }
+    }
+
+    fn take_unit(&mut self, name: &str, body: &str) -> Result<(), Fault> {
+        let mut unit = Vec::new(self.alloc);
+        for line in body.lines() {
+            push_octets(self, line.trim(), &mut unit)?;
+        }
+        let name = String::from_str(self.alloc, name)?;
+        self.units.insert(name, unit)?;
+        Ok(())
+    }
+
+    fn take_policy(&mut self, name: &str, body: &str) -> Result<(), Fault> {
+        let policy = format!(in self.alloc; "{body}\n")?;
+        let name = String::from_str(self.alloc, name)?;
+        self.policies.insert(name, policy)?;
+        Ok(())
+    }
+
+    fn take_exchange(&mut self, name: &str, body: &str) -> Result<(), Fault> {
+        let exchange = String::from_str(self.alloc, body)?;
+        let name = String::from_str(self.alloc, name)?;
+        self.exchanges.insert(name, exchange)?;
         Ok(())
     }
 }

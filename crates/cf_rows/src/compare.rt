@@ -3,92 +3,114 @@
 use crate::book::Book;
 use crate::fault::Fault;
 use crate::left::{Left, is_service};
-use crate::octets::size;
 use crate::packets::wrong_packet;
+use crate::reader::Reader;
 use crate::row::Row;
 use crate::service::wrong_session;
 use cf_outside::Told;
 use cf_pcap::{RecordAnswer, read_header, read_record};
 use cf_view::{LinkSet, Side};
+use std::alloc::Global;
 
 /// More records than a row has.
 const RECORDS: u32 = 1_000_000;
 
 /// What differs first, if anything does.
 pub fn difference(
-    book: &Book,
+    reader: &mut Reader<'_>,
     row: &Row,
     words: &str,
     left: &Left,
 ) -> Result<Option<String>, Fault> {
-    let alloc = book.alloc;
-    let status = row.field("status:").unwrap_or("0");
-    if usize::from(left.status) != size(status)? {
+    let alloc = reader.alloc;
+    let status = reader.size(row.field("status:").unwrap_or("0"));
+    if usize::from(left.status) != status {
         return Ok(Some(format!(in alloc; "status {}", left.status)?));
     }
-    if !is_printed(book, row, left.out.bytes.as_slice())? {
-        let seen = String::from_utf8_lossy(alloc, left.out.bytes.as_slice())?;
-        return Ok(Some(format!(in alloc; "printed {seen:?}")?));
+    if !is_printed(reader, row, left.out.bytes.as_slice()) {
+        return printed(alloc, left.out.bytes.as_slice());
     }
-    let what = match wrong_output(book, row, words, left)? {
-        Some(what) => what,
-        None => match wrong_pair(book, row, words, left)? {
-            Some(what) => what,
-            None => return Ok(None),
-        },
+    let wrong = match wrong_output(reader, row, words, left) {
+        Some(what) => Some(what),
+        None => wrong_pair(reader, row, words, left),
     };
-    Ok(Some(format!(in alloc; "other than {what}")?))
+    match wrong {
+        Some(what) => Ok(Some(format!(in alloc; "other than {what}")?)),
+        None => Ok(None),
+    }
+}
+
+/// What was printed, where that is not as the row says.
+fn printed(alloc: Global, seen: &[u8]) -> Result<Option<String>, Fault> {
+    let seen = String::from_utf8_lossy(alloc, seen)?;
+    Ok(Some(format!(in alloc; "printed {seen:?}")?))
 }
 
 /// Whether this is what a row says that is printed: all of it, or what stands after the number of records.
-fn is_printed(book: &Book, row: &Row, printed: &[u8]) -> Result<bool, Fault> {
-    let Some(counted) = row.text(book.alloc, "counted:")? else {
-        let wanted = row.text(book.alloc, "printed:")?;
-        return Ok(printed == wanted.unwrap_or(Vec::new(book.alloc)).as_slice());
-    };
-    let records = printed.strip_prefix(b"records ").unwrap_or(b"");
-    let digits = records.iter().take_while(|octet| octet.is_ascii_digit());
-    let behind = records.get(digits.count()..).unwrap_or(b"");
-    Ok(behind.strip_prefix(b"\n") == Some(counted.as_slice()))
+fn is_printed(reader: &mut Reader<'_>, row: &Row, printed: &[u8]) -> bool {
+    if !row.has("counted:") {
+        return printed == row.text(reader, "printed:").as_slice();
+    }
+    let mut left = printed.strip_prefix(b"records ").unwrap_or(b"");
+    for _ in 0..left.len() {
+        match left {
+            [b'0'..=b'9', behind @ ..] => left = behind,
+            _ => break,
+        }
+    }
+    let counted = row.text(reader, "counted:");
+    left.strip_prefix(b"\n").unwrap_or(b"no line") == counted.as_slice()
+}
+
+/// Whether a file is not as these octets, where it is wanted, or there where it is not.
+fn is_wrong(left: &Left, name: &str, is_wanted: bool, wanted: &[u8]) -> bool {
+    match left.file(name) {
+        Some(found) => !is_wanted || found != wanted,
+        None => is_wanted,
+    }
 }
 
 /// The first of the outputs that is not as the row says, or what else was written.
 fn wrong_output<'a>(
-    book: &Book,
+    reader: &mut Reader<'_>,
     row: &'a Row,
     words: &str,
     left: &Left,
-) -> Result<Option<&'a str>, Fault> {
+) -> Option<&'a str> {
     if row.has("counted:") {
-        return Ok(wrong_world(book, left));
+        return wrong_world(reader.book, left);
     }
     let runs = words.starts_with("run ") && !row.has("outputs: none");
-    let log = log_of(book, row, runs)?;
-    let out = row.octets(book, "OUT:")?;
-    let replies = row.octets(book, "REPLIES:")?;
-    let named = usize::from(log.is_some())
-        + usize::from(out.is_some() || runs)
-        + usize::from(replies.is_some());
-    if left.files.files.len() != book.policies.len().saturating_add(2).saturating_add(named) {
-        return Ok(Some("the files that are there"));
+    let has_log = row.has("LOG:") || runs || row.has("log");
+    let has_out = row.has("OUT:") || runs;
+    let named = usize::from(has_log) + usize::from(has_out) + usize::from(row.has("REPLIES:"));
+    if left.files.files.len() != files_before(reader.book).saturating_add(named) {
+        return Some("the files that are there");
     }
-    if runs && out.is_none() {
-        let Some(out) = left.file("o") else {
-            return Ok(Some("the capture of what goes out"));
+    if runs && !row.has("OUT:") {
+        let wrong = match left.file("o") {
+            Some(out) => wrong_packet(reader, row, out),
+            None => Some("the capture of what goes out"),
         };
-        if let Some(line) = wrong_packet(book, row, out)? {
-            return Ok(Some(line));
+        if wrong.is_some() {
+            return wrong;
         }
-    } else if left.file("o") != out.as_ref().map(|bytes| bytes.as_slice()) {
-        return Ok(Some("OUT"));
+    } else if is_wrong(left, "o", has_out, &row.octets(reader, "OUT:")) {
+        return Some("OUT");
     }
-    if left.file("r") != replies.as_ref().map(|bytes| bytes.as_slice()) {
-        return Ok(Some("REPLIES"));
+    let has_replies = row.has("REPLIES:");
+    if is_wrong(left, "r", has_replies, &row.octets(reader, "REPLIES:")) {
+        return Some("REPLIES");
     }
-    if left.file("l") != log.as_ref().map(|bytes| bytes.as_slice()) {
-        return Ok(Some("the log"));
+    if is_wrong(left, "l", has_log, &log_of(reader, row)) {
+        return Some("the log");
     }
-    Ok(None)
+    None
+}
+
+/// How many files are there before a command: the policies, the stream and the capture.
+fn files_before(book: &Book) -> usize {
+    book.policies.len().saturating_add(2)
 }
 
 /// What a world `w x o l` left otherwise than its four files.
@@ -97,7 +119,7 @@ fn wrong_world<'a>(book: &Book, left: &Left) -> Option<&'a str> {
         return Some("the files that are there");
     }
     for name in ["x", "o"] {
-        if !left.file(name).is_some_and(is_capture) {
+        if !is_capture(left.file(name).unwrap_or(b"")) {
             return Some("a whole capture");
         }
     }
@@ -119,58 +141,63 @@ pub fn is_capture(octets: &[u8]) -> bool {
     left.is_empty()
 }
 
-/// The text of the log, if it is there.
-fn log_of(book: &Book, row: &Row, runs: bool) -> Result<Option<Vec<u8>>, Fault> {
-    let text = row.text(book.alloc, "LOG:")?;
-    if text.is_none() && !runs && !row.has("log") {
-        return Ok(None);
-    }
-    let mut log = text.unwrap_or(Vec::new(book.alloc));
+/// The text of the log, where there is one.
+fn log_of(reader: &mut Reader<'_>, row: &Row) -> Vec<u8> {
+    let mut log = row.text(reader, "LOG:");
     for line in row.all("log").iter() {
-        log.extend_from_slice(line.as_bytes())?;
-        log.push(b'\n')?;
+        reader.puts(line.as_bytes(), &mut log);
+        reader.puts(b"\n", &mut log);
     }
-    Ok(Some(log))
+    log
 }
 
 /// What of the pair, or of a service's links, is not as the row says: nothing is asked of the pair but by a relay.
 fn wrong_pair<'a>(
-    book: &Book,
+    reader: &mut Reader<'_>,
     row: &'a Row,
     words: &str,
     left: &Left,
-) -> Result<Option<&'a str>, Fault> {
+) -> Option<&'a str> {
     if row.has("arrives:") {
-        return wrong_session(book, row, left);
+        return wrong_session(reader, row, left);
     }
-    let answers = size(row.field("answers:").unwrap_or("0"))?;
-    if is_service(words) {
-        return Ok((left.links.told.len() != answers).then_some("the number of answers"));
+    let answers = reader.size(row.field("answers:").unwrap_or("0"));
+    let is_relay = words.starts_with("relay ");
+    if is_service(words) && left.links.told.len() != answers
+        || is_relay && left.pair.told.len() != answers
+    {
+        return Some("the number of answers");
     }
-    if !words.starts_with("relay ") {
-        return Ok((left.pair.calls != 0).then_some("no call of the pair"));
-    }
-    if left.pair.told.len() != answers {
-        return Ok(Some("the number of answers"));
-    }
-    for (side, key) in [(Side::Controller, "CONTROLLER:"), (Side::Client, "CLIENT:")] {
-        let wanted = row.octets(book, key)?.unwrap_or(Vec::new(book.alloc));
-        if given(book, left, side)?.as_slice() != wanted.as_slice() {
-            return Ok(Some(key));
+    if !is_relay {
+        if is_service(words) || left.pair.calls == 0 {
+            return None;
         }
+        return Some("no call of the pair");
     }
-    Ok(None)
+    if !is_all_given(reader, row, "CONTROLLER:", left, Side::Controller) {
+        return Some("CONTROLLER:");
+    }
+    if !is_all_given(reader, row, "CLIENT:", left, Side::Client) {
+        return Some("CLIENT:");
+    }
+    None
+}
+
+/// Whether a side was given what the lines of a key spell.
+fn is_all_given(reader: &mut Reader<'_>, row: &Row, key: &str, left: &Left, side: Side) -> bool {
+    let wanted = row.octets(reader, key);
+    given(reader, left, side).as_slice() == wanted.as_slice()
 }
 
 /// What a side was given.
-pub fn given(book: &Book, left: &Left, side: Side) -> Result<Vec<u8>, Fault> {
-    let mut bytes = Vec::new(book.alloc);
+pub fn given(reader: &mut Reader<'_>, left: &Left, side: Side) -> Vec<u8> {
+    let mut bytes = Vec::new(reader.alloc);
     for told in left.pair.told.iter() {
         if let Told::Took(to, piece) = told {
             if *to == side {
-                bytes.extend_from_slice(piece.as_slice())?;
+                reader.puts(piece, &mut bytes);
             }
         }
     }
-    Ok(bytes)
+    bytes
 }

@@ -4,14 +4,15 @@ ghost use Rattle.cf_links.specs.MemoryLinks.{serves_in};
 
 use crate::book::Book;
 use crate::fault::{Fault, Wanted};
-use crate::octets::{octets, size};
 use crate::packets::capture;
-use crate::row::Row;
+use crate::reader::Reader;
+use crate::row::{Row, with_line_feeds};
 use crate::service::links_of;
 use cf_box::{box_main, serve_main};
 use cf_links::MemoryLinks;
 use cf_outside::{Fail, MemoryFiles, MemoryPair, MemorySink};
 use cf_view::Endpoint;
+use std::alloc::Global;
 
 /// The moment that the pair tells, in microseconds.
 const MOMENT: u64 = 1_000_000;
@@ -35,20 +36,34 @@ pub struct Left {
 }
 
 impl Left {
+    /// What is there before a command.
+    pub fn new(alloc: Global) -> Self {
+        Left {
+            status: 0,
+            out: MemorySink::new(alloc),
+            files: MemoryFiles::new(alloc),
+            pair: MemoryPair::new(alloc),
+            links: MemoryLinks::new(alloc),
+        }
+    }
+
     /// The bytes of a file, if it is there.
     pub fn file(&self, name: &str) -> Option<&[u8]> {
-        self.files.files.get(name).map(|bytes| bytes.as_slice())
+        match self.files.files.get(name) {
+            Some(bytes) => Some(bytes.as_slice()),
+            None => None,
+        }
     }
 }
 
 impl Row {
     /// The calls that the row has fail.
-    pub fn script(&self) -> Result<Script, Fault> {
-        Ok(Script {
-            file: self.fail("file fails:")?,
-            put: self.fail("put fails:")?,
-            pair: self.fail("pair fails:")?,
-        })
+    pub fn script(&self, reader: &mut Reader<'_>) -> Script {
+        Script {
+            file: self.fail(reader, "file fails:"),
+            put: self.fail(reader, "put fails:"),
+            pair: self.fail(reader, "pair fails:"),
+        }
     }
 }
 
@@ -57,36 +72,59 @@ pub fn is_service(words: &str) -> bool {
     words.starts_with("serve ")
 }
 
+/// Has a call fail, if one does.
+fn fail_at(reader: &mut Reader<'_>, fail: Option<Fail>, fails: &mut Vec<Fail>) {
+    if let Some(fail) = fail {
+        if fails.push(fail).is_err() {
+            reader.notes(Fault::NoMemory);
+        }
+    }
+}
+
 /// Plays words, separated by spaces, over the policies, the stream `s` and the capture `c`, and over what the words before them left.
 /// The clients of the row come to the places of a service, and behind its rounds a wait fails.
-pub fn play(book: &Book, row: &Row, words: &str, script: &Script) -> Result<Left, Fault> {
-    let mut files = files_of(book, row)?;
+pub fn play(reader: &mut Reader<'_>, row: &Row, words: &str, script: &Script) -> Left {
+    let mut left = Left::new(reader.alloc);
+    put_files(reader, row, &mut left.files);
     for words in row.all("before:").iter() {
-        let mut out = MemorySink::new(book.alloc);
-        let mut pair = MemoryPair::new(book.alloc);
-        let mut links = MemoryLinks::new(book.alloc);
-        let spelled = spelled(book, row, words)?;
-        ends(
-            book, words, &spelled, &mut files, &mut out, &mut pair, &mut links,
-        );
+        plays_before(reader, row, words, &mut left.files);
     }
-    files.fails.extend(script.file)?;
-    let mut out = MemorySink::new(book.alloc);
-    out.fails.extend(script.put)?;
-    let mut pair = pair_of(book, row)?;
-    pair.fails.extend(script.pair)?;
-    let mut links = links_of(book, row, words)?;
-    let spelled = spelled(book, row, words)?;
-    let status = ends(
-        book, words, &spelled, &mut files, &mut out, &mut pair, &mut links,
+    fail_at(reader, script.file, &mut left.files.fails);
+    fail_at(reader, script.put, &mut left.out.fails);
+    fail_at(reader, script.pair, &mut left.pair.fails);
+    set_pair(reader, row, &mut left.pair);
+    left.links = links_of(reader, row, words);
+    let spelled = spelled(reader, row, words);
+    if reader.fault.is_some() {
+        return left;
+    }
+    left.status = ends(
+        reader.book,
+        words,
+        &spelled,
+        &mut left.files,
+        &mut left.out,
+        &mut left.pair,
+        &mut left.links,
     );
-    Ok(Left {
-        status,
-        out,
+    left
+}
+
+/// Plays the words before those of the row.
+fn plays_before(reader: &mut Reader<'_>, row: &Row, words: &str, files: &mut MemoryFiles) {
+    let mut out = MemorySink::new(reader.alloc);
+    let mut pair = MemoryPair::new(reader.alloc);
+    let mut links = MemoryLinks::new(reader.alloc);
+    let spelled = spelled(reader, row, words);
+    ends(
+        reader.book,
+        words,
+        &spelled,
         files,
-        pair,
-        links,
-    })
+        &mut out,
+        &mut pair,
+        &mut links,
+    );
 }
 
 /// The status with which the program ends.
@@ -109,95 +147,118 @@ fn ends(
 }
 
 /// The words, of which `''` is an empty one; the places of the row are the last words of a service.
-fn spelled(book: &Book, row: &Row, words: &str) -> Result<Vec<String>, Fault> {
-    let mut spelled = Vec::new(book.alloc);
+fn spelled(reader: &mut Reader<'_>, row: &Row, words: &str) -> Vec<String> {
+    let mut spelled = Vec::new(reader.alloc);
     for word in words.split(' ') {
-        let word = if word == "''" { "" } else { word };
-        spelled.push(String::from_str(book.alloc, word)?)?;
+        push_word(reader, if word == "''" { "" } else { word }, &mut spelled);
     }
     for place in row.all("place:").iter() {
-        spelled.push(String::from_str(book.alloc, place)?)?;
+        push_word(reader, place, &mut spelled);
     }
-    Ok(spelled)
+    spelled
 }
 
-/// The files that are there before.
-fn files_of(book: &Book, row: &Row) -> Result<MemoryFiles, Fault> {
-    let mut files = MemoryFiles::new(book.alloc);
-    for (name, policy) in book.policies.iter() {
-        let name = String::from_str(book.alloc, name.as_str())?;
-        files
-            .files
-            .insert(name, policy.as_bytes().to_vec(book.alloc)?)?;
+fn push_word(reader: &mut Reader<'_>, word: &str, words: &mut Vec<String>) {
+    let word = reader.text(word);
+    if words.push(word).is_err() {
+        reader.notes(Fault::NoMemory);
+    }
+}
+
+/// Puts a file to those that are there before.
+fn put_file(reader: &mut Reader<'_>, name: &str, bytes: Vec<u8>, files: &mut MemoryFiles) {
+    let name = reader.text(name);
+    if files.files.insert(name, bytes).is_err() {
+        reader.notes(Fault::NoMemory);
+    }
+}
+
+/// Puts the files that are there before.
+fn put_files(reader: &mut Reader<'_>, row: &Row, files: &mut MemoryFiles) {
+    for (name, policy) in reader.book.policies.iter() {
+        let mut bytes = Vec::new(reader.alloc);
+        reader.puts(policy.as_bytes(), &mut bytes);
+        put_file(reader, name, bytes, files);
     }
     if let Some(edit) = row.field("edit:") {
-        let name = String::from_str(book.alloc, "p")?;
-        files.files.insert(name, edited(book, edit)?)?;
+        let policy = edited(reader, edit);
+        put_file(reader, "p", policy, files);
     }
-    let stream = row.octets(book, "stream:")?;
-    let name = String::from_str(book.alloc, "s")?;
-    files
-        .files
-        .insert(name, stream.unwrap_or(Vec::new(book.alloc)))?;
-    let name = String::from_str(book.alloc, "c")?;
-    files.files.insert(name, capture_of(book, row)?)?;
-    Ok(files)
+    let stream = row.octets(reader, "stream:");
+    put_file(reader, "s", stream, files);
+    let capture = capture_of(reader, row);
+    put_file(reader, "c", capture, files);
 }
 
 /// The policy `p`, with the text before `=>` replaced by that after it, in which `/` stands for a line feed.
-fn edited(book: &Book, edit: &str) -> Result<Vec<u8>, Fault> {
-    let (old, new) = edit.split_once("=>").ok_or(Fault::Wanted(Wanted::Edit))?;
-    let policy = book.policies.get("p").ok_or(Fault::Wanted(Wanted::Edit))?;
-    let (front, back) = policy.split_once(old).ok_or(Fault::Wanted(Wanted::Edit))?;
-    let new = new.replace(book.alloc, '/', "\n")?;
-    let policy = format!(in book.alloc; "{front}{new}{back}")?;
-    Ok(policy.as_bytes().to_vec(book.alloc)?)
+fn edited(reader: &mut Reader<'_>, edit: &str) -> Vec<u8> {
+    let mut edited = Vec::new(reader.alloc);
+    let Some((front, new, back)) = edit_of(reader.book, edit) else {
+        reader.wants(Wanted::Edit);
+        return edited;
+    };
+    reader.puts(new.as_bytes(), &mut edited);
+    with_line_feeds(&mut edited);
+    let mut policy = Vec::new(reader.alloc);
+    reader.puts(front.as_bytes(), &mut policy);
+    reader.puts(&edited, &mut policy);
+    reader.puts(back.as_bytes(), &mut policy);
+    policy
+}
+
+/// What stands in the policy `p` before the text that is replaced, what replaces it, and what stands behind it.
+fn edit_of<'a>(book: &'a Book, edit: &'a str) -> Option<(&'a str, &'a str, &'a str)> {
+    let (old, new) = edit.split_once("=>")?;
+    let (front, back) = book.policies.get("p")?.split_once(old)?;
+    Some((front, new, back))
 }
 
 /// The capture of the packets, or the octets that stand for it, as the row changes it.
-fn capture_of(book: &Book, row: &Row) -> Result<Vec<u8>, Fault> {
-    let mut capture = match row.octets(book, "capture:")? {
-        Some(capture) => capture,
-        None => capture(book, row)?,
+fn capture_of(reader: &mut Reader<'_>, row: &Row) -> Vec<u8> {
+    let mut capture = if row.has("capture:") {
+        row.octets(reader, "capture:")
+    } else {
+        capture(reader, row)
     };
-    if let Some(tail) = row.octets(book, "tail:")? {
-        capture.extend_from_slice(&tail)?;
-    }
+    row.spells(reader, "tail:", &mut capture);
     if let Some(change) = row.field("octet:") {
-        let (place, octet) = change.split_once(' ').ok_or(Fault::Wanted(Wanted::Change))?;
-        let octet = octets(book, octet)?;
-        let octet = octet.first().ok_or(Fault::Wanted(Wanted::Change))?;
-        *capture
-            .get_mut(size(place)?)
-            .ok_or(Fault::Wanted(Wanted::Change))? = *octet;
+        set_octet(reader, change, &mut capture);
     }
     if let Some(len) = row.field("first:") {
-        capture.truncate(size(len)?);
+        capture.truncate(reader.size(len));
     }
-    Ok(capture)
+    capture
+}
+
+/// Sets the octet of a line `PLACE OCTET`.
+fn set_octet(reader: &mut Reader<'_>, change: &str, capture: &mut [u8]) {
+    let (place, octet) = reader.parts(change, ' ', Wanted::Change);
+    let octet = reader.octets(octet);
+    match (capture.get_mut(reader.size(place)), octet.first()) {
+        (Some(at), Some(octet)) => *at = *octet,
+        _ => reader.wants(Wanted::Change),
+    }
 }
 
 /// The pair of a client at 10.0.0.5:49152; what the clients of a service send is not its.
-fn pair_of(book: &Book, row: &Row) -> Result<MemoryPair, Fault> {
-    let mut pair = MemoryPair::new(book.alloc);
+fn set_pair(reader: &mut Reader<'_>, row: &Row, pair: &mut MemoryPair) {
     pair.client = Endpoint {
         address: 0x0A00_0005,
         port: 49152,
     };
-    pair.moments.push(MOMENT)?;
+    if pair.moments.push(MOMENT).is_err() {
+        reader.notes(Fault::NoMemory);
+    }
     if row.has("arrives:") {
-        return Ok(pair);
+        return;
     }
-    if let Some(bytes) = row.octets(book, "client sends:")? {
-        pair.from_client = bytes;
-    }
-    if let Some(bytes) = row.octets(book, "controller sends:")? {
-        pair.from_controller = bytes;
-    }
+    row.spells(reader, "client sends:", &mut pair.from_client);
+    row.spells(reader, "controller sends:", &mut pair.from_controller);
     if let Some(last) = row.field("idle to:") {
-        for call in 0..size(last)? {
-            pair.idle.push(call as u64)?;
+        for call in 0..reader.word64(last) {
+            if pair.idle.push(call).is_err() {
+                reader.notes(Fault::NoMemory);
+            }
         }
     }
-    Ok(pair)
 }

@@ -3,15 +3,8 @@
 use crate::book::Book;
 use crate::fault::{Fault, Wanted};
 
-/// The octets that hexadecimal digits or the names of units spell, with spaces between them; `0001*3` is three times
+/// Puts the octets that hexadecimal digits or the names of units spell after others, with spaces between them; `0001*3` is three times
 /// `0001`, and `W*3@12..36` the octets 12 to 35 of three times the unit `W`.
-pub fn octets(book: &Book, spelled: &str) -> Result<Vec<u8>, Fault> {
-    let mut all = Vec::new(book.alloc);
-    push_octets(book, spelled, &mut all)?;
-    Ok(all)
-}
-
-/// Puts the octets of a text after others.
 pub fn push_octets(book: &Book, spelled: &str, all: &mut Vec<u8>) -> Result<(), Fault> {
     for token in spelled.split(' ') {
         match token.split_once('@') {
@@ -22,8 +15,7 @@ pub fn push_octets(book: &Book, spelled: &str, all: &mut Vec<u8>) -> Result<(), 
     Ok(())
 }
 
-/// A number of octets, copies or calls.
-pub fn size(spelled: &str) -> Result<usize, Fault> {
+fn size(spelled: &str) -> Result<usize, Fault> {
     match spelled.parse::<usize>() {
         Ok(number) => Ok(number),
         Err(_) => Err(Fault::Wanted(Wanted::Number)),
@@ -31,10 +23,15 @@ pub fn size(spelled: &str) -> Result<usize, Fault> {
 }
 
 fn push_part(book: &Book, whole: &str, part: &str, all: &mut Vec<u8>) -> Result<(), Fault> {
-    let (from, to) = part.split_once("..").ok_or(Fault::Wanted(Wanted::Part))?;
-    let (from, to) = (size(from)?, size(to)?);
     let mut octets = Vec::new(book.alloc);
     push_token(book, whole, &mut octets)?;
+    push_between(&octets, part, all)
+}
+
+/// Puts the octets from a place to another.
+fn push_between(octets: &[u8], part: &str, all: &mut Vec<u8>) -> Result<(), Fault> {
+    let (from, to) = part.split_once("..").ok_or(Fault::Wanted(Wanted::Part))?;
+    let (from, to) = (size(from)?, size(to)?);
     all.extend_from_slice(octets.get(from..to).ok_or(Fault::Wanted(Wanted::Part))?)?;
     Ok(())
 }

@@ -1,11 +1,9 @@
 //! A row: the lines of its block after those of the exchange that it comes after.
 
-use crate::book::Book;
 use crate::fault::{Fault, Wanted};
-use crate::octets::{push_octets, size};
+use crate::reader::Reader;
 use cf_outside::Fail;
 use cf_view::Endpoint;
-use std::alloc::Global;
 use std::collections::BTreeMap;
 
 /// How the lines of a row begin.
@@ -74,56 +72,26 @@ pub fn field<'a>(lines: &'a str, key: &str) -> Option<&'a str> {
 }
 
 /// The row of a block.
-pub fn row_of(book: &Book, block: &str) -> Result<Row, Fault> {
-    let mut lines = BTreeMap::new(book.alloc);
-    if let Some(name) = field(block, "after:") {
-        let exchange = book.exchanges.get(name);
-        let exchange = exchange.ok_or(Fault::Wanted(Wanted::Exchange))?;
-        push_lines(book.alloc, exchange, &mut lines)?;
-    }
-    push_lines(book.alloc, block, &mut lines)?;
+pub fn row_of(reader: &mut Reader<'_>, block: &str) -> Row {
     let origins = field(block, "origins:").unwrap_or("1000 5000");
-    let (client, controller) = origins
-        .split_once(' ')
-        .ok_or(Fault::Wanted(Wanted::Number))?;
-    Ok(Row {
-        lines,
-        controller: endpoint(field(block, "controller:").unwrap_or("10.0.0.9:502"))?,
-        client_origin: word32(client)?,
-        controller_origin: word32(controller)?,
-    })
-}
-
-/// Puts each line to those of its key.
-fn push_lines(
-    alloc: Global,
-    block: &str,
-    lines: &mut BTreeMap<String, Vec<String>>,
-) -> Result<(), Fault> {
-    for line in block.lines() {
-        if !line.is_empty() {
-            push_line(alloc, line, lines)?;
+    let (client, controller) = reader.parts(origins, ' ', Wanted::Number);
+    let mut row = Row {
+        lines: BTreeMap::new(reader.alloc),
+        controller: endpoint(
+            reader,
+            field(block, "controller:").unwrap_or("10.0.0.9:502"),
+        ),
+        client_origin: reader.word32(client),
+        controller_origin: reader.word32(controller),
+    };
+    if let Some(name) = field(block, "after:") {
+        match reader.book.exchanges.get(name) {
+            Some(exchange) => row.takes(reader, exchange),
+            None => reader.wants(Wanted::Exchange),
         }
     }
-    Ok(())
-}
-
-fn push_line(
-    alloc: Global,
-    line: &str,
-    lines: &mut BTreeMap<String, Vec<String>>,
-) -> Result<(), Fault> {
-    let Some((key, behind)) = parted(line) else {
-        return Err(Fault::Wanted(Wanted::Key).at(line));
-    };
-    let behind = String::from_str(alloc, behind)?;
-    if let Some(others) = lines.get_mut(key) {
-        others.push(behind)?;
-        return Ok(());
-    }
-    let first = vec![in alloc; behind]?;
-    lines.insert(String::from_str(alloc, key)?, first)?;
-    Ok(())
+    row.takes(reader, block);
+    row
 }
 
 /// The first key with which a line begins, and what stands behind it.
@@ -136,49 +104,51 @@ fn parted(line: &str) -> Option<(&'static str, &str)> {
     None
 }
 
-/// A number below 2^32.
-pub fn word32(spelled: &str) -> Result<u32, Fault> {
-    match spelled.parse::<u32>() {
-        Ok(number) => Ok(number),
-        Err(_) => Err(Fault::Wanted(Wanted::Number)),
-    }
-}
-
-/// A number of calls.
-pub fn word64(spelled: &str) -> Result<u64, Fault> {
-    match spelled.parse::<u64>() {
-        Ok(number) => Ok(number),
-        Err(_) => Err(Fault::Wanted(Wanted::Number)),
-    }
-}
-
-/// A number below 65,536.
-pub fn word16(spelled: &str) -> Result<u16, Fault> {
-    match spelled.parse::<u16>() {
-        Ok(number) => Ok(number),
-        Err(_) => Err(Fault::Wanted(Wanted::Number)),
-    }
-}
-
 /// An address and a port.
-fn endpoint(spelled: &str) -> Result<Endpoint, Fault> {
-    let (address, port) = spelled
-        .split_once(':')
-        .ok_or(Fault::Wanted(Wanted::Endpoint))?;
+fn endpoint(reader: &mut Reader<'_>, spelled: &str) -> Endpoint {
+    let (address, port) = reader.parts(spelled, ':', Wanted::Endpoint);
     let mut value = 0_u32;
     for part in address.split('.') {
-        let Ok(part) = part.parse::<u8>() else {
-            return Err(Fault::Wanted(Wanted::Endpoint));
-        };
-        value = (value << 8) | u32::from(part);
+        match part.parse::<u8>() {
+            Ok(part) => value = (value << 8) | u32::from(part),
+            Err(_) => reader.wants(Wanted::Endpoint),
+        }
     }
-    Ok(Endpoint {
+    Endpoint {
         address: value,
-        port: word16(port)?,
-    })
+        port: reader.word16(port),
+    }
 }
 
 impl Row {
+    /// Puts each line of a block to those of its key.
+    fn takes(&mut self, reader: &mut Reader<'_>, block: &str) {
+        for line in block.lines() {
+            if let Some((key, behind)) = parted(line) {
+                self.puts(reader, key, behind);
+            } else if !line.is_empty() {
+                reader.wants(Wanted::Key);
+                reader.is_at(line);
+            }
+        }
+    }
+
+    /// Puts what stands behind a key to the lines of that.
+    fn puts(&mut self, reader: &mut Reader<'_>, key: &str, behind: &str) {
+        let behind = reader.text(behind);
+        if let Some(others) = self.lines.get_mut(key) {
+            if others.push(behind).is_err() {
+                reader.notes(Fault::NoMemory);
+            }
+            return;
+        }
+        let key = reader.text(key);
+        let mut first = Vec::new(reader.alloc);
+        if first.push(behind).is_err() || self.lines.insert(key, first).is_err() {
+            reader.notes(Fault::NoMemory);
+        }
+    }
+
     /// What stands after a key, line by line.
     pub fn all(&self, key: &str) -> &[String] {
         match self.lines.get(key) {
@@ -197,44 +167,47 @@ impl Row {
         !self.all(key).is_empty()
     }
 
-    /// The octets that all lines of a key spell together, where there is one.
-    pub fn octets(&self, book: &Book, key: &str) -> Result<Option<Vec<u8>>, Fault> {
-        if !self.has(key) {
-            return Ok(None);
-        }
-        let mut all = Vec::new(book.alloc);
+    /// Puts the octets that all lines of a key spell together after others.
+    pub fn spells(&self, reader: &mut Reader<'_>, key: &str, all: &mut Vec<u8>) {
         for spelled in self.all(key).iter() {
-            push_octets(book, spelled, &mut all).map_err(|fault| fault.at(spelled))?;
+            reader.spells(spelled, all);
+            reader.is_at(spelled);
         }
-        Ok(Some(all))
     }
 
-    /// The text that all lines of a key spell together, where there is one; `/` stands for a line feed.
-    pub fn text(&self, alloc: Global, key: &str) -> Result<Option<Vec<u8>>, Fault> {
-        if !self.has(key) {
-            return Ok(None);
-        }
-        let mut all = Vec::new(alloc);
+    /// The octets that all lines of a key spell together; none where there is no line.
+    pub fn octets(&self, reader: &mut Reader<'_>, key: &str) -> Vec<u8> {
+        let mut all = Vec::new(reader.alloc);
+        self.spells(reader, key, &mut all);
+        all
+    }
+
+    /// The text that all lines of a key spell together; `/` stands for a line feed.
+    pub fn text(&self, reader: &mut Reader<'_>, key: &str) -> Vec<u8> {
+        let mut all = Vec::new(reader.alloc);
         for spelled in self.all(key).iter() {
-            all.extend_from_slice(spelled.as_bytes())?;
+            reader.puts(spelled.as_bytes(), &mut all);
         }
-        for octet in all.iter_mut() {
-            if *octet == b'/' {
-                *octet = b'\n';
-            }
-        }
-        Ok(Some(all))
+        with_line_feeds(&mut all);
+        all
     }
 
     /// A call that fails, and how many bytes it leaves.
-    pub fn fail(&self, key: &str) -> Result<Option<Fail>, Fault> {
-        let Some(spelled) = self.field(key) else {
-            return Ok(None);
-        };
+    pub fn fail(&self, reader: &mut Reader<'_>, key: &str) -> Option<Fail> {
+        let spelled = self.field(key)?;
         let (call, left) = spelled.split_once(' ').unwrap_or((spelled, "0"));
-        Ok(Some(Fail {
-            call: word64(call)?,
-            left: size(left)?,
-        }))
+        Some(Fail {
+            call: reader.word64(call),
+            left: reader.size(left),
+        })
+    }
+}
+
+/// Puts a line feed where `/` stands for one.
+pub fn with_line_feeds(text: &mut [u8]) {
+    for octet in text.iter_mut() {
+        if *octet == b'/' {
+            *octet = b'\n';
+        }
     }
 }

@@ -4,7 +4,7 @@ use Rattle.cf_lane.specs.Ring.{RingValue}
 use Rattle.std.proofs.Common.{Bool, Err, List, None, Ok, Option, Result, Some, ap, refl, subst, sym, true, false, ℕ, []}
 use Rattle.std.proofs.Common.{◌++◌, ◌<◌, ◌∙◌, ◌∷◌, ◌≡◌}
 use Rattle.std.specs.Prelude.{IfErr, IsTrue, OnOk, ◌↔◌}
-use Rattle.std.proofs.lemmas.Option.{same_Some}
+use Rattle.std.proofs.lemmas.Option.{none-some, same_Some}
 use Rattle.cf_audit.specs.Line.{Lost, Silent, WhatValue}
 use Rattle.cf_lane.specs.Log.{line_about, with_lines}
 use Rattle.cf_links.specs.LinkValue.{LinkValue}
@@ -20,7 +20,7 @@ use Rattle.cf_lane.specs.Follows.{AreJudged}
 use Rattle.cf_relay.specs.Answers.{history_of}
 use Rattle.cf_relay.specs.Stands.{StandsFor}
 use Rattle.cf_relay.specs.Turn.{turn}
-use Rattle.cf_relay.specs.Turned.{HasStopped, HasTurned, begun_list}
+use Rattle.cf_relay.specs.Turned.{HasStopped, HasTurned, begun_lines, begun_list}
 use Rattle.cf_relay.specs.declared.directions.Directions.TheVariants as both
 use Rattle.cf_relay.specs.declared.done.RelayEnd.TheVariants as ends
 use Rattle.cf_relay.specs.declared.stop.Stop.{Stop}
@@ -30,7 +30,7 @@ use Rattle.cf_serve.proofs.Missing.{write_fails}
 use Rattle.cf_serve.specs.Broken.{FailsSo}
 use Rattle.cf_serve.specs.Failing.{EndsTurn, MissesTurn, TakesNone}
 use Rattle.cf_serve.specs.Phase.{HasLane, KnowsOf, LinkedValue, StandsLinked, TurnDoes, end_of, last_value}
-use Rattle.cf_serve.specs.Session.{EndsSo, Listening, lost_line, with_last}
+use Rattle.cf_serve.specs.Session.{EndsSo, Listening, lost_line, own_log, silent_line, with_last}
 use Rattle.cf_serve.specs.declared.debt.Debt.{Debt}
 use Rattle.cf_serve.specs.declared.end.SessionEnd.{SessionEnd}
 use Rattle.cf_serve.specs.declared.end.SessionEnd.TheVariants as end
@@ -97,8 +97,8 @@ module _ (at : Listening) (most : ℕ) (client met : Endpoint) (old new : Relayi
     answers = does.answers;
     tells = does.adds.tells;
     ends = λ before. turned_so before does fewer (λ es own. EndsSo at before most client es (own ++ last_line end.Closed ∷ []) end.Closed × Counted before es) (λ m answers own t.
-        let x = turned_done both.Separate at.site before at.port most met m (Some []) answers new (Some own) t _ closed (λ ls e. same_Some _ _ e) in
-        ((done_by new ends.Done, x), known before m answers _ _ t.stands));
+        let x = turned_done both.Separate at.site before at.port most met m (Some []) answers new (Some own) t (own_log (own ++ last_line end.Closed ∷ [])) closed (λ ls e. same_Some (own ++ last_line end.Closed ∷ []) ls e) in
+        ((done_by new ends.Done, x), known before m answers (begun_lines at.site met m (Some [])) (Some own) t.stands));
   }
 
   -- one that stopped
@@ -117,18 +117,19 @@ module _ (at : Listening) (most : ℕ) (client met : Endpoint) (old new : Relayi
   behind w own ls k same is = ap (λ xs. xs ++ line_about at.site.first met new.moment w ∷ []) (same_Some own ls same) ∙ ap (λ n. ls ++ line_about at.site.first met n w ∷ []) is
 
   stops_so : (why : Stop) (closed : Bool) (e : SessionEnd) → StopsBetween at.site most (turn both.Separate) why (scene old link d) (scene new link' d') → end_of (Err why) closed ≡ Some e → Ends e
-  stops_so stop.Write closed e stops is = cc
+  stops_so stop.Write closed e stops is = absurd (none-some e is)
   stops_so stop.Idle closed e stops is = subst Ends (same_Some _ _ is) (stopping stop.Idle stops end.Silent (λ before m answers own h.
-      let x = stopped_idle both.Separate at.site before at.port most met m (Some []) answers new (Some own) d'.line_part _ h
+      let x = stopped_idle both.Separate at.site before at.port most met m (Some []) answers new (Some own) d'.line_part
+      (with_last (own ++ last_line end.Silent ∷ []) (silent_line at.site (begun_list at.site at.port met m answers) new.lane.admitted new.lane.refused)) h
       (λ ls same. behind (Silent new.lane.admitted new.lane.refused) own ls _ same h.stands.0.moment) in
-      ((done_by new ends.IdleEnd, x), known before m answers _ _ h.stands.0)))
+      ((done_by new ends.IdleEnd, x), known before m answers (begun_lines at.site met m (Some [])) (Some own) h.stands.0)))
   stops_so stop.Link closed e stops is = subst Ends (same_Some _ _ is) (stopping stop.Link stops end.Lost (λ before m answers own h.
       let t = stopped_link both.Separate at.site before at.port most met m (Some []) answers new (Some own) d'.line_part
       (with_last (own ++ last_line end.Lost ∷ []) (lost_line at.site (begun_list at.site at.port met m answers) new.lane.admitted new.lane.refused)) h
       (λ ls same. behind (Lost new.lane.admitted new.lane.refused) own ls _ same h.stands.0.moment) in
-      (record { admitted = new.lane.admitted; refused = new.lane.refused; ended = t.0; counts = t.1 }, known before m answers _ _ h.stands.0)))
+      (record { admitted = new.lane.admitted; refused = new.lane.refused; ended = t.0; counts = t.1 }, known before m answers (begun_lines at.site met m (Some [])) (Some own) h.stands.0)))
   stops_so (stop.Cut reason) closed e stops is = subst Ends (same_Some _ _ is) (stopping (stop.Cut reason) stops (end.Cut reason) (λ before m answers own h.
-      let x = stopped_cut both.Separate at.site before at.port most met m (Some []) answers new (Some own) d'.line_part _ reason h (λ ls same. same_Some _ _ same) in
+      let x = stopped_cut both.Separate at.site before at.port most met m (Some []) answers new (Some own) d'.line_part (own_log (own ++ last_line (end.Cut reason) ∷ [])) reason h (λ ls same. same_Some (own ++ last_line (end.Cut reason) ∷ []) ls same) in
       ((done_by new (ends.Cut reason), x), (h.stands.judged, (h.stands.are_items, (h.stands.counts, h.stands.rules))))))
 
   -- the turn that is the last, by what the relay answered
@@ -137,7 +138,7 @@ module _ (at : Listening) (most : ℕ) (client met : Endpoint) (old new : Relayi
       IfErr r (λ why. StopsBetween at.site most (turn both.Separate) why (scene old link d) (scene new link' d')) →
       (IsTrue closed ↔ AreClosed new) → end_of r closed ≡ Some e → Ends e
   ending (Ok u) true e does sound stops both is = subst Ends (same_Some _ _ is) (closing does sound.few (both.0 refl))
-  ending (Ok u) false e does sound stops both is = cc
+  ending (Ok u) false e does sound stops both is = absurd (none-some e is)
   ending (Err why) closed e does sound stops both is = stops_so why closed e stops is
 
   -- a line amid a turn failed

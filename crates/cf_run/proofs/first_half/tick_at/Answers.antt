@@ -1,7 +1,10 @@
-use Rattle.std.proofs.Common.{◌≡◌, ◌∷◌, sym, ap, ◌∙◌, subst, Some}
+use Rattle.std.proofs.Common.{◌+◌, ◌≡◌, ◌∷◌, arith, sym, ap, ◌∙◌, subst, Some}
 use Rattle.std.specs.Prelude.{slice_set}
 use Rattle.std.proofs.lemmas.Option.{get_or_from_slice_get}
-use Rattle.std.proofs.lemmas.List.{get_or-set_same}
+use Rattle.std.proofs.lemmas.List.{drop-set-lt, get_or-set_same, length-set, take-set}
+use Rattle.std.specs.Prelude.{IfOk, Result, Err, Ok}
+use Rattle.std.specs.Result.{IsErrAnd}
+use Rattle.cf_outside.proofs.Desks.{puts_failed}
 use Rattle.cf_policy.specs.Site.{SiteValue, site_from}
 use Rattle.cf_session.specs.Stands.{IsSessionOf, IsSound}
 use Rattle.cf_session.specs.Told.{told}
@@ -13,6 +16,11 @@ use Rattle.cf_run.proofs.Sites.{same_site, site_inside}
 use Rattle.cf_run.proofs.Timers.{by_life}
 use Rattle.cf_session.proofs.Amid.{on_err}
 use Rattle.cf_run.proofs.first_half.tick_at.Goals as goal
+
+-- what it hands on is no success
+not_ok : {T E : Type 0} (Q : E → Type 0) (r : Result T E) (P : T → Type 0) → IsErrAnd r Q → IfOk r P
+not_ok Q (Ok x) P is = absurd is
+not_ok Q (Err e) P is = tt
 
 pub site_at_place-site-requires : goal.site_at_place-site-requires
 site_at_place-site-requires g c =
@@ -63,3 +71,51 @@ returns-in_err-life-clause-broken g c =
     let here : site_from c.args.assets.now x.asset ≡ Some flow.site = ap (λ (e : Entry). site_from c.args.assets.now e.asset) was ∙ site in
     let found : flow.site ≡ c.site_at_place-site.result = same_site c.args.assets.now x.asset flow.site c.site_at_place-site.result here c.site_at_place-site.ensures.site in
     c.in_err-life.ensures.broken flow earlier event found (subst (λ (e : Entry). IsSessionOf flow earlier event e.session) (sym was) stands))
+
+pub returns-in_err-life-clause-before : goal.returns-in_err-life-clause-before
+returns-in_err-life-clause-before g c =
+    let x = c.index_mut-entry.result.now in
+    let y : Entry = record { session = c.on_clock.new.self; asset = x.asset; due = x.due } in
+    take-set c.args.table.now.items c.args.place y
+
+pub returns-in_err-life-clause-after : goal.returns-in_err-life-clause-after
+returns-in_err-life-clause-after g c =
+    let x = c.index_mut-entry.result.now in
+    let y : Entry = record { session = c.on_clock.new.self; asset = x.asset; due = x.due } in
+    drop-set-lt (c.args.place + 1) c.args.table.now.items c.args.place y (omega arith)
+
+pub returns-in_err-life-clause-length : goal.returns-in_err-life-clause-length
+returns-in_err-life-clause-length g c =
+    let x = c.index_mut-entry.result.now in
+    let y : Entry = record { session = c.on_clock.new.self; asset = x.asset; due = x.due } in
+    length-set c.args.table.now.items c.args.place y
+
+pub returns-clause-before : goal.returns-clause-before
+returns-clause-before g c =
+    let x = c.index_mut-entry.result.now in
+    let y : Entry = record { session = c.on_clock.new.self; asset = x.asset; due = c.due-entry.result } in
+    take-set c.args.table.now.items c.args.place y
+
+pub returns-clause-after : goal.returns-clause-after
+returns-clause-after g c =
+    let x = c.index_mut-entry.result.now in
+    let y : Entry = record { session = c.on_clock.new.self; asset = x.asset; due = c.due-entry.result } in
+    drop-set-lt (c.args.place + 1) c.args.table.now.items c.args.place y (omega arith)
+
+pub returns-clause-length : goal.returns-clause-length
+returns-clause-length g c =
+    let x = c.index_mut-entry.result.now in
+    let y : Entry = record { session = c.on_clock.new.self; asset = x.asset; due = c.due-entry.result } in
+    length-set c.args.table.now.items c.args.place y
+
+pub returns-in_err-life-clause-sound : goal.returns-in_err-life-clause-sound
+returns-in_err-life-clause-sound g c = not_ok _ c.from_residual.result _ c.from_residual.ensures.1
+
+pub returns-in_err-life-clause-ticks : goal.returns-in_err-life-clause-ticks
+returns-in_err-life-clause-ticks g c = not_ok _ c.from_residual.result _ c.from_residual.ensures.1
+
+pub returns-in_err-life-clause-frame : goal.returns-in_err-life-clause-frame
+returns-in_err-life-clause-frame g c = puts_failed _ c.from_residual.result _ _ c.from_residual.ensures.1 c.in_err-life.ensures.frame
+
+pub returns-clause-frame : goal.returns-clause-frame
+returns-clause-frame g c = c.in_ok-life.ensures.frame

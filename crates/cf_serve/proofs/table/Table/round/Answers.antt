@@ -50,7 +50,7 @@ returns-in-Ok-end_round-clause-does g c = λ past keeps last its.
     let minutes2 = c.turns.new.self.minutes in
     let minutes3 : Minutes = record minutes2 { last = last_behind minutes2.last c.in-Told.moment } in
     let a = c.in-Ok.ensures.does c.args.most in
-    let b = c.in-Ok-turns.ensures.does past (kept_on (listenings c.args.places.now) c.args.most _ _ _ past mid c.arrivals.ensures.keeping (a.keeps c.args.self.now.keeping past keeps)) in
+    let b = c.in-Ok-turns.ensures.does past (kept_on (listenings c.args.places.now) c.args.most c.args.self.now.keeping c.arrivals.new.self.keeping c.arrivals.new.self.lobby.next past mid c.arrivals.ensures.keeping (a.keeps c.args.self.now.keeping past keeps)) in
     subst (λ (t : Table). RoundDoes places c.args.most t.keeping c.args.self.now.lobby t.lobby t.minutes last past told0 told2 log log3 ps (map phase_of t.sessions.items)) (sym c.end_round.ensures.same)
     (subst (λ (n : Lobby). RoundDoes places c.args.most c.turns.new.self.keeping c.args.self.now.lobby n minutes3 last past told0 told2 log log3 ps new) (sym c.turns.ensures.lobby)
     (round_is places c.args.most c.in-Told.moment c.args.self.now.lobby c.arrivals.new.self.lobby last past told0 (g.L.Links.told c.wait.new.self) (g.L.Links.told c.arrivals.new.links)
@@ -77,7 +77,7 @@ returns-in-Err-turns-clause-breaks g c = λ is past keeps last its.
     round_missed c.args.places.now c.args.most c.in-Told.moment c.args.self.now.lobby c.arrivals.new.self.lobby last past (g.L.Links.told c.args.links.now)
     (g.L.Links.told c.wait.new.self) (g.L.Links.told c.arrivals.new.links) (g.D.Desk.value c.args.desk.now).lines (g.D.Desk.value c.arrivals.new.desk).lines
     (g.D.Desk.value c.turns.new.desk).line_part ps mid c.in-Told.ensures.entry (length c.args.places.now) (g.L.Links.told c.turns.new.links)
-    (g.D.Desk.value c.turns.new.desk).lines new a (c.in-Err-turns.ensures.breaks past (kept_on (listenings c.args.places.now) c.args.most _ _ _ past mid c.arrivals.ensures.keeping (a.keeps c.args.self.now.keeping past keeps)))
+    (g.D.Desk.value c.turns.new.desk).lines new a (c.in-Err-turns.ensures.breaks past (kept_on (listenings c.args.places.now) c.args.most c.args.self.now.keeping c.arrivals.new.self.keeping c.arrivals.new.self.lobby.next past mid c.arrivals.ensures.keeping (a.keeps c.args.self.now.keeping past keeps)))
 
 pub returns-in-Err-end_round-clause-breaks : goal.returns-in-Err-end_round-clause-breaks
 returns-in-Err-end_round-clause-breaks g c = λ is past keeps last its.
@@ -92,7 +92,7 @@ returns-in-Err-end_round-clause-breaks g c = λ is past keeps last its.
     let part = (g.D.Desk.value c.end_round.new.desk).line_part in
     let serves = LinksPlace.serves (g.L.Links.place c.turns.new.links) in
     let a = c.in-Ok.ensures.does c.args.most in
-    let b = c.in-Ok-turns.ensures.does past (kept_on (listenings c.args.places.now) c.args.most _ _ _ past mid c.arrivals.ensures.keeping (a.keeps c.args.self.now.keeping past keeps)) in
+    let b = c.in-Ok-turns.ensures.does past (kept_on (listenings c.args.places.now) c.args.most c.args.self.now.keeping c.arrivals.new.self.keeping c.arrivals.new.self.lobby.next past mid c.arrivals.ensures.keeping (a.keeps c.args.self.now.keeping past keeps)) in
     subst (λ (t : Table). MissesRound places c.args.most c.args.self.now.lobby last past told0 told2 log log3 part ps (map phase_of t.sessions.items)) (sym c.end_round.ensures.same)
     (round_missed_late places c.args.most c.in-Told.moment c.args.self.now.lobby c.arrivals.new.self.lobby last past told0 (g.L.Links.told c.wait.new.self) (g.L.Links.told c.arrivals.new.links)
     log (g.D.Desk.value c.arrivals.new.desk).lines part ps mid c.in-Told.ensures.entry (length places) told2 (g.D.Desk.value c.turns.new.desk).lines new a c.turns.new.self.keeping

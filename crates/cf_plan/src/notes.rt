@@ -1,7 +1,6 @@
 //! How often commands of a rule were seen, from when to when, and how the last looked.
 
 use crate::cover::Cover;
-use crate::parts::{Moment, Parts};
 use crate::repeats::Repeats;
 use arrayvec::ArrayVec;
 use cf_dnptrans::Assembly;
@@ -13,6 +12,13 @@ use std::alloc::{AllocError, Global};
 
 /// How many octets of a command are shown at most. This project's own, as a review shows them.
 pub(crate) const SHOWN: usize = 16;
+
+/// From a byte of a flow on, counted from 0, up to the next moment's, bytes came at this time, in microseconds since the epoch.
+#[derive(Clone, Copy)]
+pub struct Moment {
+    pub place: usize,
+    pub stamp: u64,
+}
 
 /// What is told of a rule.
 #[derive(Drop)]
@@ -39,12 +45,13 @@ struct Command<'a> {
     octets: View<'a>,
 }
 
-/// The notes of the rules of an asset of the site at a place.
+/// The notes of the rules of an asset of the site at a place, by flows and when the bytes of each came.
 pub(crate) fn notes_of(
     alloc: Global,
     asset: &Asset,
     place: u32,
-    parts: &Parts,
+    flows: &[Flow],
+    moments: &[Vec<Moment>],
     covers: &[Cover],
 ) -> Result<Vec<Note>, AllocError> {
     let mut notes = Vec::new(alloc);
@@ -59,13 +66,13 @@ pub(crate) fn notes_of(
         })?;
     }
     let mut number: u64 = 0;
-    for (flow, moments) in parts.flows.iter().zip(parts.moments.iter()) {
+    for (flow, own) in flows.iter().zip(moments.iter()) {
         if flow.asset == place {
             number = note_flow(
                 alloc,
                 asset,
                 flow,
-                moments.as_slice(),
+                own.as_slice(),
                 covers,
                 &mut notes,
                 number,

@@ -2,37 +2,38 @@
 ghost use Rattle.std.specs.Prelude.{◌<◌, ◌^◌, length};
 
 use crate::merging::{Width, plan_rules, writes};
-use crate::notes::notes_of;
-use crate::parts::Parts;
+use crate::notes::{Moment, notes_of};
 use crate::spelling::{put_asset, put_head, put_rule};
 use crate::writer::Writer;
 use cf_learn::{seen_in, site_place};
-use cf_policy::{Asset, Policy};
+use cf_policy::Asset;
+use cf_watch::Flow;
 use std::alloc::{AllocError, Global};
 
 /// A text of a policy, and how many of its assets were widened.
 #[derive(Drop)]
-pub(crate) struct Proposal {
-    pub(crate) text: String,
-    pub(crate) widened: u64,
+pub struct Proposal {
+    pub text: String,
+    pub widened: u64,
 }
 
-/// Proposes rules for each asset of a policy. Nothing is promised of them. `is_wide`: one asset more is told as widened.
-pub(crate) fn propose(
+/// Proposes rules for each asset of a policy by flows to their sites and when the bytes of each came. Nothing is promised of them.
+/// `is_wide`: one asset more is told as widened.
+pub fn propose(
     alloc: Global,
-    policy: &Policy,
-    parts: &Parts,
+    assets: &[Asset],
+    flows: &[Flow],
+    moments: &[Vec<Moment>],
     is_wide: bool,
 ) -> Result<Proposal, AllocError>
-    requires few { length policy.now.assets < 2 ^ 32 }
+    requires few { length assets.now < 2 ^ 32 }
 {
-    let assets = policy.assets.as_slice();
     let mut text = Writer::new(alloc);
     let mut widened: u64 = u64::from(is_wide);
     put_head(&mut text, !assets.is_empty(), is_wide);
     for asset in assets {
         let site = site_place(assets, asset);
-        let width = propose_asset(alloc, asset, site, parts, &mut text)?;
+        let width = propose_asset(alloc, asset, site, flows, moments, &mut text)?;
         if width != Width::Nothing {
             widened = widened.saturating_add(1);
         }
@@ -48,13 +49,14 @@ fn propose_asset(
     alloc: Global,
     asset: &Asset,
     place: u32,
-    parts: &Parts,
+    flows: &[Flow],
+    moments: &[Vec<Moment>],
     text: &mut Writer,
 ) -> Result<Width, AllocError> {
-    let seen = seen_in(alloc, asset, place, parts.flows.as_slice())?;
+    let seen = seen_in(alloc, asset, place, flows)?;
     let planned = plan_rules(alloc, asset.protocol, seen.as_slice())?;
     let covers = planned.covers.as_slice();
-    let notes = notes_of(alloc, asset, place, parts, covers)?;
+    let notes = notes_of(alloc, asset, place, flows, moments, covers)?;
     put_asset(text, asset, covers.len(), planned.width);
     let mut order = Vec::new(alloc);
     for (own, (cover, note)) in covers.iter().zip(notes.iter()).enumerate() {
