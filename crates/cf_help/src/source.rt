@@ -4,4 +4,4 @@
 pub(crate) const DATE: &str = "2026-12-02";
 
 /// The first twelve digits of the sum of the source.
-pub(crate) const SOURCE: &str = "7b0bc0bf1713";
+pub(crate) const SOURCE: &str = "91e1a51c541d";

@@ -14,7 +14,8 @@ use Rattle.cf_watch.specs.FlowValue.{FlowValue, flow_value}
 use Rattle.cf_watch.specs.Trail.{Heard}
 use Rattle.cf_watch.specs.declared.Conflict.{Conflict}
 use Rattle.cf_watch.specs.declared.Flow.{Flow}
-use Rattle.cf_review.proofs.Growing.{read_whole}
+use Rattle.cf_review.proofs.FollowedOn.{place_behind}
+use Rattle.cf_review.proofs.Growing.{read_part}
 use Rattle.cf_review.proofs.Reading.{adds_review, reviewed_on}
 use Rattle.cf_review.specs.FirstUnit.{IsReadPart, from_place}
 use Rattle.cf_review.specs.Follow.{AllTold, HasBroken, IsAtRest, IsFollowed, IsStaged, IsTail, SoFar, Waits}
@@ -103,10 +104,16 @@ module _ (site : SiteValue) (h : Heard) (f : Flow) (t : IsTail h f) (start first
       IsAtRest site h s at → now ≡ second ++ units → AddsReview site h.value start now admitted
   read_before stage.Waits at admitted units other staged rest added = absurd (other refl)
   read_before (stage.Reads r) at admitted units other staged rest added =
-      adds_review site h.value 0 start first second now admitted (read_whole site.first.protocol h.value staged.1) amid conflicting
-      (units_read site h.value admitted units second now added (h.base + at) r staged.0 rest)
+      let p = site.first.protocol in
+      let v = from_place staged.start h.value in
+      let partial : Waits site v (h.base + at - staged.start) =
+      subst (IsPartial (SpellsUnit p)) (sym (place_behind staged.start (h.base + at) h.value.bytes staged.behind)) rest in
+      adds_review site h.value staged.start start first second now admitted (read_part p h.value staged.start staged.starts) amid conflicting
+      (units_read site v admitted units second now added (h.base + at - staged.start) r staged.so_far partial)
   read_before stage.Broke at admitted units other staged rest added =
-      adds_review site h.value 0 start first second now admitted (read_whole site.first.protocol h.value staged.1) amid conflicting (units_broke site h.value admitted units second now added staged.0)
+      let p = site.first.protocol in
+      adds_review site h.value staged.start start first second now admitted (read_part p h.value staged.start staged.starts) amid conflicting
+      (units_broke site (from_place staged.start h.value) admitted units second now added staged.broken)
 
   -- it waited
   pub read_now : (place at before admitted : ℕ) (units : List RemarkValue) → IsStaged site h stage.Waits at before units →

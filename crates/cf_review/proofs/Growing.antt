@@ -1,5 +1,5 @@
 -- A flow that was read goes on: what was read of it stays, whatever bytes come.
-use Rattle.std.proofs.Common.{◌≡◌, ◌+◌, ◌<◌, ◌≤◌, ◌∙◌, ℕ, List, [], ◌++◌, length, map, drop, replicate, Option, None, Some, refl, sym, ap, subst, inl, inr, arith, append_assoc, length-append}
+use Rattle.std.proofs.Common.{◌≡◌, ◌+◌, ◌-◌, ◌<◌, ◌≤◌, ◌∙◌, ℕ, List, [], ◌++◌, length, map, drop, replicate, Option, None, Some, refl, sym, ap, subst, arith, append_assoc, length-append}
 use Rattle.std.proofs.lemmas.List.{drop-append-le, length-replicate, take-append-le}
 use Rattle.cf_judge.specs.Plain.{AreRead, Breaks, Ending}
 use Rattle.cf_judge.specs.declared.front.Reader.{Reader}
@@ -12,8 +12,9 @@ use Rattle.cf_watch.specs.FlowValue.{FlowValue}
 use Rattle.cf_watch.specs.Kept.{Grows}
 use Rattle.cf_watch.specs.Trail.{GoesOn, Heard}
 use Rattle.cf_watch.specs.declared.flow.Conflict.{Conflict}
-use Rattle.cf_review.specs.FirstUnit.{IsReadPart, IsReadPartBy, UnitBegins}
-use Rattle.cf_review.specs.Follow.{HasBroken, IsBegun, IsReadWhole, IsStaged, SoFar}
+use Rattle.cf_review.proofs.FirstUnits.{read_from, searched_longer, searched_none}
+use Rattle.cf_review.specs.FirstUnit.{IsReadPart, IsReadPartBy, UnitBegins, from_place}
+use Rattle.cf_review.specs.Follow.{HasBroken, HasUnitBy, IsBegun, IsSearched, IsSearchedBy, IsStaged, SoFar, StartsAt}
 use Rattle.cf_review.specs.Remark.{RemarkValue, remark_value}
 use Rattle.cf_review.specs.declared.following.Following.{Following}
 use Rattle.cf_review.specs.declared.following.Stage.{Stage}
@@ -48,9 +49,49 @@ module _ {U : Type 0} (Spells : U → List ℕ → Type 0) (bytes more : List �
 unit_begins_longer : (p : Protocol) (bytes more : List ℕ) → UnitBegins p bytes → UnitBegins p (bytes ++ more)
 unit_begins_longer p bytes more (u, n, b) = (u, n, begins_longer (SpellsUnit p) bytes more u n b)
 
-whole_longer : (p : Protocol) (f : FlowValue) (more more_born : List ℕ) (conflict : Option Conflict) → IsReadWhole p f → IsReadWhole p (longer f more more_born conflict)
-whole_longer p f more more_born conflict (inl syn) = inl syn
-whole_longer p f more more_born conflict (inr begins) = inr (unit_begins_longer p f.bytes more begins)
+-- ---- where a flow is read from, by the record with which it begins amid its stream
+
+start_inside : (p : Protocol) (o : Option ℕ) (bytes : List ℕ) (at : ℕ) → IsSearchedBy p o bytes at → at ≤ length bytes
+start_inside p None bytes at is = omega (arith, is)
+start_inside p (Some number) bytes at is = is.inside
+
+searched_by_longer : (p : Protocol) (o : Option ℕ) (bytes more : List ℕ) (at : ℕ) → IsSearchedBy p o bytes at → IsSearchedBy p o (bytes ++ more) at
+searched_by_longer p None bytes more at is = is
+searched_by_longer p (Some number) bytes more at is = searched_longer p bytes more at is
+
+unit_by_longer : (p : Protocol) (o : Option ℕ) (bytes more : List ℕ) (at : ℕ) → at ≤ length bytes → HasUnitBy p o bytes at → HasUnitBy p o (bytes ++ more) at
+unit_by_longer p None bytes more at inside is = is
+unit_by_longer p (Some number) bytes more at inside is = subst (UnitBegins p) (sym (drop-append-le at bytes more inside)) (unit_begins_longer p (drop at bytes) more is)
+
+searched_by_first : (p : Protocol) (o : Option ℕ) (bytes : List ℕ) (at : ℕ) → at ≡ 0 → IsSearchedBy p o bytes at
+searched_by_first p None bytes at none = none
+searched_by_first p (Some number) bytes at none = subst (IsSearched p bytes) (sym none) (searched_none p bytes)
+
+module _ (p : Protocol) (f : FlowValue) (start : ℕ) (s : StartsAt p f start) where
+  inside_at : start ≤ length f.bytes
+  inside_at = start_inside p f.midstream f.bytes start s.searched
+
+  starts_longer : (more more_born : List ℕ) (conflict : Option Conflict) → StartsAt p (longer f more more_born conflict) start
+  starts_longer more more_born conflict = record {
+    searched = searched_by_longer p f.midstream f.bytes more start s.searched;
+    unit = unit_by_longer p f.midstream f.bytes more start inside_at s.unit;
+  }
+
+  -- what it has from there on is as much longer
+  from_longer : (more more_born : List ℕ) (conflict : Option Conflict) → length f.born ≡ length f.bytes →
+      longer (from_place start f) more more_born conflict ≡ from_place start (longer f more more_born conflict)
+  from_longer more more_born conflict sizes =
+      let bytes : drop start f.bytes ++ more ≡ drop start (f.bytes ++ more) = sym (drop-append-le start f.bytes more inside_at) in
+      let born : drop start f.born ++ more_born ≡ drop start (f.born ++ more_born) = sym (drop-append-le start f.born more_born (omega (arith, sizes, inside_at))) in
+      λ i. record { client = f.client; asset = f.asset; midstream = f.midstream; bytes = bytes i; born = born i; conflict = conflict }
+
+  read_by : (o : Option ℕ) → IsSearchedBy p o f.bytes start → HasUnitBy p o f.bytes start → IsReadPartBy p o f (from_place start f)
+  read_by None searched unit = ap (λ n. from_place n f) searched
+  read_by (Some number) searched unit = (start, read_from p f.bytes start searched unit, refl)
+
+  -- that is all that is read of it
+  pub read_part : IsReadPart p f (from_place start f)
+  read_part = read_by f.midstream s.searched s.unit
 
 module _ (site : SiteValue) (f : FlowValue) (start : List RemarkValue) (admitted : ℕ) (remarks : List RemarkValue) (more more_born : List ℕ) (conflict : Option Conflict) where
   -- the bytes with some behind those with others behind them
@@ -91,12 +132,26 @@ module _ (site : SiteValue) (f : FlowValue) (start : List RemarkValue) (admitted
   }
 
 staged_longer : (site : SiteValue) (h : Heard) (s : Stage) (at admitted : ℕ) (remarks : List RemarkValue) (more more_born : List ℕ) (conflict : Option Conflict) → length more_born ≡ length more →
-    IsStaged site h s at admitted remarks → IsStaged site (record { value = longer h.value more more_born conflict; base = h.base }) s at admitted remarks
-staged_longer site h stage.Waits at admitted remarks more more_born conflict count is = is
-staged_longer site h (stage.Reads r) at admitted remarks more more_born conflict count is =
-    (so_far_longer site h.value [] admitted remarks more more_born conflict (h.base + at) r count is.0, whole_longer site.first.protocol h.value more more_born conflict is.1)
-staged_longer site h stage.Broke at admitted remarks more more_born conflict count is =
-    (broken_longer site h.value [] admitted remarks more more_born conflict is.0, whole_longer site.first.protocol h.value more more_born conflict is.1)
+    length h.value.born ≡ length h.value.bytes → IsStaged site h s at admitted remarks → IsStaged site (record { value = longer h.value more more_born conflict; base = h.base }) s at admitted remarks
+staged_longer site h stage.Waits at admitted remarks more more_born conflict count sizes (base, searched, none, nothing) =
+    (base, searched_by_longer site.first.protocol h.value.midstream h.value.bytes more at searched, none, nothing)
+staged_longer site h (stage.Reads r) at admitted remarks more more_born conflict count sizes is =
+    let p = site.first.protocol in
+    record {
+      start = is.start;
+      starts = starts_longer p h.value is.start is.starts more more_born conflict;
+      behind = is.behind;
+      so_far = subst (λ f. SoFar site f [] (h.base + at - is.start) r admitted remarks) (from_longer p h.value is.start is.starts more more_born conflict sizes)
+          (so_far_longer site (from_place is.start h.value) [] admitted remarks more more_born conflict (h.base + at - is.start) r count is.so_far);
+    }
+staged_longer site h stage.Broke at admitted remarks more more_born conflict count sizes is =
+    let p = site.first.protocol in
+    record {
+      start = is.start;
+      starts = starts_longer p h.value is.start is.starts more more_born conflict;
+      broken = subst (λ f. HasBroken site f [] admitted remarks) (from_longer p h.value is.start is.starts more more_born conflict sizes)
+          (broken_longer site (from_place is.start h.value) [] admitted remarks more more_born conflict is.broken);
+    }
 
 -- a flow that was begun is begun where it goes on
 pub begun_grows : (site : SiteValue) (h now : Heard) (g : Following) (number : ℕ) → GoesOn number h now → length h.value.born ≡ length h.value.bytes → IsBegun site h g → IsBegun site now g
@@ -105,18 +160,10 @@ begun_grows site h now g number goes sizes is =
     let records = replicate (length more) number in
     let grown : now ≡ record { value = longer h.value more records now.value.conflict; base = h.base } = λ i. record { value = is_longer number h.value now.value goes.grows i; base = goes.base i } in
     subst (λ x. IsBegun site x g) (sym grown)
-    (staged_longer site h g.stage g.at g.admitted (map remark_value g.remarks.items) more records now.value.conflict (length-replicate (length more) number) is)
+    (staged_longer site h g.stage g.at g.admitted (map remark_value g.remarks.items) more records now.value.conflict (length-replicate (length more) number) sizes is)
 
 -- a flow of which nothing was read
 pub begun_first : (site : SiteValue) (h : Heard) (g : Following) → h.base ≡ 0 → g.stage ≡ stage.Waits → g.at ≡ 0 → g.admitted ≡ 0 → g.remarks.items ≡ [] → IsBegun site h g
 begun_first site h g base waits at admitted none =
-    subst (λ s. IsStaged site h s g.at g.admitted (map remark_value g.remarks.items)) (sym waits) (base, at, admitted, ap (map remark_value) none)
-
--- such a flow is all that is read of it
-whole_by : (p : Protocol) (f : FlowValue) (midstream : Option ℕ) → f.midstream ≡ midstream → IsReadWhole p f → IsReadPartBy p midstream f f
-whole_by p f None e is = refl
-whole_by p f (Some number) e (inl syn) = absurd (cc (e, syn))
-whole_by p f (Some number) e (inr begins) = (0, inl (record { here = begins; none_before = λ k below. omega (arith, below) }), refl)
-
-pub read_whole : (p : Protocol) (f : FlowValue) → IsReadWhole p f → IsReadPart p f f
-read_whole p f is = whole_by p f f.midstream refl is
+    subst (λ s. IsStaged site h s g.at g.admitted (map remark_value g.remarks.items)) (sym waits)
+    (base, searched_by_first site.first.protocol h.value.midstream h.value.bytes g.at at, admitted, ap (map remark_value) none)

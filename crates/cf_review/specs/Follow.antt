@@ -1,5 +1,5 @@
 -- Steps of the proof: the bytes of a flow, read as they come: SoFar and IsFollowed.
-use Rattle.std.specs.Prelude.{◌≡◌, ◌+◌, ◌-◌, ◌^◌, ◌≤◌, ◌⊎◌, ℕ, Bool, true, List, [], ◌++◌, All, drop, length, map, min, Option, None, Some}
+use Rattle.std.specs.Prelude.{◌≡◌, ◌+◌, ◌-◌, ◌<◌, ◌^◌, ◌≤◌, ℕ, Bool, true, List, [], ◌++◌, All, drop, length, map, min, Option, None, Some}
 use Rattle.cf_judge.specs.Front.{IsReaderOf}
 use Rattle.cf_judge.specs.Objections.{admitted_in}
 use Rattle.cf_judge.specs.Plain.{AreRead, Breaks, Ending}
@@ -14,7 +14,7 @@ use Rattle.cf_watch.specs.FlowValue.{FlowValue, StretchValue}
 use Rattle.cf_watch.specs.Trail.{Heard}
 use Rattle.cf_watch.specs.declared.Conflict.{Conflict}
 use Rattle.cf_watch.specs.declared.Flow.{Flow}
-use Rattle.cf_review.specs.FirstUnit.{UnitBegins}
+use Rattle.cf_review.specs.FirstUnit.{UnitBegins, from_place}
 use Rattle.cf_review.specs.Remark.{RemarkValue, remark_value}
 use Rattle.cf_review.specs.Review.{end_remarks, unit_remarks}
 use Rattle.cf_review.specs.declared.following.Following.{Following}
@@ -49,18 +49,47 @@ pub record HasBroken (site : SiteValue) (f : FlowValue) (start : List RemarkValu
   pub admitted_is : admitted ≡ min (admitted_in units) (2 ^ 64 - 1)
   pub told : remarks ≡ start ++ (in_turn (unit_remarks site f) [] units ++ end_remarks f (Breaks number reason))
 
--- ---- a flow whose units are read as they come, from its first byte on
+-- ---- a flow whose units are read as they come, from its first unit on
 
--- a flow is read from its first byte on, whatever bytes come later: it begins with its SYN, or a unit begins it
-abbrev pub IsReadWhole : Protocol → FlowValue → Type 0
-IsReadWhole protocol f = (f.midstream ≡ None) ⊎ UnitBegins protocol f.bytes
+-- no unit begins at a place of a text before this one, also where more bytes come
+pub record IsSearched (protocol : Protocol) (bytes : List ℕ) (at : ℕ) : Type 0 where
+  pub none_before : (earlier : ℕ) → earlier < at → (more : List ℕ) → UnitBegins protocol (drop earlier bytes ++ more) → ⊥
+  pub inside : at ≤ length bytes
+
+-- so far a flow that begins amid its stream was searched for its first unit; one that begins with its SYN needs no search
+abbrev pub IsSearchedBy : Protocol → (midstream : Option ℕ) → List ℕ → (at : ℕ) → Type 0
+IsSearchedBy protocol None bytes at = at ≡ 0
+IsSearchedBy protocol (Some number) bytes at = IsSearched protocol bytes at
+
+-- and it stands there
+abbrev pub HasUnitBy : Protocol → (midstream : Option ℕ) → List ℕ → (at : ℕ) → Type 0
+HasUnitBy protocol None bytes at = Unit {0}
+HasUnitBy protocol (Some number) bytes at = UnitBegins protocol (drop at bytes)
+
+-- a flow is read from this place on, whatever bytes come later: from its first byte where it begins with its SYN, else from its first unit
+pub record StartsAt (protocol : Protocol) (f : FlowValue) (start : ℕ) : Type 0 where
+  pub searched : IsSearchedBy protocol f.midstream f.bytes start
+  pub unit : HasUnitBy protocol f.midstream f.bytes start
+
+-- units were read from the start of a flow up to a place
+pub record HasRead (site : SiteValue) (f : FlowValue) (at : ℕ) (r : Reader) (admitted : ℕ) (remarks : List RemarkValue) : Type 0 where
+  pub start : ℕ
+  pub starts : StartsAt site.first.protocol f start
+  pub behind : start ≤ at
+  pub so_far : SoFar site (from_place start f) [] (at - start) r admitted remarks
+
+-- a flow breaks behind some units from its start on
+pub record BreaksBehind (site : SiteValue) (f : FlowValue) (admitted : ℕ) (remarks : List RemarkValue) : Type 0 where
+  pub start : ℕ
+  pub starts : StartsAt site.first.protocol f start
+  pub broken : HasBroken site (from_place start f) [] admitted remarks
 
 -- how far the reading of a flow has come, which so many of its bytes are kept no more; nothing is said of what follows the units
 abbrev pub IsStaged : SiteValue → Heard → Stage → (at admitted : ℕ) → List RemarkValue → Type 0
-IsStaged site h stage.Waits at admitted remarks = (h.base ≡ 0) × (at ≡ 0) × (admitted ≡ 0) × (remarks ≡ [])
-IsStaged site h (stage.Reads r) at admitted remarks =
-    SoFar site h.value [] (h.base + at) r admitted remarks × IsReadWhole site.first.protocol h.value
-IsStaged site h stage.Broke at admitted remarks = HasBroken site h.value [] admitted remarks × IsReadWhole site.first.protocol h.value
+IsStaged site h stage.Waits at admitted remarks =
+    (h.base ≡ 0) × IsSearchedBy site.first.protocol h.value.midstream h.value.bytes at × (admitted ≡ 0) × (remarks ≡ [])
+IsStaged site h (stage.Reads r) at admitted remarks = HasRead site h.value (h.base + at) r admitted remarks
+IsStaged site h stage.Broke at admitted remarks = BreaksBehind site h.value admitted remarks
 
 -- what follows the units that were read is a proper prefix of one
 abbrev pub IsAtRest : SiteValue → Heard → Stage → (at : ℕ) → Type 0

@@ -1,14 +1,16 @@
 //! The units of a flow, read as its bytes come.
-ghost use Rattle.std.specs.Prelude.{◌≡◌, Bool, ◌+◌, ◌-◌, ◌<◌, ◌≤◌, ◌^◌, ℕ, List, [], ◌++◌, OnOk, length, false};
+ghost use Rattle.std.specs.Prelude.{◌≡◌, Bool, ◌+◌, ◌-◌, ◌<◌, ◌≤◌, ◌^◌, ℕ, List, [], ◌++◌, OnOk, drop, length, true};
 ghost use Rattle.cf_policy.specs.Site.{IsSiteWithin, SiteValue, assets_of};
+ghost use Rattle.cf_judge.specs.Front.{IsReaderOf};
 ghost use Rattle.cf_watch.specs.Trail.{Heard};
-ghost use Rattle.cf_review.specs.Follow.{AllTold, IsAtRest, IsBegun, IsTail, Waits};
+ghost use Rattle.cf_review.specs.FirstUnit.{UnitBegins};
+ghost use Rattle.cf_review.specs.Follow.{AllTold, IsAtRest, IsBegun, IsSearched, IsTail};
 
 use crate::first_unit::unit_begins;
 use crate::remark::Remark;
 use crate::reviewing::read_units;
 use cf_judge::Reader;
-use cf_policy::Site;
+use cf_policy::{Protocol, Site};
 use cf_view::{NoMemory, View};
 use cf_watch::Flow;
 use std::alloc::Global;
@@ -16,11 +18,13 @@ use std::alloc::Global;
 /// A flow with fewer bytes is read where the recording ends, so that what its reader keeps, the rules by code and room for a fragment, is
 /// taken for those flows alone that are long. This project's own.
 const SHORT: usize = 2_048;
+/// No unit has more octets: an ADU has 260, a frame 292, an APDU 255.
+const LONGEST: usize = 300;
 
 /// How far the reading of a flow has come.
 #[derive(Drop)]
 pub(crate) enum Stage {
-    /// No unit of it was read: it has few bytes, or begins amid its stream, and what its first byte begins is not known.
+    /// No unit of it was read: it has few bytes, or begins amid its stream, and its first unit was not found yet.
     Waits,
     /// Its units are read one after the other.
     Reads(Reader),
@@ -32,7 +36,7 @@ pub(crate) enum Stage {
 #[derive(Drop)]
 pub(crate) struct Following {
     pub(crate) stage: Stage,
-    /// How many of the bytes that are kept were read.
+    /// How many of the bytes that are kept were read, or searched for the first unit.
     pub(crate) at: usize,
     /// How many of its commands the policy allows.
     pub(crate) admitted: u64,
@@ -88,8 +92,7 @@ impl Following {
         Ok(())
     }
 
-    /// Begins to read a flow of which nothing was read, where it has `SHORT` bytes and its first unit stands at the first of them: where it
-    /// begins with its SYN, or a unit of the protocol begins it.
+    /// Begins to read a flow of which nothing was read, where it has `SHORT` bytes and begins with its SYN, or its first unit was found.
     fn begin(&mut self, alloc: Global, site: &Site<'_>, flow: &Flow) -> Result<(), NoMemory>
         requires within { IsSiteWithin site.now }
         requires begun { (h : Heard) × IsTail h flow.now × IsBegun site.now h self.old }
@@ -101,14 +104,26 @@ impl Following {
             Stage::Reads(_) | Stage::Broke => return Ok(()),
             Stage::Waits => {}
         }
-        if flow.bytes.len() < SHORT {
+        let bytes = flow.bytes.as_slice();
+        if bytes.len() < SHORT {
             return Ok(());
         }
-        let begins = flow.midstream.is_none()
-            || unit_begins(&site.first().protocol, View::one(flow.bytes.as_slice()));
-        if begins {
-            self.stage = Stage::Reads(Reader::new(alloc, site, flow.client.address)?);
+        if flow.midstream.is_none() {
+            return self.start(alloc, site, flow.client.address);
         }
+        if find_unit(&site.first().protocol, bytes, &mut self.at) {
+            return self.start(alloc, site, flow.client.address);
+        }
+        Ok(())
+    }
+
+    /// From now on units of a client's flow are read.
+    fn start(&mut self, alloc: Global, site: &Site<'_>, client: u32) -> Result<(), NoMemory>
+        requires within { IsSiteWithin site.now }
+        ensures reads { OnOk result ((r : Reader) × IsReaderOf site.now client [] r × (self.new ≡ record self.old { stage = Stage.Reads r })) }
+        ensures remarks { self.new.remarks ≡ self.old.remarks }
+    {
+        self.stage = Stage::Reads(Reader::new(alloc, site, client)?);
         Ok(())
     }
 
@@ -139,4 +154,21 @@ impl Following {
     {
         self.at = self.at.saturating_sub(count);
     }
+}
+
+/// Looks on for the first unit of a text from a place on, as far as so many octets follow that none which come later changes what begins
+/// there. Answers whether it is found: it stands at the place then.
+fn find_unit(protocol: &Protocol, bytes: &[u8], at: &mut usize) -> bool
+    requires long { 300 ≤ length bytes.now }
+    ensures searched { IsSearched protocol.now bytes.now at.old → IsSearched protocol.now bytes.now at.new }
+    ensures unit { result ≡ true → UnitBegins protocol.now (drop at.new bytes.now) }
+{
+    let last = bytes.len() - LONGEST;
+    'places: while *at <= last {
+        if unit_begins(protocol, View::one(&bytes[*at..])) {
+            return true;
+        }
+        *at += 1;
+    }
+    false
 }

@@ -1,7 +1,7 @@
 use Rattle.std.proofs.Common.{◌≤◌, ◌++◌, ◌∙◌, [], Ok, map, sym, ap, subst, refl}
 use Rattle.std.proofs.lemmas.List.{append-nil}
 use Rattle.cf_review.proofs.FollowedOn.{breaks_on, read_on, rests, told_broke, told_whole}
-use Rattle.cf_review.specs.Follow.{AllTold, HasBroken, IsAtRest, IsBegun, IsReadWhole}
+use Rattle.cf_review.specs.Follow.{AllTold, BreaksBehind, IsAtRest, IsBegun}
 use Rattle.cf_review.specs.Remark.{remark_value}
 use Rattle.cf_review.specs.declared.following.Following.{Following}
 use Rattle.cf_review.proofs.following.Following.follow.Goals as goal
@@ -10,7 +10,7 @@ use Rattle.cf_review.proofs.following.Following.follow.Goals.{in-Reads+in_ok-bro
 pub returns-then-broke-clause-begun : goal.returns-then-broke-clause-begun
 returns-then-broke-clause-begun c h tail is = elim c.match-self.branch [
   | in-Reads+in_ok-broke-in-Reads w ↦
-      subst (λ (m : Following). HasBroken c.args.site.now h.value [] m.admitted (map remark_value m.remarks.items) × IsReadWhole c.args.site.now.first.protocol h.value) (sym w.self-is)
+      subst (λ (m : Following). BreaksBehind c.args.site.now h.value m.admitted (map remark_value m.remarks.items)) (sym w.self-is)
       (breaks_on c.args.site.now c.args.flow.now c.begin.new.self w.in-Reads.reader w.in-Reads.is w.read_units.new.admitted (map remark_value w.read_units.new.remarks.items)
       (w.read_units.ensures.broke (w.in_ok-broke-in-Reads.was ∙ ap Ok (sym w.broke-is ∙ c.if-broke.true))) h tail (c.in_ok-begin.ensures.begun h tail is))
   | in-Waits w ↦ absurd (cc (w.broke-is, c.if-broke.true))
